@@ -1,0 +1,14 @@
+-- `compression::constants::constants_0` meets its contract. Sixteen entries of the table.
+-- Assumes nothing.
+use mathlib.Core.Path.{refl}
+use Rattle.compression.specs.Compression.{K}
+use Rattle.compression.specs.Windows.{window}
+use Rattle.compression.proofs.constants.constants_0.Statement.{statement}
+use Rattle.compression.proofs.constants.constants_0.Tie as tie
+
+returns : tie.Need-returns
+unfolding K window
+returns c = refl
+
+pub constants-0-spec : {M : Type 1} → statement M
+constants-0-spec = tie.close (tie.spec returns)

@@ -1,0 +1,6 @@
+pub mod First
+pub mod Front
+pub mod Hex
+pub mod Decimal
+pub mod Line
+pub mod HexLaws

@@ -1,0 +1,48 @@
+-- Lines of a text.
+-- Assumes nothing.
+use mathlib.Core.Path.{_≡_, refl, sym, ap, _∙_}
+use mathlib.Core.Bool.{Bool, true, false}
+use mathlib.Core.List.{List, [], _∷_, _++_}
+use Prim.Native.Nat.{ℕ, suc, _+_, _≤_, _<_}
+use native.Mathlib.Numerals.{add-one}
+use native.Mathlib.Omega.{arith}
+use lib.Dec.{eqb}
+use lib.ListN.{length, getD, drop}
+use lib.Seq.{drop-cons, drop-length}
+use borrow.Author.Tests.{eq-eqb, ne-eqb}
+use Rattle.lists.specs.Pick.{pick, pick-ind}
+use Rattle.text.specs.First.{first}
+
+abbrev pub isNewline : ℕ → Bool
+isNewline c = eqb c 10
+
+-- e is where the line that starts at a ends: at the first newline, or at the end of the text
+pub record LineEnd (s : List ℕ) (a e : ℕ) : Type 0 where
+  pub found : e ≡ a + first isNewline (drop a s)
+  pub after : a ≤ e
+  pub inside : e ≤ length s
+
+-- whether s begins with w
+unfoldable pub begins : List ℕ → List ℕ → Bool
+begins s [] = true
+begins [] (x ∷ w) = false
+begins (c ∷ s) (x ∷ w) = pick (eqb c x) (begins s w) false
+
+pub begins-all : (s w : List ℕ) (i : ℕ) → i ≡ length w → begins (drop i s) (drop i w) ≡ true
+unfolding begins
+begins-all s w i e = rw (e, drop-length w)
+
+pub begins-short : (s w : List ℕ) → length s < length w → begins s w ≡ false
+unfolding begins
+begins-short s [] h = absurd (omega arith)
+begins-short [] (x ∷ w) h = refl
+begins-short (c ∷ s) (x ∷ w) h = pick-ind (λ (b : Bool). b ≡ false) (eqb c x) (λ e. begins-short s w (omega arith)) (λ e. refl)
+
+module _ (s w : List ℕ) (i : ℕ) (hs : i < length s) (hw : i < length w) where
+  pub begins-other : (getD s i 0 ≡ getD w i 0 → ⊥) → begins (drop i s) (drop i w) ≡ false
+  unfolding begins pick
+  begins-other h = rw (drop-cons s i 0 hs, drop-cons w i 0 hw, ne-eqb _ _ h)
+
+  pub begins-same : getD s i 0 ≡ getD w i 0 → begins (drop i s) (drop i w) ≡ begins (drop (i + 1) s) (drop (i + 1) w)
+  unfolding begins pick
+  begins-same h = rw (add-one, drop-cons s i 0 hs, drop-cons w i 0 hw, eq-eqb _ _ h)
