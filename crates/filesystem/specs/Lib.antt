@@ -1,0 +1,11 @@
+pub mod Tables
+pub mod Rights
+pub mod Paths
+pub mod Image
+pub mod RightsLaws
+pub mod PathLaws
+pub mod Sound
+pub mod ImageLaws
+pub mod Climb
+pub mod SoundLaws
+pub mod LongestImage
