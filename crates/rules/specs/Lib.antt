@@ -1,0 +1,15 @@
+pub mod Calls
+pub mod CallLaws
+pub mod Pages
+pub mod PageLaws
+pub mod Requests
+pub mod Skeleton
+pub mod Rules
+pub mod RightReplies
+pub mod Positions
+pub mod Valid
+pub mod TableLaws
+pub mod FitLaws
+pub mod ReplyLaws
+pub mod Outcomes
+pub mod Lengths

@@ -1,0 +1,231 @@
+-- Which numbers and reasons there are, when a number comes, and what clause c asks of single calls.
+-- Assumes nothing.
+use mathlib.Core.Path.{_≡_, refl, ap, _∙_, subst}
+use mathlib.Core.Logic.{_↔_}
+use mathlib.Core.Bool.{Bool, true, false, _&&_, not, true≢false}
+use mathlib.Core.List.{List, [], _∷_, _++_}
+use Prim.Native.Nat.{ℕ, suc, _≤_}
+use native.Mathlib.Omega.{arith}
+use lib.Dec.{eqb, leb}
+use lib.ListN.{length, length-append}
+use borrow.Author.Tests.{leb-true, le-ltb}
+use Rattle.lists.specs.Pick.{pick, pick-false, pick-ind}
+use Rattle.lists.specs.Equal.{or-both}
+use Rattle.lists.specs.All.{All, both, none as all-none, all-append}
+use Rattle.lists.specs.Search.{any, place}
+use Rattle.lists.specs.Checks.{Check, Passed, First, here, decide, decide-ind, decide-exactly}
+use Rattle.filesystem.specs.Tables.{NODES, OPEN-FILES, NAME-BYTES, PATH-BYTES, Node, Tables, freshTables, nodeAt, findChild}
+use Rattle.filesystem.specs.Paths.{Path, joined, pathBytes, tooLong, childAt, walk, walkChecks, parentChecks, parentOf}
+use Rattle.rules.specs.Calls.{Call, create, mkdir, openAs, close, seek, read, write, truncate, remove, rmdir, chmod, readdir, stat, callBytes, readCall}
+use Rattle.rules.specs.CallLaws.{CallFits, call-read-back}
+use Rattle.rules.specs.Requests.{Pending, idle, creating, opening, closing, removing, changing, listing, stating, reading, fetching, storing, cutting}
+use Rattle.rules.specs.Skeleton.{Config, Event, call, reply, save, load, stopped, answerLength, requestLength, Skeleton}
+use Rattle.rules.specs.Rules.{Move, refuse, halt, send, finish, add, delete, readPage, begin, fillPage, stored, cutDone, saving, loading, callChecks, readAction, callAction, replyChecks, replyAction, isIdle, callOr, isNone, eventChecks, eventAction, judge}
+
+-- 'Numbers the panel shows'
+abbrev pub numbers : List ℕ
+numbers = 5 ∷ 114 ∷ 61 ∷ 34 ∷ 22 ∷ 36 ∷ 20 ∷ 13 ∷ 2 ∷ 17 ∷ 21 ∷ 16 ∷ 39 ∷ 24 ∷ 9 ∷ 27 ∷ 28 ∷ 74 ∷ 84 ∷ []
+
+unfoldable pub known : ℕ → Bool
+known n = any (eqb n) numbers
+
+-- 'Stop reasons: 1 length, then 2 status, .. 7 listing'
+unfoldable pub isReason : ℕ → Bool
+isReason n = leb 1 n && leb n 7
+
+abbrev Reason : Check → Type 0
+Reason ch = isReason (ch .0) ≡ true
+
+-- what holds of each check of a list holds of the first whose condition does
+pub first-has : {F : Check → Type 0} {n : ℕ} {cs : List Check} → All F cs → First n cs → F (n, true)
+first-has (both f a) here = f
+first-has (both f a) (First.later h) = first-has a h
+
+-- a walk has the numbers 20, 13 and 2
+module _ (F : Check → Type 0) (folder : (b : Bool) → F (20, b)) (bit : (b : Bool) → F (13, b)) (there : (b : Bool) → F (2, b)) where
+  all-walk : (ns : List Node) (d : ℕ) (p : Path) → All F (walkChecks ns d p)
+  unfolding walkChecks
+  all-walk ns d [] = all-none
+  all-walk ns d (c ∷ cs) = both (folder _) (both (bit _) (both (there _) (all-walk ns _ cs)))
+
+  all-parent : (ns : List Node) (d : ℕ) (p : Path) → All F (parentChecks ns d p)
+  unfolding parentChecks
+  all-parent ns d [] = all-none
+  all-parent ns d (c ∷ []) = both (folder _) (both (bit _) all-none)
+  all-parent ns d (c ∷ x ∷ cs) = both (folder _) (both (bit _) (both (there _) (all-parent ns _ (x ∷ cs))))
+
+-- Every number of the rules is in the table.
+abbrev Known : Check → Type 0
+Known ch = known (ch .0) ≡ true
+
+module _ (t : Tables) where
+  walk-known : (p : Path) → All Known (walkChecks (t .nodes) 0 p)
+  unfolding known any
+  walk-known p = all-walk Known (λ b. refl) (λ b. refl) (λ b. refl) (t .nodes) 0 p
+
+  parent-known : (p : Path) → All Known (parentChecks (t .nodes) 0 p)
+  unfolding known any
+  parent-known p = all-parent Known (λ b. refl) (λ b. refl) (λ b. refl) (t .nodes) 0 p
+
+  call-known : (q : Call) → All Known (callChecks t q)
+  unfolding callChecks known any
+  call-known (create m p) = both refl (all-append (parent-known p) (both refl (both refl (both refl all-none))))
+  call-known (mkdir m p) = both refl (all-append (parent-known p) (both refl (both refl (both refl all-none))))
+  call-known (openAs r p) = both refl (all-append (walk-known p) (both refl (both refl (both refl (both refl all-none)))))
+  call-known (close h) = both refl all-none
+  call-known (seek h n) = both refl (both refl all-none)
+  call-known (read h n) = both refl all-none
+  call-known (write h d) = both refl (both refl (both refl all-none))
+  call-known (truncate h n) = both refl (both refl all-none)
+  call-known (remove p) = both refl (all-append (walk-known p) (both refl (both refl (both refl all-none))))
+  call-known (rmdir p) = both refl (all-append (walk-known p) (both refl (both refl (both refl (both refl all-none)))))
+  call-known (chmod m p) = both refl (walk-known p)
+  call-known (readdir p) = both refl (all-append (walk-known p) (both refl (both refl all-none)))
+  call-known (stat p) = both refl (walk-known p)
+
+pub checks-known : (c : Config) (sk : Skeleton) (e : Event) → All (λ (ch : Check). known (ch .0) ≡ true) (eventChecks c sk e)
+unfolding eventChecks known any
+checks-known c sk (call s a q) = both refl (both refl (both refl (both refl (call-known (sk .tables) (callOr (readCall (c .width) s))))))
+checks-known c sk (reply r a q) = both refl (both refl (both refl all-none))
+checks-known c sk (save n) = both refl (both refl (both refl (both refl all-none)))
+checks-known c sk (load i d) = both refl (both refl (both refl (both refl (both refl all-none))))
+
+-- A move that is no refusal, and if a stop, one for a reason.
+abbrev Acts : Move → Type 0
+Acts (refuse n) = ⊥
+Acts (halt n) = isReason n ≡ true
+Acts (send p q) = Unit {0}
+Acts (finish t n b) = Unit {0}
+Acts (add n) = Unit {0}
+Acts (delete k) = Unit {0}
+Acts (readPage k o p n i r) = Unit {0}
+Acts (begin k o q) = Unit {0}
+Acts (fillPage k o q i r) = Unit {0}
+Acts (stored k o q i) = Unit {0}
+Acts (cutDone k o q) = Unit {0}
+Acts saving = Unit {0}
+Acts (loading i d) = Unit {0}
+
+call-acts : (t : Tables) (w : ℕ) (q : Call) → Acts (callAction t w q)
+unfolding callAction readAction
+call-acts t w (create m p) = tt
+call-acts t w (mkdir m p) = tt
+call-acts t w (openAs r p) = tt
+call-acts t w (close h) = tt
+call-acts t w (seek h n) = tt
+call-acts t w (read h n) = pick-ind Acts _ (λ _. tt) (λ _. tt)
+call-acts t w (write h d) = pick-ind Acts _ (λ _. tt) (λ _. tt)
+call-acts t w (truncate h n) = pick-ind Acts _ (λ _. tt) (λ _. tt)
+call-acts t w (remove p) = tt
+call-acts t w (rmdir p) = tt
+call-acts t w (chmod m p) = tt
+call-acts t w (readdir p) = tt
+call-acts t w (stat p) = tt
+
+module _ (w : ℕ) (t : Tables) (r : List ℕ) where
+  reply-reasons : (p : Pending) → All Reason (replyChecks w t r p)
+  unfolding replyChecks isReason
+  reply-reasons idle = all-none
+  reply-reasons (creating p k m name) = both refl (both refl all-none)
+  reply-reasons (opening k rights) = both refl (both refl all-none)
+  reply-reasons (closing o) = both refl (both refl all-none)
+  reply-reasons (removing k) = both refl (both refl all-none)
+  reply-reasons (changing k m) = both refl (both refl all-none)
+  reply-reasons (listing k) = both refl all-none
+  reply-reasons (stating k) = both refl (both refl all-none)
+  reply-reasons (reading k o p n i) = both refl all-none
+  reply-reasons (fetching k o q i) = both refl all-none
+  reply-reasons (storing k o q i) = both refl (both refl all-none)
+  reply-reasons (cutting k o q) = both refl (both refl all-none)
+
+  reply-acts : (p : Pending) → isIdle p ≡ false → Acts (replyAction w t r p)
+  unfolding replyAction isIdle
+  reply-acts idle e = absurd (true≢false e)
+  reply-acts (creating p k m name) e = tt
+  reply-acts (opening k rights) e = tt
+  reply-acts (closing o) e = tt
+  reply-acts (removing k) e = tt
+  reply-acts (changing k m) e = tt
+  reply-acts (listing k) e = tt
+  reply-acts (stating k) e = tt
+  reply-acts (reading k o p n i) e = tt
+  reply-acts (fetching k o q i) e = tt
+  reply-acts (storing k o q i) e = tt
+  reply-acts (cutting k o q) e = tt
+
+module _ (c : Config) (sk : Skeleton) where
+  action-acts : (e : Event) → Passed (eventChecks c sk e) → Acts (eventAction c sk e)
+  unfolding eventChecks eventAction
+  action-acts (call s a q) p = call-acts (sk .tables) (c .width) (callOr (readCall (c .width) s))
+  action-acts (reply r a q) (both _ (both i _)) =
+      decide-ind halt Acts (replyChecks (c .width) (sk .tables) r (sk .pending)) _ (λ n f. first-has (reply-reasons (c .width) (sk .tables) r (sk .pending)) f)
+      (λ _. reply-acts (c .width) (sk .tables) r (sk .pending) i)
+  action-acts (save n) p = tt
+  action-acts (load i d) p = tt
+
+  -- an event is refused n exactly where n is the first of its numbers whose condition holds
+  pub refused-exactly : (e : Event) (n : ℕ) → (judge c sk e ≡ refuse n) ↔ First n (eventChecks c sk e)
+  unfolding judge
+  refused-exactly e n = decide-exactly refuse (eventChecks c sk e) (eventAction c sk e) n (λ p m q. subst Acts q (action-acts e p)) (λ m k q. cc)
+
+  pub halt-reason : (e : Event) (n : ℕ) → judge c sk e ≡ halt n → isReason n ≡ true
+  unfolding judge
+  halt-reason e n =
+      decide-ind refuse (λ m. m ≡ halt n → isReason n ≡ true) (eventChecks c sk e) (eventAction c sk e)
+      (λ m f q. absurd (let z : _≡_ {A = ℕ} 0 1 = cc in omega arith)) (λ p q. subst Acts q (action-acts e p))
+
+-- Clause c: no false 28 or 24, and seek.
+module _ (t : Tables) where
+  -- the number n, where it is the first, says C
+  abbrev Says : ℕ → Type 0 → Check → Type 0
+  Says n C ch = ch .0 ≡ n → ch .1 ≡ true → C
+
+  abbrev Full : Check → Type 0
+  Full ch = Says 28 (NODES ≤ length (t .nodes)) ch
+
+  new-full : (p : Path) → First 28 (callChecks t (create 0 p)) → NODES ≤ length (t .nodes)
+  unfolding callChecks
+  new-full p f =
+      first-has {F = Full} (both (λ q. absurd (omega arith))
+      (all-append (all-parent Full (λ b q. absurd (omega arith)) (λ b q. absurd (omega arith)) (λ b q. absurd (omega arith)) (t .nodes) 0 p)
+      (both (λ q. absurd (omega arith)) (both (λ q. absurd (omega arith)) (both (λ _ b. leb-true _ _ b) all-none))))) f refl refl
+
+  -- 28 only where 256 nodes stand
+  pub create-full : (m : ℕ) (p : Path) → First 28 (callChecks t (create m p)) → NODES ≤ length (t .nodes)
+  unfolding callChecks
+  create-full m p f = new-full p f
+
+  pub mkdir-full : (m : ℕ) (p : Path) → First 28 (callChecks t (mkdir m p)) → NODES ≤ length (t .nodes)
+  unfolding callChecks
+  mkdir-full m p f = new-full p f
+
+  abbrev Many : Check → Type 0
+  Many ch = Says 24 (OPEN-FILES ≤ length (t .opens)) ch
+
+  -- 24 only where 32 files are open
+  pub open-full : (r : ℕ) (p : Path) → First 24 (callChecks t (openAs r p)) → OPEN-FILES ≤ length (t .opens)
+  unfolding callChecks
+  open-full r p f =
+      first-has {F = Many} (both (λ q. absurd (omega arith))
+      (all-append (all-walk Many (λ b q. absurd (omega arith)) (λ b q. absurd (omega arith)) (λ b q. absurd (omega arith)) (t .nodes) 0 p)
+      (both (λ q. absurd (omega arith)) (both (λ q. absurd (omega arith)) (both (λ q. absurd (omega arith)) (both (λ _ b. leb-true _ _ b) all-none)))))) f refl refl
+
+-- A call in range, with long enough buffers, while nothing stands: its own checks decide.
+pub judge-call : (c : Config) (sk : Skeleton) (q : Call) (a b : ℕ) → CallFits (c .width) q → sk .stopped ≡ false → sk .pending ≡ idle → answerLength c ≤ a → requestLength ≤ b
+    → judge c sk (call (callBytes (c .width) q) a b) ≡ decide refuse (callChecks (sk .tables) q) (callAction (sk .tables) (c .width) q)
+unfolding judge eventChecks eventAction decide isIdle isNone callOr
+judge-call c sk q a b f running quiet h l =
+    let e = call-read-back (c .width) q f in
+    pick-false _ _ _ running
+    ∙ (pick-false _ _ _ (ap (λ p. not (isIdle p)) quiet)
+    ∙ (pick-false _ _ _ (or-both _ _ (le-ltb _ _ h) (le-ltb _ _ l))
+    ∙ (pick-false _ _ _ (ap isNone e)
+    ∙ ap (λ o. decide refuse (callChecks (sk .tables) (callOr o)) (callAction (sk .tables) (c .width) (callOr o))) e)))
+
+-- On fresh tables a create of a name that is not too long passes.
+pub fresh-create-passes : (m : ℕ) (x : List ℕ) → length x ≤ NAME-BYTES → Passed (callChecks freshTables (create m (x ∷ [])))
+unfolding callChecks parentChecks walk childAt findChild parentOf nodeAt tooLong any pathBytes joined place pick
+fresh-create-passes m x h =
+    let l = length-append x [] in
+    both (or-both _ _ (or-both _ _ (le-ltb _ _ h) refl) (le-ltb PATH-BYTES (suc (length (x ++ []))) (omega arith)))
+    (both refl (both refl (both refl (both refl (both refl all-none)))))

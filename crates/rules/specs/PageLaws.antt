@@ -1,0 +1,152 @@
+-- Laws of pages and of the calls that change them: what a change stores is what it leaves.
+-- Assumes nothing.
+use mathlib.Core.Path.{_≡_, ap, sym, _∙_}
+use mathlib.Core.Logic.{_⊎_, inl, inr}
+use mathlib.Core.Bool.{true≢false, true, false}
+use mathlib.Core.List.{List, [], _++_}
+use Prim.Native.Nat.{ℕ, suc, _+_, _-_, _*_, _/_, _≤_, _<_, min, max}
+use native.Mathlib.Omega.{arith}
+use lib.Dec.{ltb, leb}
+use lib.ListN.{length, getD, List·getD-eq-default}
+use borrow.Author.Tests.{ltb-true, ltb-false, leb-true, leb-false, lt-ltb}
+use Rattle.lists.specs.Pick.{pick, pick-true, pick-false}
+use Rattle.lists.specs.Equal.{Is, isT, isF, is, and-fst}
+use Rattle.lists.specs.Cells.{tab, length-tab, getD-tab, tab-cong, tab-append}
+use Rattle.filesystem.specs.Tables.{pagesFor}
+use Rattle.rules.specs.Pages.{pageAt, pageOf, part, resized, inside, splice, overlay, pagePart, Change, writing, shrinking, first, last, fetches, fill, bytesAfter, sizeAfter, FitsSize}
+
+-- a number against a range
+pub data Where (p n j : ℕ) : Type 0 where
+  low : j < p → inside p n j ≡ false → Where p n j
+  mid : p ≤ j → j < p + n → inside p n j ≡ true → Where p n j
+  high : p ≤ j → p + n ≤ j → inside p n j ≡ false → Where p n j
+
+pub range : (p n j : ℕ) → Where p n j
+range p n j = go (is (leb p j)) (is (ltb j (p + n)))
+  where
+    go : Is (leb p j) → Is (ltb j (p + n)) → Where p n j
+    go (isT a) (isT b) = mid (leb-true p j a) (ltb-true j (p + n) b) (rw (a, b))
+    go (isT a) (isF b) = high (leb-true p j a) (ltb-false j (p + n) b) (rw (a, b))
+    go (isF a) b = low (leb-false p j a) (rw a)
+
+-- a cell of a list of cells, zero past its end
+pub getD-cells : (n : ℕ) (f : ℕ → ℕ) (j : ℕ) → getD (tab n f) j 0 ≡ pick (ltb j n) (f j) 0
+getD-cells n f j = go (is (ltb j n))
+  where
+    go : Is (ltb j n) → getD (tab n f) j 0 ≡ pick (ltb j n) (f j) 0
+    go (isT e) = getD-tab n f j 0 (ltb-true j n e) ∙ sym (pick-true _ _ _ e)
+    go (isF e) = List·getD-eq-default (tab n f) 0 {n = j} (rw length-tab (ltb-false j n e)) ∙ sym (pick-false _ _ _ e)
+
+pub length-splice : (b : List ℕ) (p : ℕ) (d : List ℕ) → length (splice b p d) ≡ max (length b) (p + length d)
+unfolding splice
+length-splice b p d = length-tab _ _
+
+pub getD-splice : (b : List ℕ) (p : ℕ) (d : List ℕ) (j : ℕ) → getD (splice b p d) j 0 ≡ pick (inside p (length d) j) (getD d (j - p) 0) (getD b j 0)
+unfolding splice
+getD-splice b p d j = go (is (ltb j (max (length b) (p + length d)))) (range p (length d) j)
+  where
+    cell : ℕ
+    cell = pick (inside p (length d) j) (getD d (j - p) 0) (getD b j 0)
+
+    go : Is (ltb j (max (length b) (p + length d))) → Where p (length d) j → getD (splice b p d) j 0 ≡ cell
+    go (isT a) w = getD-tab _ _ j 0 (ltb-true _ _ a)
+    go (isF a) (mid l m e) = let h : max (length b) (p + length d) ≤ j = ltb-false _ _ a in absurd (omega arith)
+    go (isF a) (low l e) = let h : max (length b) (p + length d) ≤ j = ltb-false _ _ a in absurd (omega arith)
+    go (isF a) (high l m e) =
+        let h : max (length b) (p + length d) ≤ j = ltb-false _ _ a in
+        List·getD-eq-default (splice b p d) 0 {n = j} (rw length-splice h)
+        ∙ sym (pick-false _ _ _ e ∙ List·getD-eq-default b 0 {n = j} (omega arith))
+
+pub getD-page : (b : List ℕ) (i j : ℕ) → j < 1024 → getD (pageOf b i) j 0 ≡ getD b (i * 1024 + j) 0
+unfolding pageOf
+getD-page b i j h = getD-tab 1024 _ j 0 h
+
+-- where nothing is fetched, a byte that a write leaves alone lies past the end
+unfetched : (size p : ℕ) (d : List ℕ) (i j : ℕ) → fetches (writing p d) size i ≡ false → j < 1024 → inside p (length d) (i * 1024 + j) ≡ false → size ≤ i * 1024 + j
+unfolding fetches
+unfetched size p d i j e h f = go (is (ltb (i * 1024) size)) (is (ltb (i * 1024) p)) (is (ltb (p + length d) (min size (i * 1024 + 1024)))) (range p (length d) (i * 1024 + j))
+  where
+    go : Is (ltb (i * 1024) size) → Is (ltb (i * 1024) p) → Is (ltb (p + length d) (min size (i * 1024 + 1024))) → Where p (length d) (i * 1024 + j) → size ≤ i * 1024 + j
+    go (isF a) b c w = let l = ltb-false (i * 1024) size a in omega arith
+    go (isT a) (isT b) c w = absurd (true≢false (rw (a, b) at e))
+    go (isT a) (isF b) (isT c) w = absurd (true≢false (rw (a, b, c) at e))
+    go (isT a) (isF b) (isF c) (low l m) = let z : p ≤ i * 1024 = ltb-false _ _ b in absurd (omega arith)
+    go (isT a) (isF b) (isF c) (mid l m q) = absurd (true≢false (sym q ∙ f))
+    go (isT a) (isF b) (isF c) (high l m q) = let z : min size (i * 1024 + 1024) ≤ p + length d = ltb-false _ _ c in omega arith
+
+-- The laws that the simulation asks of a change.
+
+pub length-after : (q : Change) (b : List ℕ) → length (bytesAfter q b) ≡ sizeAfter q (length b)
+unfolding bytesAfter sizeAfter resized
+length-after (writing p d) b = length-splice b p d
+length-after (shrinking n) b = length-tab n _
+
+pub first-last : (q : Change) (size : ℕ) → FitsSize q size → first q ≤ last q
+unfolding first last pagesFor pageAt
+first-last (writing p d) size h = omega arith
+first-last (shrinking n) size h = omega arith
+
+-- the page that it leaves, from the page that was
+pub fill-page : (q : Change) (b : List ℕ) (i : ℕ) → fill q i (pageOf b i) ≡ pageOf (bytesAfter q b) i
+unfolding fill bytesAfter pageOf overlay resized
+fill-page (writing p d) b i = tab-cong 1024 _ _ (λ j h. sym (getD-splice b p d (i * 1024 + j) ∙ rw (getD-tab 1024 (λ k. getD b (i * 1024 + k) 0) j 0 h)))
+fill-page (shrinking n) b i = tab-cong 1024 _ _ (λ j h. sym (getD-cells n (λ k. getD b k 0) (i * 1024 + j) ∙ rw (getD-tab 1024 (λ k. getD b (i * 1024 + k) 0) j 0 h)))
+
+-- the same where nothing is fetched
+pub fill-blank : (q : Change) (b : List ℕ) (i : ℕ) → fetches q (length b) i ≡ false → fill q i [] ≡ pageOf (bytesAfter q b) i
+unfolding fill bytesAfter pageOf overlay
+fill-blank (writing p d) b i e = tab-cong 1024 _ _ (λ j h. cell j h (is (inside p (length d) (i * 1024 + j))) ∙ sym (getD-splice b p d (i * 1024 + j)))
+  where
+    cell : (j : ℕ) → j < 1024 → Is (inside p (length d) (i * 1024 + j))
+        → pick (inside p (length d) (i * 1024 + j)) (getD d (i * 1024 + j - p) 0) 0 ≡ pick (inside p (length d) (i * 1024 + j)) (getD d (i * 1024 + j - p) 0) (getD b (i * 1024 + j) 0)
+    cell j h (isT q) = pick-true _ _ _ q ∙ sym (pick-true _ _ _ q)
+    cell j h (isF q) = pick-false _ _ _ q ∙ (sym (List·getD-eq-default b 0 {n = i * 1024 + j} (unfetched (length b) p d i j e h q)) ∙ sym (pick-false _ _ _ q))
+fill-blank (shrinking n) b i e = absurd (true≢false (unfold fetches in e))
+
+-- the other pages are as they were, zeros past the end
+pub after-apart : (q : Change) (b : List ℕ) (i : ℕ) → FitsSize q (length b) → (i < first q) ⊎ (last q ≤ i) → i < pagesFor (sizeAfter q (length b))
+    → pageOf (bytesAfter q b) i ≡ pageOf b i
+unfolding bytesAfter first last pageOf pagesFor pageAt sizeAfter resized
+after-apart (writing p d) b i f o m = tab-cong 1024 _ _ (λ j h. getD-splice b p d (i * 1024 + j) ∙ cell o j h (range p (length d) (i * 1024 + j)))
+  where
+    cell : (i < p / 1024) ⊎ ((p + length d + 1023) / 1024 ≤ i) → (j : ℕ) → j < 1024 → Where p (length d) (i * 1024 + j)
+        → pick (inside p (length d) (i * 1024 + j)) (getD d (i * 1024 + j - p) 0) (getD b (i * 1024 + j) 0) ≡ getD b (i * 1024 + j) 0
+    cell o j h (low a q) = pick-false _ _ _ q
+    cell o j h (high a l q) = pick-false _ _ _ q
+    cell (inl x) j h (mid a l q) = absurd (omega arith)
+    cell (inr x) j h (mid a l q) = absurd (omega arith)
+after-apart (shrinking n) b i f o m = tab-cong 1024 _ _ (λ j h. getD-cells n (λ k. getD b k 0) (i * 1024 + j) ∙ pick-true _ _ _ (lt-ltb (i * 1024 + j) n (below o j h)))
+  where
+    below : (i < n / 1024) ⊎ ((n + 1023) / 1024 ≤ i) → (j : ℕ) → j < 1024 → i * 1024 + j < n
+    below (inl x) j h = omega arith
+    below (inr x) j h = absurd (omega arith)
+
+-- and were there before
+pub apart-old : (q : Change) (size i : ℕ) → FitsSize q size → (i < first q) ⊎ (last q ≤ i) → i < pagesFor (sizeAfter q size) → i < pagesFor size
+unfolding first last pagesFor pageAt sizeAfter
+apart-old (writing p d) size i f (inl x) m = omega arith
+apart-old (writing p d) size i f (inr x) m = omega arith
+apart-old (shrinking n) size i f (inl x) m = omega arith
+apart-old (shrinking n) size i f (inr x) m = absurd (omega arith)
+
+-- what is fetched is in the file
+pub fetch-in : (q : Change) (size i : ℕ) → FitsSize q size → first q ≤ i → i < last q → fetches q size i ≡ true → i * 1024 < size
+unfolding first last fetches pagesFor pageAt
+fetch-in (writing p d) size i f l h e = ltb-true (i * 1024) size (and-fst _ _ e)
+fetch-in (shrinking n) size i f l h e = omega arith
+
+-- A read: what the pages so far have given, and the part of one more. It runs from `from` to below `to`.
+part-from : (b : List ℕ) (p i from to : ℕ) → p ≤ from → i * 1024 ≤ from → to ≤ i * 1024 + 1024
+    → part b p (from - p) ++ part (pageOf b i) (from - i * 1024) (to - from) ≡ part b p (from - p + (to - from))
+unfolding part
+part-from b p i from to h l m =
+    ap (λ s. tab (from - p) (λ j. getD b (p + j) 0) ++ s)
+    (tab-cong _ _ _ (λ j k. getD-page b i (from - i * 1024 + j) (omega arith) ∙ ap (λ x. getD b x 0) (omega arith)))
+    ∙ tab-append (from - p) (to - from) (λ j. getD b (p + j) 0)
+
+pub part-more : (b : List ℕ) (p n i : ℕ) → pageAt p ≤ i → i * 1024 < p + n
+    → part b p (max p (i * 1024) - p) ++ pagePart (pageOf b i) p n i ≡ part b p (min (p + n) (suc i * 1024) - p)
+unfolding pagePart pageAt
+part-more b p n i l h =
+    part-from b p i (max p (i * 1024)) (min (p + n) (i * 1024 + 1024)) (omega arith) (omega arith) (omega arith)
+    ∙ ap (part b p) (omega arith)

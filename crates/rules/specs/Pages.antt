@@ -1,0 +1,100 @@
+-- A file's bytes by pages of 1,024, zero past the end, and the calls that change them, as data.
+-- Assumes nothing.
+use mathlib.Core.Bool.{Bool, true, false, _&&_, _||_}
+use mathlib.Core.List.{List}
+use Prim.Native.Nat.{ℕ, _+_, _-_, _*_, _/_, _≤_, _<_, min, max}
+use lib.Dec.{ltb, leb}
+use lib.ListN.{length, getD}
+use Rattle.lists.specs.Pick.{pick}
+use Rattle.lists.specs.Cells.{tab}
+use Rattle.filesystem.specs.Tables.{PAGE-BYTES, pagesFor}
+
+-- the page that a position lies in
+unfoldable pub pageAt : ℕ → ℕ
+pageAt position = position / 1024
+
+-- page i of a file's bytes
+unfoldable pub pageOf : List ℕ → ℕ → List ℕ
+pageOf b i = tab PAGE-BYTES (λ j. getD b (i * 1024 + j) 0)
+
+-- n bytes from a position on
+unfoldable pub part : List ℕ → (position n : ℕ) → List ℕ
+part b position n = tab n (λ j. getD b (position + j) 0)
+
+-- the bytes as n of them: cut, or with zeros behind
+unfoldable pub resized : List ℕ → ℕ → List ℕ
+resized b n = tab n (λ j. getD b j 0)
+
+abbrev pub inside : (position n j : ℕ) → Bool
+inside position n j = leb position j && ltb j (position + n)
+
+-- the bytes d put over b from a position on
+unfoldable pub splice : List ℕ → (position : ℕ) → List ℕ → List ℕ
+splice b position d =
+    tab (max (length b) (position + length d)) (λ j. pick (inside position (length d) j) (getD d (j - position) 0) (getD b j 0))
+
+-- the same on page i alone
+unfoldable pub overlay : (page : List ℕ) (position : ℕ) (d : List ℕ) (i : ℕ) → List ℕ
+overlay page position d i =
+    tab PAGE-BYTES (λ j. pick (inside position (length d) (i * 1024 + j)) (getD d (i * 1024 + j - position) 0) (getD page j 0))
+
+-- of a page i that came, the bytes that lie in n bytes from a position on
+unfoldable pub pagePart : (page : List ℕ) (position n i : ℕ) → List ℕ
+pagePart page position n i =
+    part page (max position (i * 1024) - i * 1024) (min (position + n) (i * 1024 + 1024) - max position (i * 1024))
+
+-- A call that changes a file's bytes: a write at the cursor, or a truncation to fewer bytes.
+pub data Change : Type 0 where
+  writing : (position : ℕ) (bytes : List ℕ) → Change
+  shrinking : (size : ℕ) → Change
+
+-- it stores the pages from `first` to below `last`
+unfoldable pub first : Change → ℕ
+first (writing p d) = pageAt p
+first (shrinking n) = pageAt n
+
+unfoldable pub last : Change → ℕ
+last (writing p d) = pagesFor (p + length d)
+last (shrinking n) = pagesFor n
+
+-- 'A write fetches a page if a byte of it below the old end isn't overwritten'; 'a shorter truncation inside a page fetches it'
+unfoldable pub fetches : Change → (size i : ℕ) → Bool
+fetches (writing p d) size i = ltb (i * 1024) size && (ltb (i * 1024) p || ltb (p + length d) (min size (i * 1024 + 1024)))
+fetches (shrinking n) size i = true
+
+-- page i as it is stored, from the page that was fetched
+unfoldable pub fill : Change → ℕ → List ℕ → List ℕ
+fill (writing p d) i page = overlay page p d i
+fill (shrinking n) i page = tab PAGE-BYTES (λ j. pick (ltb (i * 1024 + j) n) (getD page j 0) 0)
+
+-- the size sent with page i: 'the larger of the old size and the end of the bytes written so far'; 'the old size'
+unfoldable pub sizeSent : Change → (size i : ℕ) → ℕ
+sizeSent (writing p d) size i = max size (min (p + length d) (i * 1024 + 1024))
+sizeSent (shrinking n) size i = size
+
+-- 'then cuts'
+unfoldable pub cuts : Change → Bool
+cuts (writing p d) = false
+cuts (shrinking n) = true
+
+-- what it leaves: the bytes, the size, the cursor; and the number that it is done with
+unfoldable pub bytesAfter : Change → List ℕ → List ℕ
+bytesAfter (writing p d) b = splice b p d
+bytesAfter (shrinking n) b = resized b n
+
+unfoldable pub sizeAfter : Change → ℕ → ℕ
+sizeAfter (writing p d) size = max size (p + length d)
+sizeAfter (shrinking n) size = n
+
+unfoldable pub cursorAfter : Change → ℕ → ℕ
+cursorAfter (writing p d) cursor = p + length d
+cursorAfter (shrinking n) cursor = min cursor n
+
+unfoldable pub numberOf : Change → ℕ
+numberOf (writing p d) = length d
+numberOf (shrinking n) = 0
+
+-- a change that a file of this size can have: a write at a position in it, of a byte at least; a truncation to fewer bytes
+abbrev pub FitsSize : Change → ℕ → Type 0
+FitsSize (writing p d) size = (p ≤ size) × (0 < length d)
+FitsSize (shrinking n) size = n < size

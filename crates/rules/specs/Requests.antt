@@ -1,0 +1,33 @@
+-- Host requests and what a pending call waits for (document 01, 'Requests and replies').
+-- Assumes nothing.
+use mathlib.Core.List.{List, _∷_, _++_}
+use Prim.Native.Nat.{ℕ}
+use Rattle.lists.specs.LittleEndian.{encode}
+use Rattle.rules.specs.Pages.{Change}
+
+-- descriptors, pages and sizes have 4 bytes
+unfoldable pub closeRequest : (descriptor : ℕ) → List ℕ
+closeRequest d = 4 ∷ encode 4 d
+
+unfoldable pub fetchRequest : (descriptor page : ℕ) → List ℕ
+fetchRequest d i = 6 ∷ (encode 4 d ++ encode 4 i)
+
+unfoldable pub storeRequest : (descriptor page size : ℕ) → List ℕ → List ℕ
+storeRequest d i size bytes = 7 ∷ (encode 4 d ++ (encode 4 i ++ (encode 4 size ++ bytes)))
+
+unfoldable pub cutRequest : (descriptor size : ℕ) → List ℕ
+cutRequest d size = 8 ∷ (encode 4 d ++ encode 4 size)
+
+-- 'the standing call and how far it has come': k is a node's place, o an open file's, i the page that was asked last
+pub data Pending : Type 0 where
+  idle : Pending
+  creating : (parent kind mode : ℕ) (name : List ℕ) → Pending
+  opening : (k rights : ℕ) → Pending
+  closing : (o : ℕ) → Pending
+  removing : (k : ℕ) → Pending
+  changing : (k mode : ℕ) → Pending
+  listing : (k : ℕ) → Pending
+  stating : (k : ℕ) → Pending
+  reading : (k o position n i : ℕ) → Pending
+  fetching storing : (k o : ℕ) (change : Change) (i : ℕ) → Pending
+  cutting : (k o : ℕ) (change : Change) → Pending

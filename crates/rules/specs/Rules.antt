@@ -1,0 +1,285 @@
+-- The rules: for each event the numbers in document 01's order, and what is to be done where none of them holds.
+-- Nothing here knows what is kept of a page.
+-- Assumes nothing.
+use mathlib.Core.Bool.{Bool, true, false, _&&_, _||_, not}
+use mathlib.Core.List.{List, [], _∷_, _++_, map}
+use mathlib.Core.Option.{Option, some, none}
+use Prim.Native.Nat.{ℕ, _+_, _-_, _/_, _%_, min, max}
+use lib.Dec.{eqb, ltb, leb}
+use lib.ListN.{length}
+use lib.IntN.{ℤ, pos, negsuc}
+use Rattle.lists.specs.Pick.{pick}
+use Rattle.lists.specs.Equal.{equal}
+use Rattle.lists.specs.Search.{without}
+use Rattle.lists.specs.Rearranged.{isRearranged}
+use Rattle.lists.specs.LittleEndian.{encode, decode}
+use Rattle.lists.specs.Signed.{signed}
+use Rattle.lists.specs.Form.{Form, num, then, text, times, whole}
+use Rattle.lists.specs.Checks.{Check, decide}
+use Rattle.filesystem.specs.Tables.{NODES, OPEN-FILES, PAGES, PAGE-BYTES, FILE-BYTES, Node, OpenFile, Tables, isDirectory, hasBit, pageTotal, nodeAt, openAt, absent, present, findId, findHandle, findDescriptor, children, newNode, newOpenFile, setMode, setSize, setCursor}
+use Rattle.filesystem.specs.Rights.{covers}
+use Rattle.filesystem.specs.Paths.{Path, tooLong, walk, walkChecks, parentChecks, parentOf, lastOf}
+use Rattle.filesystem.specs.Image.{Image, imageLength, parse}
+use Rattle.rules.specs.Calls.{Call, create, mkdir, openAs, close, seek, read, write, truncate, remove, rmdir, chmod, readdir, stat, callBytes, readCall}
+use Rattle.rules.specs.Pages.{pageAt, Change, writing, shrinking}
+use Rattle.rules.specs.Requests.{closeRequest, fetchRequest, Pending, idle, creating, opening, closing, removing, changing, listing, stating, reading, fetching, storing, cutting}
+use Rattle.rules.specs.Skeleton.{Config, Event, call, reply, save, load, answerLength, requestLength, Skeleton}
+
+-- What an event leads to.
+pub data Move : Type 0 where
+  refuse halt : ℕ → Move
+  -- a request that no page goes with; done with the tables changed and no page touched; a node more; a node less
+  send : Pending → List ℕ → Move
+  finish : Tables → (number : ℕ) → (bytes : List ℕ) → Move
+  add : Node → Move
+  delete : ℕ → Move
+  -- a page came for a read
+  readPage : (k o position n i : ℕ) → List ℕ → Move
+  -- a change of a file's bytes begins; a page came for it; a page is stored; the file is cut
+  begin : (k o : ℕ) → Change → Move
+  fillPage : (k o : ℕ) → Change → (i : ℕ) → List ℕ → Move
+  stored : (k o : ℕ) → Change → (i : ℕ) → Move
+  cutDone : (k o : ℕ) → Change → Move
+  saving : Move
+  loading : Image → (digest : List ℕ) → Move
+
+-- Calls: each one's numbers.
+module _ (t : Tables) where
+  -- by path: the node, and the directory that holds it
+  abbrev pub target : Path → Node
+  target p = nodeAt (t .nodes) (walk (t .nodes) 0 p)
+
+  abbrev pub holder : Path → Node
+  holder p = nodeAt (t .nodes) (parentOf (t .nodes) 0 p)
+
+  abbrev pub isOpen : Node → Bool
+  isOpen n = present (t .opens) (findHandle (t .opens) (n .id))
+
+  -- by handle: the open file's place and what stands there, the file's place and what stands there
+  abbrev pub openPlace : ℕ → ℕ
+  openPlace h = findHandle (t .opens) h
+
+  abbrev pub filePlace : ℕ → ℕ
+  filePlace h = findId (t .nodes) h
+
+  abbrev pub opened : ℕ → OpenFile
+  opened h = openAt (t .opens) (openPlace h)
+
+  abbrev pub file : ℕ → Node
+  file h = nodeAt (t .nodes) (filePlace h)
+
+  -- 'By handle, a read needs right 1, a write or truncation right 2, close and seek neither'
+  abbrev pub handleCheck : ℕ → Check
+  handleCheck h = (9, absent (t .opens) (openPlace h))
+
+  abbrev pub rightCheck : (right : ℕ) → ℕ → Check
+  rightCheck right h = (9, absent (t .opens) (openPlace h) || not (eqb (opened h .rights / right % 2) 1))
+
+  -- the end of a write at the cursor
+  abbrev pub writeEnd : ℕ → List ℕ → ℕ
+  writeEnd h d = opened h .cursor + length d
+
+  -- would the pages be too many if the node in place k had this size?
+  unfoldable pub noRoom : (k size : ℕ) → Bool
+  noRoom k size = ltb PAGES (pageTotal (setSize (t .nodes) k size))
+
+  abbrev pub longCheck : Path → Check
+  longCheck p = (36, tooLong p)
+
+  -- 36 and the walk; the last component may be absent
+  abbrev pub reach : Path → List Check
+  reach p = longCheck p ∷ walkChecks (t .nodes) 0 p
+
+  abbrev pub reachParent : Path → List Check
+  reachParent p = longCheck p ∷ parentChecks (t .nodes) 0 p
+
+  -- 'create, mkdir: 17, 13 (parent bit 2), 28'
+  abbrev pub newChecks : Path → List Check
+  newChecks p =
+      reachParent p
+      ++ ((17, present (t .nodes) (walk (t .nodes) 0 p)) ∷ (13, not (hasBit 2 (holder p))) ∷ (28, leb NODES (length (t .nodes))) ∷ [])
+
+  unfoldable pub callChecks : Call → List Check
+  callChecks (create m p) = newChecks p
+  callChecks (mkdir m p) = newChecks p
+  -- 'open: 21, 13, 16, 24'
+  callChecks (openAs r p) =
+      reach p
+      ++ ((21, isDirectory (target p)) ∷ (13, not (covers (target p .mode) r)) ∷ (16, isOpen (target p)) ∷ (24, leb OPEN-FILES (length (t .opens))) ∷ [])
+  -- 'handle calls: 9; then seek, truncate 22; write 27, 28'
+  callChecks (close h) = handleCheck h ∷ []
+  callChecks (seek h n) = handleCheck h ∷ (22, ltb (file h .size) n) ∷ []
+  callChecks (read h n) = rightCheck 1 h ∷ []
+  callChecks (write h d) =
+      rightCheck 2 h ∷ (27, ltb FILE-BYTES (writeEnd h d)) ∷ (28, noRoom (filePlace h) (max (file h .size) (writeEnd h d))) ∷ []
+  callChecks (truncate h n) = rightCheck 2 h ∷ (22, ltb (file h .size) n) ∷ []
+  -- 'remove: 21, 13 (parent bit 2), 16'
+  callChecks (remove p) = reach p ++ ((21, isDirectory (target p)) ∷ (13, not (hasBit 2 (holder p))) ∷ (16, isOpen (target p)) ∷ [])
+  -- 'rmdir: 16 (root only), 20, 13 (parent bit 2), 39'
+  callChecks (rmdir p) =
+      reach p
+      ++ ((16, eqb (walk (t .nodes) 0 p) 0) ∷ (20, not (isDirectory (target p))) ∷ (13, not (hasBit 2 (holder p)))
+      ∷ (39, ltb 0 (length (children (t .nodes) (target p .id)))) ∷ [])
+  callChecks (chmod m p) = reach p
+  -- 'readdir: 20, 13 (bit 4)'
+  callChecks (readdir p) = reach p ++ ((20, not (isDirectory (target p))) ∷ (13, not (hasBit 4 (target p))) ∷ [])
+  callChecks (stat p) = reach p
+
+  -- and what it does where none of them holds; w is the width of ids
+  module _ (w : ℕ) where
+    -- 'A read gives the smaller of count and what remains'; of no bytes it sends nothing
+    unfoldable pub readAction : (h n : ℕ) → Move
+    readAction h n =
+        pick (eqb n 0) (finish t 0 [])
+        (send (reading (filePlace h) (openPlace h) (opened h .cursor) n (pageAt (opened h .cursor)))
+        (fetchRequest (opened h .descriptor) (pageAt (opened h .cursor))))
+
+    unfoldable pub callAction : Call → Move
+    callAction (create m p) = send (creating (holder p .id) 1 m (lastOf p)) (callBytes w (create m p))
+    callAction (mkdir m p) = send (creating (holder p .id) 2 m (lastOf p)) (callBytes w (mkdir m p))
+    callAction (openAs r p) = send (opening (walk (t .nodes) 0 p) r) (callBytes w (openAs r p))
+    callAction (close h) = send (closing (openPlace h)) (closeRequest (opened h .descriptor))
+    callAction (seek h n) = finish (record { nodes = t .nodes; opens = setCursor (t .opens) (openPlace h) n }) n []
+    callAction (read h n) = readAction h (min n (file h .size - opened h .cursor))
+    callAction (write h d) = pick (eqb (length d) 0) (finish t 0 []) (begin (filePlace h) (openPlace h) (writing (opened h .cursor) d))
+    callAction (truncate h n) = pick (eqb n (file h .size)) (finish t 0 []) (begin (filePlace h) (openPlace h) (shrinking n))
+    callAction (remove p) = send (removing (walk (t .nodes) 0 p)) (callBytes w (remove p))
+    callAction (rmdir p) = send (removing (walk (t .nodes) 0 p)) (callBytes w (rmdir p))
+    callAction (chmod m p) = send (changing (walk (t .nodes) 0 p) m) (callBytes w (chmod m p))
+    callAction (readdir p) = send (listing (walk (t .nodes) 0 p)) (callBytes w (readdir p))
+    callAction (stat p) = send (stating (walk (t .nodes) 0 p)) (callBytes w (stat p))
+
+-- Replies.
+
+-- 'a 4-byte signed number in two's complement'
+abbrev pub signedOf : List ℕ → ℤ
+signedOf r = signed 4 (decode r)
+
+unfoldable pub isNumber : ℕ → ℤ → Bool
+isNumber n (pos m) = eqb m n
+isNumber n (negsuc m) = false
+
+-- 'a descriptor 0 to 1,023'
+unfoldable pub isDescriptor : ℤ → Bool
+isDescriptor (pos m) = ltb m 1024
+isDescriptor (negsuc m) = false
+
+-- a listing's entry: 'id (4), kind (1), name length (1) and name'
+abbrev pub Entry : Type 0
+Entry = ℕ × (ℕ × List ℕ)
+
+unfoldable pub entryForm : ℕ → Form Entry
+entryForm w = then (num w) λ _. then (num 1) λ _. text 1
+
+abbrev pub entryOf : Node → Entry
+entryOf n = (n .id, (n .kind, n .name))
+
+unfoldable pub sameEntry : Entry → Entry → Bool
+sameEntry a b = eqb (a .0) (b .0) && (eqb (a .1 .0) (b .1 .0) && equal (a .1 .1) (b .1 .1))
+
+-- 'each child once, any order'
+unfoldable pub isListing : ℕ → List Node → List ℕ → Bool
+isListing w ns r = elim (whole (times (entryForm w) (length ns)) r) [ none ↦ false | some es ↦ isRearranged sameEntry es (map entryOf ns) ]
+
+-- 'id (4), kind (1), mode (1), size (4)'
+unfoldable pub statBytes : ℕ → Node → List ℕ
+statBytes w n = encode w (n .id) ++ (n .kind ∷ n .mode ∷ encode 4 (n .size))
+
+module _ (w : ℕ) (t : Tables) (r : List ℕ) where
+  abbrev pub lengthCheck : ℕ → Check
+  lengthCheck n = (1, not (eqb (length r) n))
+
+  abbrev pub statusChecks : ℕ → List Check
+  statusChecks n = lengthCheck 4 ∷ (2, not (isNumber n (signedOf r))) ∷ []
+
+  -- the stop reasons of a reply, in their order; a page's digest (5) is looked at by the machine
+  unfoldable pub replyChecks : Pending → List Check
+  replyChecks idle = []
+  replyChecks (creating p k m name) = lengthCheck w ∷ (3, eqb (decode r) 0 || present (t .nodes) (findId (t .nodes) (decode r))) ∷ []
+  replyChecks (opening k rights) =
+      lengthCheck 4 ∷ (4, not (isDescriptor (signedOf r)) || present (t .opens) (findDescriptor (t .opens) (decode r))) ∷ []
+  replyChecks (closing o) = statusChecks 0
+  replyChecks (removing k) = statusChecks 0
+  replyChecks (changing k m) = statusChecks 0
+  replyChecks (listing k) = (7, not (isListing w (children (t .nodes) (nodeAt (t .nodes) k .id)) r)) ∷ []
+  replyChecks (stating k) = lengthCheck (w + 6) ∷ (6, not (equal r (statBytes w (nodeAt (t .nodes) k)))) ∷ []
+  replyChecks (reading k o p n i) = lengthCheck PAGE-BYTES ∷ []
+  replyChecks (fetching k o q i) = lengthCheck PAGE-BYTES ∷ []
+  replyChecks (storing k o q i) = statusChecks 1024
+  replyChecks (cutting k o q) = statusChecks 0
+
+  -- and what is done with one that none of them stops
+  unfoldable pub replyAction : Pending → Move
+  replyAction idle = refuse 61
+  replyAction (creating p k m name) = add (newNode (decode r) p k m name)
+  replyAction (opening k rights) =
+      finish (record { nodes = t .nodes; opens = t .opens ++ (newOpenFile (nodeAt (t .nodes) k .id) (decode r) rights ∷ []) }) (nodeAt (t .nodes) k .id) []
+  replyAction (closing o) = finish (record { nodes = t .nodes; opens = without o (t .opens) }) 0 []
+  replyAction (removing k) = delete k
+  replyAction (changing k m) = finish (record { nodes = setMode (t .nodes) k m; opens = t .opens }) 0 []
+  replyAction (listing k) = finish t (length (children (t .nodes) (nodeAt (t .nodes) k .id))) r
+  replyAction (stating k) = finish t (nodeAt (t .nodes) k .size) r
+  replyAction (reading k o p n i) = readPage k o p n i r
+  replyAction (fetching k o q i) = fillPage k o q i r
+  replyAction (storing k o q i) = stored k o q i
+  replyAction (cutting k o q) = cutDone k o q
+
+-- Every event: the one list of its numbers, and what it leads to.
+unfoldable pub isIdle : Pending → Bool
+isIdle idle = true
+isIdle (creating p k m name) = false
+isIdle (opening k rights) = false
+isIdle (closing o) = false
+isIdle (removing k) = false
+isIdle (changing k m) = false
+isIdle (listing k) = false
+isIdle (stating k) = false
+isIdle (reading k o p n i) = false
+isIdle (fetching k o q i) = false
+isIdle (storing k o q i) = false
+isIdle (cutting k o q) = false
+
+-- bytes that are no call lead nowhere: they are refused before this is asked
+unfoldable pub callOr : Option Call → Call
+callOr none = close 0
+callOr (some c) = c
+
+unfoldable pub imageOr : Option Image → Image
+imageOr none = ([], [])
+imageOr (some i) = i
+
+unfoldable pub isNone : {A : Type 0} → Option A → Bool
+isNone none = true
+isNone (some a) = false
+
+module _ (c : Config) (sk : Skeleton) where
+  abbrev pub stoppedCheck : Check
+  stoppedCheck = (5, sk .stopped)
+
+  abbrev pub busyCheck : Check
+  busyCheck = (114, not (isIdle (sk .pending)))
+
+  abbrev pub shortCheck : (answer request : ℕ) → Check
+  shortCheck answer request = (34, ltb answer (answerLength c) || ltb request requestLength)
+
+  abbrev pub inUseCheck : Check
+  inUseCheck = (16, ltb 0 (length (sk .tables .opens)))
+
+  unfoldable pub eventChecks : Event → List Check
+  eventChecks (call s answer request) =
+      stoppedCheck ∷ busyCheck ∷ shortCheck answer request ∷ (22, isNone (readCall (c .width) s))
+      ∷ callChecks (sk .tables) (callOr (readCall (c .width) s))
+  eventChecks (reply r answer request) = stoppedCheck ∷ (61, isIdle (sk .pending)) ∷ shortCheck answer request ∷ []
+  eventChecks (save buffer) = stoppedCheck ∷ busyCheck ∷ inUseCheck ∷ (34, ltb buffer (imageLength (c .width) (sk .tables .nodes))) ∷ []
+  eventChecks (load image digest) =
+      stoppedCheck ∷ busyCheck ∷ inUseCheck ∷ (74, not (equal (c .digest image) digest)) ∷ (84, isNone (parse (c .width) image)) ∷ []
+
+  unfoldable pub eventAction : Event → Move
+  eventAction (call s answer request) = callAction (sk .tables) (c .width) (callOr (readCall (c .width) s))
+  eventAction (reply r answer request) =
+      decide halt (replyChecks (c .width) (sk .tables) r (sk .pending)) (replyAction (c .width) (sk .tables) r (sk .pending))
+  eventAction (save buffer) = saving
+  eventAction (load image digest) = loading (imageOr (parse (c .width) image)) digest
+
+  unfoldable pub judge : Event → Move
+  judge e = decide refuse (eventChecks e) (eventAction e)

@@ -1,0 +1,74 @@
+-- What the guard and the reference tree share: what is fed to them, what comes back, and what they hold beside pages.
+-- Assumes nothing.
+use mathlib.Core.Bool.{Bool, false}
+use mathlib.Core.List.{List, [], _++_}
+use Prim.Native.Nat.{ℕ, _+_, _*_}
+use lib.ListN.{length, drop}
+use Rattle.lists.specs.All.{Bytes}
+use Rattle.filesystem.specs.Tables.{Tables, freshTables}
+use Rattle.rules.specs.Requests.{Pending, idle}
+
+-- what may vary: the digest, and the width of ids in bytes
+pub record Config : Type 0 where
+  pub digest : List ℕ → List ℕ
+  pub width : ℕ
+
+-- document 01's hand-ins: calls and replies with the lengths of the answer and the request buffer, saves with the length of theirs
+pub data Event : Type 0 where
+  call reply : (bytes : List ℕ) (answer request : ℕ) → Event
+  save : (buffer : ℕ) → Event
+  load : (image digest : List ℕ) → Event
+
+-- what is handed in is bytes
+unfoldable pub EventBytes : Event → Type 0
+EventBytes (call s a q) = Bytes s
+EventBytes (reply r a q) = Bytes r
+EventBytes (save n) = Unit {0}
+EventBytes (load i d) = Bytes i × Bytes d
+
+-- 'exactly one of four things'
+pub data Answer : Type 0 where
+  done : (number : ℕ) (bytes : List ℕ) → Answer
+  ask : (request : List ℕ) → Answer
+  refused : (number : ℕ) → Answer
+  stopped : (reason : ℕ) → Answer
+
+-- a save is done with the image as its bytes, and with the image's digest; every other outcome has no digest
+pub record Outcome : Type 0 where
+  pub answer : Answer
+  pub digest : List ℕ
+
+abbrev pub plain : Answer → Outcome
+plain a = record { answer = a; digest = [] }
+
+-- the bytes that go to the front of the answer buffer (a save's: its own buffer), and of the request buffer
+unfoldable pub answerBytes : Answer → List ℕ
+answerBytes (done n b) = b
+answerBytes (ask q) = []
+answerBytes (refused n) = []
+answerBytes (stopped n) = []
+
+unfoldable pub requestBytes : Answer → List ℕ
+requestBytes (done n b) = []
+requestBytes (ask q) = q
+requestBytes (refused n) = []
+requestBytes (stopped n) = []
+
+-- 'what lies behind is untouched'
+unfoldable pub atFront : List ℕ → List ℕ → List ℕ
+atFront bytes buffer = bytes ++ drop (length bytes) buffer
+
+-- the least lengths of the two buffers: the longest listing, the longest request
+unfoldable pub answerLength : Config → ℕ
+answerLength c = 255 * (c .width + 34)
+
+unfoldable pub requestLength : ℕ
+requestLength = 1037
+
+pub record Skeleton : Type 0 where
+  pub tables : Tables
+  pub pending : Pending
+  pub stopped : Bool
+
+abbrev pub freshSkeleton : Skeleton
+freshSkeleton = record { tables = freshTables; pending = idle; stopped = false }
