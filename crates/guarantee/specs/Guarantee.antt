@@ -1,0 +1,24 @@
+-- Demand 3 at the digest and the width that are delivered.
+-- Assumes nothing.
+use native.Mathlib.Omega.{arith}
+use Rattle.rules.specs.Skeleton.{Config}
+use Rattle.digest.specs.Sha256.{sha256}
+use Rattle.digest.specs.Laws.{length-sha256, bytes-sha256}
+use Rattle.machine.specs.Claim.{Fit, FirstHalf, SecondHalf}
+use Rattle.machine.specs.Run.{first-half}
+use Rattle.machine.specs.HonestRun.{second-half}
+
+unfoldable pub delivered : Config
+delivered = record { digest = sha256; width = 4 }
+
+delivered-fit : Fit delivered
+unfolding delivered
+delivered-fit = record { long = length-sha256; bytes = bytes-sha256; wide = omega arith }
+
+-- whatever the host replies: guard and tree agree, or two different pages or images of the history have one SHA-256
+pub agreement : FirstHalf delivered
+agreement = first-half delivered delivered-fit
+
+-- under an honest host nothing stops, and they agree
+pub no-stop : SecondHalf delivered
+no-stop = second-half delivered delivered-fit

@@ -1,0 +1,79 @@
+-- The history of a list of events (document 01, 'The plain tree'): the pages in store requests and fetches' replies, the images given out or handed in.
+-- Assumes nothing.
+use mathlib.Core.Path.{_≡_}
+use mathlib.Core.Bool.{Bool}
+use mathlib.Core.List.{List, [], _∷_, _++_, List·Memᴰ}
+use Prim.Native.Nat.{ℕ}
+use lib.Dec.{eqb}
+use lib.ListN.{length, drop}
+use Rattle.lists.specs.Pick.{pick}
+use Rattle.filesystem.specs.Tables.{PAGE-BYTES}
+use Rattle.rules.specs.Requests.{Pending, idle, creating, opening, closing, removing, changing, listing, stating, reading, fetching, storing, cutting}
+use Rattle.rules.specs.Skeleton.{Config, Event, call, reply, save, load, Answer, done, ask, refused, stopped, Outcome}
+use Rattle.machine.specs.Machine.{Store, State, step}
+
+-- is a page awaited?
+unfoldable pub awaitsPage : Pending → Bool
+awaitsPage idle = Bool.false
+awaitsPage (creating p k m name) = Bool.false
+awaitsPage (opening k r) = Bool.false
+awaitsPage (closing o) = Bool.false
+awaitsPage (removing k) = Bool.false
+awaitsPage (changing k m) = Bool.false
+awaitsPage (listing k) = Bool.false
+awaitsPage (stating k) = Bool.false
+awaitsPage (reading k o p n i) = Bool.true
+awaitsPage (fetching k o q i) = Bool.true
+awaitsPage (storing k o q i) = Bool.false
+awaitsPage (cutting k o q) = Bool.false
+
+-- a fetch's reply, if it is as long as a page
+unfoldable pub pageIn : Pending → Event → List (List ℕ)
+pageIn p (call s a q) = []
+pageIn p (reply r a q) = pick (awaitsPage p) (pick (eqb (length r) PAGE-BYTES) (r ∷ []) []) []
+pageIn p (save n) = []
+pageIn p (load i d) = []
+
+-- the page in a request of kind 7, after descriptor, page and size
+unfoldable pub storedPage : List ℕ → List (List ℕ)
+storedPage [] = []
+storedPage (kind ∷ s) = pick (eqb kind 7) (drop 12 s ∷ []) []
+
+unfoldable pub pageOut : Answer → List (List ℕ)
+pageOut (done n b) = []
+pageOut (ask q) = storedPage q
+pageOut (refused n) = []
+pageOut (stopped n) = []
+
+unfoldable pub imageIn : Event → List (List ℕ)
+imageIn (call s a q) = []
+imageIn (reply r a q) = []
+imageIn (save n) = []
+imageIn (load i d) = i ∷ []
+
+-- a save that is done gives its image
+unfoldable pub imageGiven : Answer → List (List ℕ)
+imageGiven (done n b) = b ∷ []
+imageGiven (ask q) = []
+imageGiven (refused n) = []
+imageGiven (stopped n) = []
+
+unfoldable pub imageOut : Event → Outcome → List (List ℕ)
+imageOut (call s a q) o = []
+imageOut (reply r a q) o = []
+imageOut (save n) o = imageGiven (o .answer)
+imageOut (load i d) o = []
+
+module _ (c : Config) (S : Store) where
+  unfoldable pub pages : State S → List Event → List (List ℕ)
+  pages s [] = []
+  pages s (e ∷ es) = (pageIn (s .skeleton .pending) e ++ pageOut (step c S s e .outcome .answer)) ++ pages (step c S s e .state) es
+
+  unfoldable pub images : State S → List Event → List (List ℕ)
+  images s [] = []
+  images s (e ∷ es) = (imageIn e ++ imageOut e (step c S s e .outcome)) ++ images (step c S s e .state) es
+
+-- two different byte strings among these with one digest
+unfoldable pub Collision : (List ℕ → List ℕ) → List (List ℕ) → Type 0
+Collision digest history =
+    (p : List ℕ) × (q : List ℕ) × List·Memᴰ p history × List·Memᴰ q history × (p ≡ q → ⊥) × (digest p ≡ digest q)

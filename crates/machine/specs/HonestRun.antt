@@ -1,0 +1,153 @@
+-- Demand 3, second half: under a host that is honest throughout nothing stops, and guard and tree agree. No collision is spoken of.
+use mathlib.Core.Path.{_≡_, refl, ap, sym, _∙_, subst}
+use mathlib.Core.Bool.{true≢false, true, not}
+use mathlib.Core.List.{List, [], _∷_}
+use mathlib.Core.Option.{some}
+use Prim.Native.Nat.{ℕ, suc, _+_, _*_}
+use native.Mathlib.Omega.{arith}
+use lib.Dec.{eqb, ltb, leb}
+use lib.ListN.{length, getD}
+use borrow.Author.Tests.{eq-eqb}
+use Rattle.lists.specs.Pick.{pick-ind, pick-true}
+use Rattle.lists.specs.Equal.{equal, equal-true, equal-refl}
+use Rattle.lists.specs.All.{All, both, none as all-none, all-head, all-tail}
+use Rattle.lists.specs.Cells.{length-tab}
+use Rattle.lists.specs.Checks.{Check, First, here, later, Passed}
+use Rattle.filesystem.specs.Image.{Image, parse}
+use Rattle.rules.specs.Pages.{pageOf, Change, first, last, fetches, cuts}
+use Rattle.rules.specs.Requests.{Pending, idle, creating, opening, closing, removing, changing, listing, stating, reading, fetching, storing, cutting}
+use Rattle.rules.specs.Skeleton.{Config, Event, reply, EventBytes}
+use Rattle.rules.specs.Rules.{Move, loading, judge, replyChecks}
+use Rattle.machine.specs.Machine.{State, Result, files, readOn, finishChange, pagesStored, askStore, onPage, pagesFrom, apply, step, fresh, outcomes, final, guard}
+use Rattle.rules.specs.Valid.{Valid, Fits, fRefuse, fHalt, fSend, fFinish, fAdd, fDelete, fReadPage, fBegin, fFillPage, fStored, fCutDone, fSaving, fLoading}
+use Rattle.rules.specs.FitLaws.{judge-fits}
+use Rattle.rules.specs.ReplyLaws.{right-id, right-descriptor, right-status, right-stat, right-listing}
+use Rattle.machine.specs.Tree.{Saved, lookup, goBack, tree, guardOf}
+use Rattle.machine.specs.Honest.{RightFor, Right}
+use Rattle.machine.specs.Claim.{Fit, isDone, isStop, NoStop, OfLatest, HonestAt, Honest, Agrees, SecondHalf}
+use Rattle.machine.specs.Simulation.{resultOf, SamePage, Agree}
+use Rattle.machine.specs.Invariant.{Kept, GoodSave}
+use Rattle.machine.specs.Run.{read-back, Holds, advance, fresh-holds, fresh-guard}
+
+-- the history does not matter here
+abbrev pub Any : List ℕ → Type 0
+Any p = Unit {0}
+
+module _ (c : Config) (fit : Fit c) where
+  -- a page has its length
+  page-long : (t : State (tree c)) (k i : ℕ) (r : List ℕ) → r ≡ pageOf (getD (t .contents) k []) i → Passed ((1, not (eqb (length r) 1024)) ∷ [])
+  unfolding pageOf
+  page-long t k i r e = both (ap not (eq-eqb _ _ (ap length e ∙ length-tab 1024 _))) all-none
+
+  -- a right reply passes every check
+  right-passes : (t : State (tree c)) (r : List ℕ) → Valid (c .width) (t .skeleton) → (p : Pending) → RightFor c t r p → Passed (replyChecks (c .width) (t .skeleton .tables) r p)
+  unfolding RightFor
+  right-passes t r v idle h = unfold replyChecks in all-none
+  right-passes t r v (creating p k m name) h = right-id (c .width) (t .skeleton .tables) r p k m name h
+  right-passes t r v (opening k rights) h = right-descriptor (c .width) (t .skeleton .tables) r k rights h
+  right-passes t r v (closing o) h = unfold replyChecks in right-status (c .width) (t .skeleton .tables) r 0 (omega arith) h
+  right-passes t r v (removing k) h = unfold replyChecks in right-status (c .width) (t .skeleton .tables) r 0 (omega arith) h
+  right-passes t r v (changing k m) h = unfold replyChecks in right-status (c .width) (t .skeleton .tables) r 0 (omega arith) h
+  right-passes t r v (listing k) h = right-listing (c .width) (t .skeleton .tables) r k (v .tables .nodes-valid) h
+  right-passes t r v (stating k) h = right-stat (c .width) (t .skeleton .tables) r k h
+  right-passes t r v (reading k o p n i) h = unfold replyChecks in page-long t k i r h
+  right-passes t r v (fetching k o q i) h = unfold replyChecks in page-long t k i r h
+  right-passes t r v (storing k o q i) h = unfold replyChecks in right-status (c .width) (t .skeleton .tables) r 1024 (omega arith) h
+  right-passes t r v (cutting k o q) h = unfold replyChecks in right-status (c .width) (t .skeleton .tables) r 0 (omega arith) h
+
+  passed-not-first : (n : ℕ) (cs : List Check) → Passed cs → First n cs → ⊥
+  passed-not-first n cs p f = go p f
+    where
+      go : {cs : List Check} → Passed cs → First n cs → ⊥
+      go (both e p) here = true≢false e
+      go (both e p) (later f) = go p f
+
+  abbrev Calm : Result (tree c) → Type 0
+  Calm r = NoStop (r .outcome)
+
+  calm-pages : (t : State (tree c)) (k o : ℕ) (q : Change) (i : ℕ) → Calm (pagesFrom c (tree c) t k o q i)
+  unfolding pagesFrom onPage askStore pagesStored finishChange isStop
+  calm-pages t k o q i =
+      pick-ind Calm (ltb i (last q)) (λ _. pick-ind Calm (fetches q _ i) (λ _. refl) (λ _. refl)) (λ _. pick-ind Calm (cuts q) (λ _. refl) (λ _. refl))
+
+  -- the page that a right reply brings
+  page-right : (t : State (tree c)) (p : Pending) (r : List ℕ) (k i : ℕ) → Right c t r → t .skeleton .pending ≡ p → (RightFor c t r p → r ≡ pageOf (getD (t .contents) k []) i)
+      → equal r (pageOf (getD (t .contents) k []) i) ≡ true
+  unfolding Right
+  page-right t p r k i ri w f = rw (f (subst (RightFor c t r) w ri)) (equal-refl (pageOf (getD (t .contents) k []) i))
+
+  right-reply : (g : State (guard c)) (t : State (tree c)) (e : Event) (r : List ℕ) (a q : ℕ) → HonestAt c g t e → e ≡ reply r a q → Right c t r
+  unfolding HonestAt
+  right-reply g t e r a q ho he = rw he at ho
+
+  calm : (g : State (guard c)) (t : State (tree c)) → Valid (c .width) (t .skeleton) → {m : Move} {e : Event} → Fits c (t .skeleton) e m → HonestAt c g t e → Calm (apply c (tree c) t m)
+  unfolding apply isStop readOn askStore finishChange
+  calm g t v fRefuse ho = refl
+  calm g t v {e = e} (fHalt {n = n} {r = r} {a = a} {q = q} he f) ho =
+      absurd (passed-not-first n _ (right-passes t r v (t .skeleton .pending) (unfold Right in right-reply g t e r a q ho he)) f)
+  calm g t v (fSend h s k) ho = refl
+  calm g t v (fFinish pl h s) ho = refl
+  calm g t v (fAdd pl z h) ho = refl
+  calm g t v (fDelete pl h) ho = refl
+  calm g t v {e = e} (fReadPage {k = k} {o = o} {p = p} {n = n} {i = i} {r = r} {a = a} {q = q} he w l h) ho =
+      pick-ind Calm _ (λ _. pick-ind Calm (leb (p + n) (i * 1024 + 1024)) (λ _. refl) (λ _. refl))
+      (λ x. absurd (true≢false (sym (page-right t (reading k o p n i) r k i (right-reply g t e r a q ho he) w (λ y. unfold RightFor in y)) ∙ x)))
+  calm g t v (fBegin {k = k} {o = o} {q = q} pl h) ho = calm-pages (record { skeleton = t .skeleton; contents = t .contents; progress = tt; saves = t .saves }) k o q (first q)
+  calm g t v {e = e} (fFillPage {k = k} {o = o} {q = q} {i = i} {r = r} {a = a} {b = b} he w l h) ho =
+      pick-ind Calm _ (λ _. refl)
+      (λ x. absurd (true≢false (sym (page-right t (fetching k o q i) r k i (right-reply g t e r a b ho he) w (λ y. unfold RightFor in y)) ∙ x)))
+  calm g t v (fStored {k = k} {o = o} {q = q} {i = i} pl w h) ho = calm-pages t k o q (suc i)
+  calm g t v (fCutDone pl w h) ho = refl
+  calm g t v (fSaving he w z) ho = refl
+  calm g t v (fLoading he z hd hp) ho = refl
+
+  same-page : (r p : List ℕ) → equal r p ≡ true → SamePage c r p
+  same-page r p e = rw (equal-true r p e, equal-refl p, equal-refl (c .digest p))
+
+  lookup-head : (s : Saved) (ss : List Saved) (d : List ℕ) → d ≡ s .digest → lookup (s ∷ ss) d ≡ some s
+  unfolding lookup
+  lookup-head s ss d e = rw e (pick-true _ _ _ (equal-refl (s .digest)))
+
+  -- a load of the latest save
+  sure-load : (t : State (tree c)) → Kept c Any Any t → (i : Image) (image d : List ℕ) → parse (c .width) image ≡ some i → OfLatest c t image d → Agree c t (loading i d)
+  unfolding goBack
+  sure-load t v i image d hp o =
+      let gs : GoodSave c Any Any (o .latest) = all-head (subst (All (GoodSave c Any Any)) (o .saves) (v .saves)) in
+      rw (o .saves, lookup-head (o .latest) (o .earlier) d (o .digest))
+      (read-back c fit Any Any (o .latest .files) (gs .good) (gs .valid) i (subst (λ x. parse (c .width) x ≡ some i) (o .image) hp))
+
+  sure : (t : State (tree c)) → Kept c Any Any t → {m : Move} {e : Event} → Fits c (t .skeleton) e m → HonestAt c (guardOf c t) t e → judge c (t .skeleton) e ≡ m → Agree c t m
+  unfolding HonestAt step apply guardOf isDone
+  sure t v fRefuse ho mq = tt
+  sure t v (fHalt he f) ho mq = tt
+  sure t v (fSend h s k) ho mq = tt
+  sure t v (fFinish pl h s) ho mq = tt
+  sure t v (fAdd pl z h) ho mq = tt
+  sure t v (fDelete pl h) ho mq = tt
+  sure t v {e = e} (fReadPage {k = k} {o = o} {p = p} {n = n} {i = i} {r = r} {a = a} {q = q} he w l h) ho mq =
+      same-page r _ (page-right t (reading k o p n i) r k i (right-reply (guardOf c t) t e r a q ho he) w (λ y. unfold RightFor in y))
+  sure t v (fBegin pl h) ho mq = tt
+  sure t v {e = e} (fFillPage {k = k} {o = o} {q = q} {i = i} {r = r} {a = a} {b = b} he w l h) ho mq =
+      same-page r _ (page-right t (fetching k o q i) r k i (right-reply (guardOf c t) t e r a b ho he) w (λ y. unfold RightFor in y))
+  sure t v (fStored pl w h) ho mq = tt
+  sure t v (fCutDone pl w h) ho mq = tt
+  sure t v (fSaving he w z) ho mq = tt
+  sure t v {e = e} (fLoading {i = i} {image = image} {d = d} he z hd hp) ho mq = sure-load t v i image d hp ((rw he at ho) (rw (rw he at mq) tt))
+
+  quiet : (es : List Event) (g : State (guard c)) (t : State (tree c)) → g ≡ guardOf c t → Holds c fit Any Any t → All EventBytes es → Honest c g t es
+      → All NoStop (outcomes c (guard c) g es)
+      × ((outcomes c (guard c) g es ≡ outcomes c (tree c) t es) × (final c (guard c) g es ≡ guardOf c (final c (tree c) t es)))
+  unfolding outcomes final Honest step resultOf
+  quiet [] g t q h bs ho = (all-none, (refl, q))
+  quiet (e ∷ es) g t q h bs (ha, ho) =
+      let f = judge-fits c (t .skeleton) (h .valid) e (all-head bs) in
+      let ha₂ : HonestAt c (guardOf c t) t e = subst (λ s. HonestAt c s t e) q ha in
+      let (x, h₂, k) = advance c fit Any Any t h e (all-head bs) ((λ p m. tt), (λ p m. tt)) (sure t (h .kept) f ha₂ refl) in
+      let y : step c (guard c) g e ≡ resultOf c (step c (tree c) t e) = ap (λ s. step c (guard c) s e) q ∙ x in
+      let yo : step c (guard c) g e .outcome ≡ step c (tree c) t e .outcome = ap (λ r. r .outcome) y in
+      let (ns, (eos, ef)) = quiet es (step c (guard c) g e .state) (step c (tree c) t e .state) (ap (λ r. r .state) y) h₂ (all-tail bs) ho in
+      (both (ap (λ o. isStop (o .answer)) yo ∙ calm (guardOf c t) t (h .valid) f ha₂) ns, ((λ j. yo j ∷ eos j), ef))
+
+  pub second-half : SecondHalf c
+  unfolding SecondHalf Agrees
+  second-half es bs ho = quiet es (fresh c (guard c)) (fresh c (tree c)) (fresh-guard c fit) (fresh-holds c fit Any Any) bs ho

@@ -1,0 +1,17 @@
+pub mod Machine
+pub mod ValidLaws
+pub mod StateProperties
+pub mod StepOutcomes
+pub mod StepLengths
+pub mod Trials
+pub mod Tree
+pub mod History
+pub mod Honest
+pub mod Claim
+pub mod DigestLaws
+pub mod Simulation
+pub mod Invariant
+pub mod Run
+pub mod HonestRun
+pub mod TreeProperties
+pub mod Truthful

@@ -1,0 +1,81 @@
+-- The reference tree (document 01, 'The plain tree'): the same machine over bytes in place of digests.
+-- Assumes nothing.
+use mathlib.Core.List.{List, [], _∷_, map}
+use mathlib.Core.Option.{Option, some, none}
+use Prim.Native.Nat.{ℕ, _+_, _-_, _*_, max, suc}
+use lib.ListN.{length, getD}
+use Rattle.lists.specs.Pick.{pick}
+use Rattle.lists.specs.Equal.{equal}
+use Rattle.lists.specs.Cells.{tab}
+use Rattle.filesystem.specs.Tables.{pagesFor}
+use Rattle.rules.specs.Pages.{pageOf, part, Change, first, last, bytesAfter}
+use Rattle.rules.specs.Requests.{Pending, idle, creating, opening, closing, removing, changing, listing, stating, reading, fetching, storing, cutting}
+use Rattle.rules.specs.Skeleton.{Config}
+use Rattle.machine.specs.Machine.{Files, Store, State, Gathered, guard}
+
+-- 'the nodes and bytes of each save done, with its digest', the latest first
+pub record Saved : Type 0 where
+  pub digest : List ℕ
+  pub files : Files (List ℕ)
+
+unfoldable pub lookup : List Saved → List ℕ → Option Saved
+lookup [] d = none
+lookup (s ∷ ss) d = pick (equal (s .digest) d) (some s) (lookup ss d)
+
+-- 'the latest save that gave the digest handed in; where none did, it changes nothing'
+unfoldable pub goBack : Option Saved → Files (List ℕ) → Files (List ℕ)
+goBack none f = f
+goBack (some s) f = s .files
+
+module _ (c : Config) where
+  -- 'digests worked out from the tree's own pages'
+  unfoldable pub digestsOf : List ℕ → List (List ℕ)
+  digestsOf b = tab (pagesFor (length b)) (λ i. c .digest (pageOf b i))
+
+  abbrev pub tree : Store
+  tree = record {
+    Content = List ℕ;
+    Progress = Unit {0};
+    Saves = List Saved;
+    blank = [];
+    nothing = tt;
+    unsaved = [];
+    isPage = λ b i r. equal r (pageOf b i);
+    gather = λ a p n i r. tt;
+    gathered = λ b p n a. part b p n;
+    pageFor = λ b q i r. pageOf (bytesAfter q b) i;
+    sent = λ a p. tt;
+    changed = λ b q size a. bytesAfter q b;
+    digests = digestsOf;
+    keep = λ e d f. record { digest = d; files = f } ∷ e;
+    restore = λ e i d f. goBack (lookup e d) f;
+  }
+
+  -- The guard that belongs to a tree: every field the same, digests for bytes, and of a pending call what the guard has gathered.
+  unfoldable pub sentDigests : List ℕ → Change → (end : ℕ) → List (List ℕ)
+  sentDigests b q end = tab (end - first q) (λ j. c .digest (pageOf (bytesAfter q b) (first q + j)))
+
+  abbrev pub readSoFar : List ℕ → (position i : ℕ) → List ℕ
+  readSoFar b p i = part b p (max p (i * 1024) - p)
+
+  unfoldable pub progressOf : List (List ℕ) → Pending → Gathered
+  progressOf xs idle = record { bytes = []; digests = [] }
+  progressOf xs (creating p k m name) = record { bytes = []; digests = [] }
+  progressOf xs (opening k r) = record { bytes = []; digests = [] }
+  progressOf xs (closing o) = record { bytes = []; digests = [] }
+  progressOf xs (removing k) = record { bytes = []; digests = [] }
+  progressOf xs (changing k m) = record { bytes = []; digests = [] }
+  progressOf xs (listing k) = record { bytes = []; digests = [] }
+  progressOf xs (stating k) = record { bytes = []; digests = [] }
+  progressOf xs (reading k o p n i) = record { bytes = readSoFar (getD xs k []) p i; digests = [] }
+  progressOf xs (fetching k o q i) = record { bytes = []; digests = sentDigests (getD xs k []) q i }
+  progressOf xs (storing k o q i) = record { bytes = []; digests = sentDigests (getD xs k []) q (suc i) }
+  progressOf xs (cutting k o q) = record { bytes = []; digests = sentDigests (getD xs k []) q (last q) }
+
+  unfoldable pub guardOf : State tree → State (guard c)
+  guardOf t = record {
+    skeleton = t .skeleton;
+    contents = map digestsOf (t .contents);
+    progress = progressOf (t .contents) (t .skeleton .pending);
+    saves = tt;
+  }

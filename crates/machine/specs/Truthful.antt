@@ -1,0 +1,158 @@
+-- The honest host can always answer: a reply that is right for the tree, whatever request stands (ids of two bytes at least: with one they run out).
+-- And right replies differ only in a new id, a descriptor or the order of a listing: the tree takes nothing else from the host.
+use mathlib.Core.Path.{_≡_, refl, ap, sym, _∙_}
+use mathlib.Core.List.{List, [], _∷_, map}
+use Prim.Native.Nat.{ℕ, _^_, _≤_}
+use native.Mathlib.Omega.{arith}
+use native.Mathlib.Nat.{pow-le-pow-right}
+use lib.IntN.{pos}
+use lib.ListN.{length, getD, length-map}
+use Rattle.lists.specs.All.{All, both, none, Bytes, all-map}
+use Rattle.lists.specs.Free.{free, Free, free-new}
+use Rattle.lists.specs.Signed.{signed-low}
+use Rattle.lists.specs.LittleEndian.{encode, decode, length-encode, decode-encode, encode-decode}
+use Rattle.lists.specs.Form.{put-all}
+use Rattle.lists.specs.Rearranged.{Rearranged, rearranged-self, rearranged-sym, rearranged-trans}
+use Rattle.filesystem.specs.Tables.{Node, OpenFile, Tables, nodeAt, children}
+use Rattle.filesystem.specs.Sound.{to-sound}
+use Rattle.rules.specs.Pages.{pageOf}
+use Rattle.rules.specs.Requests.{Pending, idle, creating, opening, closing, removing, changing, listing, stating, reading, fetching, storing, cutting}
+use Rattle.rules.specs.Skeleton.{Config, Event, EventBytes}
+use Rattle.rules.specs.Rules.{Entry, entryForm, entryOf, statBytes}
+use Rattle.rules.specs.RightReplies.{RightId, RightDescriptor}
+use Rattle.machine.specs.Machine.{State, fresh, final}
+use Rattle.rules.specs.Valid.{ValidTables, Valid}
+use Rattle.machine.specs.Tree.{tree}
+use Rattle.machine.specs.Honest.{RightFor, Right}
+use Rattle.machine.specs.Claim.{Fit}
+use Rattle.machine.specs.TreeProperties.{tree-valid}
+
+-- an id from 1 on that no node has, a descriptor from 0 on that no open file has
+unfoldable pub freeId : List Node → ℕ
+freeId ns = free (length ns) 1 (map (λ n. n .id) ns)
+
+unfoldable pub freeDescriptor : List OpenFile → ℕ
+freeDescriptor os = free (length os) 0 (map (λ o. o .descriptor) os)
+
+module _ (c : Config) (t : State (tree c)) where
+  unfoldable pub truthfulFor : Pending → List ℕ
+  truthfulFor idle = []
+  truthfulFor (creating p k m name) = encode (c .width) (freeId (t .skeleton .tables .nodes))
+  truthfulFor (opening k rights) = encode 4 (freeDescriptor (t .skeleton .tables .opens))
+  truthfulFor (closing o) = encode 4 0
+  truthfulFor (removing k) = encode 4 0
+  truthfulFor (changing k m) = encode 4 0
+  truthfulFor (listing k) = put-all (entryForm (c .width)) (map entryOf (children (t .skeleton .tables .nodes) (nodeAt (t .skeleton .tables .nodes) k .id)))
+  truthfulFor (stating k) = statBytes (c .width) (nodeAt (t .skeleton .tables .nodes) k)
+  truthfulFor (reading k o p n i) = pageOf (getD (t .contents) k []) i
+  truthfulFor (fetching k o q i) = pageOf (getD (t .contents) k []) i
+  truthfulFor (storing k o q i) = encode 4 1024
+  truthfulFor (cutting k o q) = encode 4 0
+
+  unfoldable pub truthful : List ℕ
+  truthful = truthfulFor (t .skeleton .pending)
+
+all-under : {A B : Type 0} {F : B → Type 0} (g : A → B) (xs : List A) → All F (map g xs) → All (λ x. F (g x)) xs
+all-under g [] a = none
+all-under g (x ∷ xs) (both f a) = both f (all-under g xs a)
+
+-- what is found free is new, and small
+module _ {A : Type 0} (f : A → ℕ) (a : ℕ) (xs : List A) where
+  found : Free (length xs) a (map f xs) (free (length xs) a (map f xs))
+  found = free-new (length xs) a (map f xs) (let e = length-map xs f in omega arith)
+
+module _ (w : ℕ) (t : Tables) (v : ValidTables w t) where
+  id-right : 2 ≤ w → RightId w t (encode w (freeId (t .nodes)))
+  unfolding freeId
+  id-right h =
+      let x = freeId (t .nodes) in
+      let r = found (λ n. n .id) 1 (t .nodes) in
+      let lo : 1 ≤ x = r .from in
+      let hi = r .to in
+      let few = to-sound w (t .nodes) (v .nodes-valid .sound) .count in
+      let wide : 256 ^ 2 ≤ 256 ^ w = pow-le-pow-right (omega arith) h in
+      let e : decode (encode w x) ≡ x = decode-encode w x (omega arith) in
+      record {
+        long = length-encode w x;
+        not-zero = λ z. omega arith;
+        not-held = all-map (λ n d q. d (q ∙ e)) (all-under (λ n. n .id) (t .nodes) (r .new));
+      }
+
+  descriptor-right : RightDescriptor t (encode 4 (freeDescriptor (t .opens)))
+  unfolding freeDescriptor
+  descriptor-right =
+      let x = freeDescriptor (t .opens) in
+      let r = found (λ o. o .descriptor) 0 (t .opens) in
+      let hi = r .to in
+      let few = v .few in
+      let e : decode (encode 4 x) ≡ x = decode-encode 4 x (omega arith) in
+      record {
+        descriptor = x;
+        long = length-encode 4 x;
+        is = signed-low 4 (decode (encode 4 x)) (omega arith) ∙ ap pos e;
+        low = omega arith;
+        not-held = all-under (λ o. o .descriptor) (t .opens) (r .new);
+      }
+
+module _ (c : Config) (t : State (tree c)) (v : Valid (c .width) (t .skeleton)) (wide : 2 ≤ c .width) where
+  for-right : (p : Pending) → RightFor c t (truthfulFor c t p) p
+  unfolding RightFor truthfulFor
+  for-right idle = tt
+  for-right (creating p k m name) = id-right (c .width) (t .skeleton .tables) (v .tables) wide
+  for-right (opening k rights) = descriptor-right (c .width) (t .skeleton .tables) (v .tables)
+  for-right (closing o) = refl
+  for-right (removing k) = refl
+  for-right (changing k m) = refl
+  for-right (listing k) = record { entries = _; bytes = refl; each-once = rearranged-self _ }
+  for-right (stating k) = refl
+  for-right (reading k o p n i) = refl
+  for-right (fetching k o q i) = refl
+  for-right (storing k o q i) = refl
+  for-right (cutting k o q) = refl
+
+  pub truthful-right : Right c t (truthful c t)
+  unfolding Right truthful
+  truthful-right = for-right (t .skeleton .pending)
+
+-- along every run of the tree
+pub always-truthful : (c : Config) → Fit c → 2 ≤ c .width → (es : List Event) → All EventBytes es
+    → Right c (final c (tree c) (fresh c (tree c)) es) (truthful c (final c (tree c) (fresh c (tree c)) es))
+always-truthful c fit wide es a = truthful-right c _ (tree-valid c fit es a) wide
+
+-- Two right replies to one request.
+module _ (c : Config) (t : State (tree c)) (r s : List ℕ) where
+  abbrev pub SameBut : Pending → Type 0
+  SameBut idle = Unit {0}
+  -- each is one id; each is one descriptor
+  SameBut (creating p k m name) = (r ≡ encode (c .width) (decode r)) × (s ≡ encode (c .width) (decode s))
+  SameBut (opening k rights) = (r ≡ encode 4 (decode r)) × (s ≡ encode 4 (decode s))
+  SameBut (closing o) = r ≡ s
+  SameBut (removing k) = r ≡ s
+  SameBut (changing k m) = r ≡ s
+  -- the one lists the other's entries, in another order perhaps
+  SameBut (listing k) =
+      (es : List Entry) × (fs : List Entry) × (r ≡ put-all (entryForm (c .width)) es) × (s ≡ put-all (entryForm (c .width)) fs) × Rearranged es fs
+  SameBut (stating k) = r ≡ s
+  SameBut (reading k o p n i) = r ≡ s
+  SameBut (fetching k o q i) = r ≡ s
+  SameBut (storing k o q i) = r ≡ s
+  SameBut (cutting k o q) = r ≡ s
+
+  same-for : Bytes r → Bytes s → (p : Pending) → RightFor c t r p → RightFor c t s p → SameBut p
+  unfolding RightFor
+  same-for a b idle x y = tt
+  same-for a b (creating p k m name) x y = (sym (ap (λ w. encode w (decode r)) (sym (x .long)) ∙ encode-decode r a), sym (ap (λ w. encode w (decode s)) (sym (y .long)) ∙ encode-decode s b))
+  same-for a b (opening k rights) x y = (sym (ap (λ w. encode w (decode r)) (sym (x .long)) ∙ encode-decode r a), sym (ap (λ w. encode w (decode s)) (sym (y .long)) ∙ encode-decode s b))
+  same-for a b (closing o) x y = x ∙ sym y
+  same-for a b (removing k) x y = x ∙ sym y
+  same-for a b (changing k m) x y = x ∙ sym y
+  same-for a b (listing k) x y = (x .entries, y .entries, x .bytes, y .bytes, rearranged-trans (x .each-once) (rearranged-sym (y .each-once)))
+  same-for a b (stating k) x y = x ∙ sym y
+  same-for a b (reading k o p n i) x y = x ∙ sym y
+  same-for a b (fetching k o q i) x y = x ∙ sym y
+  same-for a b (storing k o q i) x y = x ∙ sym y
+  same-for a b (cutting k o q) x y = x ∙ sym y
+
+  pub right-same : Bytes r → Bytes s → Right c t r → Right c t s → SameBut (t .skeleton .pending)
+  unfolding Right
+  right-same a b x y = same-for a b (t .skeleton .pending) x y
