@@ -1,0 +1,79 @@
+-- `buffers::same_words` meets its contract. The invariant: the strings are alike as far as was read. Assumes nothing.
+use native.Mathlib.Omega.{arith}
+use Prim.Native.Nat.{_+_, _≤_, _-_}
+use mathlib.Core.Path.{_≡_, refl, sym, _∙_}
+use lib.ListN.{length, take}
+use Rattle.lists.specs.All.{Bytes}
+use Rattle.lists.specs.EqualLaws.{bytes-of, word-differs, alike-word, last-decides}
+use borrow.Author.Needs.{needs}
+use Rattle.buffers.proofs.same_words.Statement.{statement}
+use Rattle.buffers.proofs.same_words.Tie as tie
+
+abbrev Inv-loop : tie.InvT-loop
+Inv-loop a b last i₀ i = (i ≤ last + 7) × (take i a ≡ take i b)
+
+abbrev μ-loop : tie.MeasureT-loop
+μ-loop a b last i₀ i = last + 8 - i
+
+sub-last : tie.Need-sub-last Inv-loop μ-loop
+sub-last c = search needs
+
+loop-holds : tie.Need-loop-holds Inv-loop μ-loop
+loop-holds c = (omega arith, refl)
+
+u64-at-requires : tie.Need-u64-at-requires Inv-loop μ-loop
+u64-at-requires c κs = search needs
+
+u64-at-requires-2 : tie.Need-u64-at-requires-2 Inv-loop μ-loop
+u64-at-requires-2 c κs = search needs
+
+returns : tie.Need-returns Inv-loop μ-loop
+returns c =
+    let a = c .before .before .before .before .before .before .before .args in
+    word-differs (a .a .now) (a .b .now) (c .before .before .before .before .loop .i) 8 _ _ (c .before .before .u64-at .ensures) (c .before .u64-at2 .ensures) (c .if1 .taken)
+
+add-i : tie.Need-add-i Inv-loop μ-loop
+add-i c = search needs
+
+loop-less : tie.Need-loop-less Inv-loop μ-loop
+loop-less c = search needs
+
+loop-again : tie.Need-loop-again Inv-loop μ-loop
+loop-again c =
+    let a = c .before .before .before .before .before .before .before .args in
+    let l = c .before .before .before .before .loop in
+    let p : Bytes (a .a .now) = bytes-of (a .a .now) (λ k. omega (arith, c .before .before .before .before .before .before .shared-slice-known .given k)) in
+    let q : Bytes (a .b .now) = bytes-of (a .b .now) (λ k. omega (arith, c .before .before .before .before .before .shared-slice-known2 .given k)) in
+    (omega arith, alike-word (a .a .now) (a .b .now) p q 8 (l .i) (omega arith) (omega arith) (l .inv .1) (sym (c .before .before .u64-at .ensures) ∙ c .if1 .left ∙ c .before .u64-at2 .ensures))
+
+u64-at-requires-3 : tie.Need-u64-at-requires-3 Inv-loop μ-loop
+u64-at-requires-3 c κs = search needs
+
+u64-at-requires-4 : tie.Need-u64-at-requires-4 Inv-loop μ-loop
+u64-at-requires-4 c κs = search needs
+
+returns-2 : tie.Need-returns-2 Inv-loop μ-loop
+returns-2 c =
+    let a = c .before .before .before .before .before .before .args in
+    let l = c .before .before .before .loop in
+    let p : Bytes (a .a .now) = bytes-of (a .a .now) (λ k. omega (arith, c .before .before .before .before .before .shared-slice-known .given k)) in
+    let q : Bytes (a .b .now) = bytes-of (a .b .now) (λ k. omega (arith, c .before .before .before .before .shared-slice-known2 .given k)) in
+    last-decides (a .a .now) (a .b .now) p q 8 (l .i) (length (a .a .now) - 8) _ _ (omega arith) (omega arith) (omega arith) (l .inv .1) (c .before .u64-at3 .ensures) (c .u64-at4 .ensures)
+
+pub same-words-spec : {M : Type 1} → statement M
+same-words-spec =
+    tie.close
+    (tie.spec
+    Inv-loop
+    μ-loop
+    sub-last
+    loop-holds
+    u64-at-requires
+    u64-at-requires-2
+    returns
+    add-i
+    loop-less
+    loop-again
+    u64-at-requires-3
+    u64-at-requires-4
+    returns-2)

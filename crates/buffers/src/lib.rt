@@ -1,0 +1,264 @@
+// Strings of bytes in buffers: compared, written over a part, moved within one.
+ghost use mathlib.Core.Path.{_≡_};
+ghost use Prim.Native.Nat.{_+_, _<_, _≤_};
+ghost use lib.ListN.{length};
+ghost use Rattle.lists.specs.Equal.{equal};
+ghost use Rattle.lists.specs.Parts.{part, overwrite};
+
+// Whether two strings are equal, a byte at a time.
+fn same_bytes(a: &[u8], b: &[u8]) -> bool
+    requires { ⌜ length (now a) ≡ length (now b) ⌝ }
+    ensures { λ r. ⌜ r ≡ equal (now (a .entry)) (now (b .entry)) ⌝ }
+{
+    let mut i = 0;
+    while i < a.len() {
+        if a[i] != b[i] {
+            return false;
+        }
+        i += 1;
+    }
+    true
+}
+
+// The same, eight bytes at a time; the last eight may have been seen before.
+fn same_words(a: &[u8], b: &[u8]) -> bool
+    requires { ⌜ (length (now a) ≡ length (now b)) × (8 ≤ length (now a)) ⌝ }
+    ensures { λ r. ⌜ r ≡ equal (now (a .entry)) (now (b .entry)) ⌝ }
+{
+    let last = a.len() - 8;
+    let mut i = 0;
+    while i < last {
+        if numbers::u64_at(a, i) != numbers::u64_at(b, i) {
+            return false;
+        }
+        i += 8;
+    }
+    numbers::u64_at(a, last) == numbers::u64_at(b, last)
+}
+
+// The same for four to eight bytes: the first four and the last four.
+fn same_to_8(a: &[u8], b: &[u8]) -> bool
+    requires { ⌜ (length (now a) ≡ length (now b)) × (4 ≤ length (now a)) × (length (now a) ≤ 8) ⌝ }
+    ensures { λ r. ⌜ r ≡ equal (now (a .entry)) (now (b .entry)) ⌝ }
+{
+    let last = a.len() - 4;
+    if numbers::u32_at(a, 0) != numbers::u32_at(b, 0) {
+        return false;
+    }
+    numbers::u32_at(a, last) == numbers::u32_at(b, last)
+}
+
+// The same for eight to sixteen bytes: the first eight and the last eight.
+fn same_to_16(a: &[u8], b: &[u8]) -> bool
+    requires { ⌜ (length (now a) ≡ length (now b)) × (8 ≤ length (now a)) × (length (now a) ≤ 16) ⌝ }
+    ensures { λ r. ⌜ r ≡ equal (now (a .entry)) (now (b .entry)) ⌝ }
+{
+    let last = a.len() - 8;
+    if numbers::u64_at(a, 0) != numbers::u64_at(b, 0) {
+        return false;
+    }
+    numbers::u64_at(a, last) == numbers::u64_at(b, last)
+}
+
+// The same for sixteen to thirty-two bytes: the first sixteen and the last sixteen.
+fn same_to_32(a: &[u8], b: &[u8]) -> bool
+    requires { ⌜ (length (now a) ≡ length (now b)) × (16 ≤ length (now a)) × (length (now a) ≤ 32) ⌝ }
+    ensures { λ r. ⌜ r ≡ equal (now (a .entry)) (now (b .entry)) ⌝ }
+{
+    let third = a.len() - 16;
+    let last = a.len() - 8;
+    if numbers::u64_at(a, 0) != numbers::u64_at(b, 0) {
+        return false;
+    }
+    if numbers::u64_at(a, 8) != numbers::u64_at(b, 8) {
+        return false;
+    }
+    if numbers::u64_at(a, third) != numbers::u64_at(b, third) {
+        return false;
+    }
+    numbers::u64_at(a, last) == numbers::u64_at(b, last)
+}
+
+// Whether two strings are equal.
+pub fn same(a: &[u8], b: &[u8]) -> bool
+    ensures { λ r. ⌜ r ≡ equal (now (a .entry)) (now (b .entry)) ⌝ }
+{
+    let n = a.len();
+    if n != b.len() {
+        return false;
+    }
+    if n < 4 {
+        return same_bytes(a, b);
+    }
+    if n <= 8 {
+        return same_to_8(a, b);
+    }
+    if n <= 16 {
+        return same_to_16(a, b);
+    }
+    if n <= 32 {
+        same_to_32(a, b)
+    } else {
+        same_words(a, b)
+    }
+}
+
+// A block of 128 bytes: read whole, and written whole.
+fn block_at(m: &[u8], at: usize) -> [u8; 128]
+    requires { ⌜ at + 128 ≤ length (now m) ⌝ }
+    ensures { λ r. ⌜ r ≡ part at 128 (now (m .entry)) ⌝ }
+{
+    let mut b: [u8; 128] = [0; 128];
+    let mut i = 0;
+    while i < 128 {
+        b[i] = m[at + i];
+        i += 1;
+    }
+    b
+}
+
+fn put_block(m: &mut [u8], at: usize, b: [u8; 128])
+    requires { ⌜ at + 128 ≤ length (now m) ⌝ }
+    ensures { λ _. ⌜ now (m .exit) ≡ overwrite (now (m .entry)) at b ⌝ }
+{
+    let mut i = 0;
+    while i < 128 {
+        m[at + i] = b[i];
+        i += 1;
+    }
+}
+
+// The same for sixteen bytes.
+fn sixteen_at(m: &[u8], at: usize) -> [u8; 16]
+    requires { ⌜ at + 16 ≤ length (now m) ⌝ }
+    ensures { λ r. ⌜ r ≡ part at 16 (now (m .entry)) ⌝ }
+{
+    let mut b: [u8; 16] = [0; 16];
+    let mut i = 0;
+    while i < 16 {
+        b[i] = m[at + i];
+        i += 1;
+    }
+    b
+}
+
+fn put_sixteen(m: &mut [u8], at: usize, b: [u8; 16])
+    requires { ⌜ at + 16 ≤ length (now m) ⌝ }
+    ensures { λ _. ⌜ now (m .exit) ≡ overwrite (now (m .entry)) at b ⌝ }
+{
+    let mut i = 0;
+    while i < 16 {
+        m[at + i] = b[i];
+        i += 1;
+    }
+}
+
+// x written over the part of m at `at`, a byte at a time.
+fn put_bytes(m: &mut [u8], at: usize, x: &[u8])
+    requires { ⌜ at + length (now x) ≤ length (now m) ⌝ }
+    ensures { λ _. ⌜ now (m .exit) ≡ overwrite (now (m .entry)) at (now (x .entry)) ⌝ }
+{
+    let end = at + x.len();
+    bytes::copy(x, &mut m[at..end]);
+}
+
+// The same for sixteen to thirty-two bytes: the first sixteen and the last sixteen.
+fn put_to_32(m: &mut [u8], at: usize, x: &[u8])
+    requires { ⌜ (at + length (now x) ≤ length (now m)) × (16 ≤ length (now x)) × (length (now x) ≤ 32) ⌝ }
+    ensures { λ _. ⌜ now (m .exit) ≡ overwrite (now (m .entry)) at (now (x .entry)) ⌝ }
+{
+    let last = x.len() - 16;
+    let a = sixteen_at(x, 0);
+    let b = sixteen_at(x, last);
+    put_sixteen(m, at, a);
+    put_sixteen(m, at + last, b);
+}
+
+// The same by blocks, and the rest by bytes.
+fn put_blocks(m: &mut [u8], at: usize, x: &[u8])
+    requires { ⌜ at + length (now x) ≤ length (now m) ⌝ }
+    ensures { λ _. ⌜ now (m .exit) ≡ overwrite (now (m .entry)) at (now (x .entry)) ⌝ }
+{
+    let mut i = 0;
+    while 128 <= x.len() - i {
+        let b = block_at(x, i);
+        put_block(m, at + i, b);
+        i += 128;
+    }
+    put_bytes(m, at + i, &x[i..]);
+}
+
+// x written over the part of m at `at`.
+pub fn put(m: &mut [u8], at: usize, x: &[u8])
+    requires { ⌜ at + length (now x) ≤ length (now m) ⌝ }
+    ensures { λ _. ⌜ now (m .exit) ≡ overwrite (now (m .entry)) at (now (x .entry)) ⌝ }
+{
+    let n = x.len();
+    if n < 16 {
+        put_bytes(m, at, x);
+    } else if n < 33 {
+        put_to_32(m, at, x);
+    } else {
+        put_blocks(m, at, x);
+    }
+}
+
+fn bytes_down(m: &mut [u8], from: usize, to: usize, n: usize)
+    requires { ⌜ (to ≤ from) × (from + n ≤ length (now m)) ⌝ }
+    ensures { λ _. ⌜ now (m .exit) ≡ overwrite (now (m .entry)) to (part from n (now (m .entry))) ⌝ }
+{
+    let mut i = 0;
+    while i < n {
+        m[to + i] = m[from + i];
+        i += 1;
+    }
+}
+
+fn shift_down(m: &mut [u8], from: usize, to: usize, n: usize)
+    requires { ⌜ (to ≤ from) × (from + n ≤ length (now m)) ⌝ }
+    ensures { λ _. ⌜ now (m .exit) ≡ overwrite (now (m .entry)) to (part from n (now (m .entry))) ⌝ }
+{
+    let mut i = 0;
+    while 128 <= n - i {
+        let b = block_at(m, from + i);
+        put_block(m, to + i, b);
+        i += 128;
+    }
+    bytes_down(m, from + i, to + i, n - i);
+}
+
+fn bytes_up(m: &mut [u8], from: usize, to: usize, n: usize)
+    requires { ⌜ (from ≤ to) × (to + n ≤ length (now m)) ⌝ }
+    ensures { λ _. ⌜ now (m .exit) ≡ overwrite (now (m .entry)) to (part from n (now (m .entry))) ⌝ }
+{
+    let mut i = n;
+    while 0 < i {
+        i -= 1;
+        m[to + i] = m[from + i];
+    }
+}
+
+fn shift_up(m: &mut [u8], from: usize, to: usize, n: usize)
+    requires { ⌜ (from ≤ to) × (to + n ≤ length (now m)) ⌝ }
+    ensures { λ _. ⌜ now (m .exit) ≡ overwrite (now (m .entry)) to (part from n (now (m .entry))) ⌝ }
+{
+    let mut i = n;
+    while 128 <= i {
+        i -= 128;
+        let b = block_at(m, from + i);
+        put_block(m, to + i, b);
+    }
+    bytes_up(m, from, to, i);
+}
+
+// n bytes of m moved from one place to another; the two may overlap.
+pub fn shift(m: &mut [u8], from: usize, to: usize, n: usize)
+    requires { ⌜ (from + n ≤ length (now m)) × (to + n ≤ length (now m)) ⌝ }
+    ensures { λ _. ⌜ now (m .exit) ≡ overwrite (now (m .entry)) to (part from n (now (m .entry))) ⌝ }
+{
+    if to <= from {
+        shift_down(m, from, to, n);
+    } else {
+        shift_up(m, from, to, n);
+    }
+}

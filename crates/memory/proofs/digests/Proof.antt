@@ -1,0 +1,37 @@
+-- `memory::digests` meets its contract. Assumes nothing.
+use Prim.Native.Nat.{_*_}
+use mathlib.Core.Path.{sym}
+use native.Mathlib.Nat.{add-sub-cancel-left}
+use native.Mathlib.Omega.{arith}
+use Rattle.lists.specs.Parts.{part}
+use Rattle.lists.specs.PartLaws.{length-part}
+use Rattle.memory.specs.Layout.{digestsAt, digestWidth}
+use Rattle.memory.specs.FlatLaws.{flat-digests}
+use borrow.Author.Needs.{needs}
+use Rattle.memory.proofs.digests.Statement.{statement}
+use Rattle.memory.proofs.digests.Tie as tie
+
+mul-end : tie.Need-mul-end
+mul-end c = search needs
+
+add-end : tie.Need-add-end
+add-end c = search needs
+
+sub-result : tie.Need-sub-result
+sub-result c = search needs
+
+part-result-start : tie.Need-part-result-start
+part-result-start c = search needs
+
+part-result-end : tie.Need-part-result-end
+part-result-end c = search needs
+
+returns : tie.Need-returns
+unfolding part
+returns c =
+    let a = c .before .args in
+    rw add-sub-cancel-left (sym (flat-digests (a .m .now) (a .n) (omega arith) (omega arith)), length-part digestsAt (a .n * digestWidth) (a .m .now) (omega arith))
+
+pub digests-spec : {M : Type 1} → statement M
+digests-spec =
+    tie.close (tie.spec mul-end add-end sub-result part-result-start part-result-end returns)

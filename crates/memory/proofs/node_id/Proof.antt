@@ -1,0 +1,32 @@
+-- `memory::node_id` meets its contract. Assumes nothing.
+use native.Mathlib.Omega.{arith}
+use Prim.Native.Nat.{_+_, _*_}
+use mathlib.Core.Path.{sym, ap, _∙_}
+use Rattle.filesystem.specs.Tables.{Node}
+use Rattle.memory.specs.Records.{field, nodeOf, nodeWidth}
+use Rattle.memory.specs.RecordLaws.{field-part}
+use Rattle.memory.specs.Layout.{nodesAt}
+use Rattle.memory.specs.MemLaws.{node-at}
+use native.Mathlib.Nat.{add-zero}
+use borrow.Author.Needs.{needs}
+use Rattle.memory.proofs.node_id.Statement.{statement}
+use Rattle.memory.proofs.node_id.Tie as tie
+
+mul-u64-at : tie.Need-mul-u64-at
+mul-u64-at c = search needs
+
+add-u64-at : tie.Need-add-u64-at
+add-u64-at c = search needs
+
+u64-at-requires : tie.Need-u64-at-requires
+u64-at-requires c κs = search needs
+
+returns : tie.Need-returns
+unfolding nodeOf field
+returns c =
+    let a = c .before .before .args in
+    c .u64-at .ensures
+    ∙ sym (ap (λ (n : Node). n .id) (node-at (a .m .now) (a .i) (omega arith)) ∙ field-part (nodesAt + a .i * nodeWidth) nodeWidth 0 8 (a .m .now) (omega arith) ∙ rw (add-zero (nodesAt + a .i * nodeWidth)))
+
+pub node-id-spec : {M : Type 1} → statement M
+node-id-spec = tie.close (tie.spec mul-u64-at add-u64-at u64-at-requires returns)

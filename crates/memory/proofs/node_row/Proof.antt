@@ -1,0 +1,54 @@
+-- `memory::node_row` meets its contract. Assumes nothing.
+use native.Mathlib.Omega.{arith}
+use Prim.Native.Nat.{ℕ}
+use mathlib.Core.Path.{ap, _∙_}
+use mathlib.Core.List.{List}
+use Rattle.lists.specs.Parts.{overwrite}
+use Rattle.memory.specs.Records.{nodeOf}
+use lib.ListN.{replicate}
+use Rattle.memory.specs.RecordLaws.{written-node}
+use borrow.Author.Needs.{needs}
+use Rattle.memory.proofs.node_row.Statement.{statement}
+use Rattle.memory.proofs.node_row.Tie as tie
+
+cast-node-front : tie.Need-cast-node-front
+cast-node-front c = search needs
+
+node-front-requires : tie.Need-node-front-requires
+node-front-requires c κs = search needs
+
+slice-aggregate-put : tie.Need-slice-aggregate-put
+slice-aggregate-put c = search needs
+
+slice-aggregate-put-2 : tie.Need-slice-aggregate-put-2
+slice-aggregate-put-2 c = search needs
+
+put-requires : tie.Need-put-requires
+put-requires c κs = search needs
+
+slice-aggregate-put-3 : tie.Need-slice-aggregate-put-3
+slice-aggregate-put-3 c = search needs
+
+put-requires-2 : tie.Need-put-requires-2
+put-requires-2 c κs = search needs
+
+returns : tie.Need-returns
+returns c =
+    let a = c .before .before .before .before .before .before .before .before .before .args in
+    let s = a .name .now in
+    let e = c .before .before .before .before .put .ensures ∙ ap (overwrite (replicate 56 0) 0) (c .before .before .before .before .before .before .before .node-front .ensures) in
+    ap nodeOf (c .before .put2 .ensures ∙ ap (λ (r : List ℕ). overwrite r 23 s) e)
+    ∙ written-node (a .id) (a .parent) (a .kind) (a .mode) (a .size) s (replicate 56 0) (omega arith) (omega arith) (omega arith) (omega arith)
+
+pub node-row-spec : {M : Type 1} → statement M
+node-row-spec =
+    tie.close
+    (tie.spec
+    cast-node-front
+    node-front-requires
+    slice-aggregate-put
+    slice-aggregate-put-2
+    put-requires
+    slice-aggregate-put-3
+    put-requires-2
+    returns)

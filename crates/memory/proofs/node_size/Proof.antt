@@ -1,0 +1,34 @@
+-- `memory::node_size` meets its contract. Assumes nothing.
+use native.Mathlib.Omega.{arith}
+use Prim.Native.Nat.{_+_, _*_}
+use mathlib.Core.Path.{sym, ap, _∙_}
+use Rattle.filesystem.specs.Tables.{Node}
+use Rattle.memory.specs.Records.{field, nodeOf, nodeWidth}
+use Rattle.memory.specs.RecordLaws.{field-part}
+use Rattle.memory.specs.Layout.{nodesAt}
+use Rattle.memory.specs.MemLaws.{node-at}
+use borrow.Author.Needs.{needs}
+use Rattle.memory.proofs.node_size.Statement.{statement}
+use Rattle.memory.proofs.node_size.Tie as tie
+
+mul-u32-at : tie.Need-mul-u32-at
+mul-u32-at c = search needs
+
+add-u32-at : tie.Need-add-u32-at
+add-u32-at c = search needs
+
+add-u32-at-2 : tie.Need-add-u32-at-2
+add-u32-at-2 c = search needs
+
+u32-at-requires : tie.Need-u32-at-requires
+u32-at-requires c κs = search needs
+
+returns : tie.Need-returns
+unfolding nodeOf field
+returns c =
+    let a = c .before .before .args in
+    c .u32-at .ensures
+    ∙ sym (ap (λ (n : Node). n .size) (node-at (a .m .now) (a .i) (omega arith)) ∙ field-part (nodesAt + a .i * nodeWidth) nodeWidth 18 4 (a .m .now) (omega arith))
+
+pub node-size-spec : {M : Type 1} → statement M
+node-size-spec = tie.close (tie.spec mul-u32-at add-u32-at add-u32-at-2 u32-at-requires returns)

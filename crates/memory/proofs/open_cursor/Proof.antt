@@ -1,0 +1,34 @@
+-- `memory::open_cursor` meets its contract. Assumes nothing.
+use native.Mathlib.Omega.{arith}
+use Prim.Native.Nat.{_+_, _*_}
+use mathlib.Core.Path.{sym, ap, _∙_}
+use Rattle.filesystem.specs.Tables.{OpenFile}
+use Rattle.memory.specs.Records.{field, openOf, openWidth}
+use Rattle.memory.specs.RecordLaws.{field-part}
+use Rattle.memory.specs.Layout.{opensAt}
+use Rattle.memory.specs.MemLaws.{open-at}
+use borrow.Author.Needs.{needs}
+use Rattle.memory.proofs.open_cursor.Statement.{statement}
+use Rattle.memory.proofs.open_cursor.Tie as tie
+
+mul-u32-at : tie.Need-mul-u32-at
+mul-u32-at c = search needs
+
+add-u32-at : tie.Need-add-u32-at
+add-u32-at c = search needs
+
+add-u32-at-2 : tie.Need-add-u32-at-2
+add-u32-at-2 c = search needs
+
+u32-at-requires : tie.Need-u32-at-requires
+u32-at-requires c κs = search needs
+
+returns : tie.Need-returns
+unfolding openOf field
+returns c =
+    let a = c .before .before .args in
+    c .u32-at .ensures
+    ∙ sym (ap (λ (n : OpenFile). n .cursor) (open-at (a .m .now) (a .i) (omega arith)) ∙ field-part (opensAt + a .i * openWidth) openWidth 16 4 (a .m .now) (omega arith))
+
+pub open-cursor-spec : {M : Type 1} → statement M
+open-cursor-spec = tie.close (tie.spec mul-u32-at add-u32-at add-u32-at-2 u32-at-requires returns)

@@ -1,0 +1,26 @@
+-- `memory::stage` meets its contract. Assumes nothing.
+use native.Mathlib.Omega.{arith}
+use mathlib.Core.Path.{ap, _∙_}
+use Rattle.memory.specs.Layout.{memOf}
+use Rattle.memory.specs.MemLaws.{mem-staged}
+use borrow.Author.Needs.{needs}
+use Rattle.memory.proofs.stage.Statement.{statement}
+use Rattle.memory.proofs.stage.Tie as tie
+
+add-put : tie.Need-add-put
+add-put c = search needs
+
+put-requires : tie.Need-put-requires
+put-requires c κs = search needs
+
+same-length : tie.Need-same-length
+same-length c = search needs
+
+returns : tie.Need-returns
+returns c =
+    let a = c .before .before .before .before .before .before .args in
+    let e = c .before .before .put .ensures in
+    (ap memOf e ∙ mem-staged (a .m .now) (a .x .now) (omega arith) (a .at) (omega arith), omega arith)
+
+pub stage-spec : {M : Type 1} → statement M
+stage-spec = tie.close (tie.spec add-put put-requires same-length returns)

@@ -1,0 +1,37 @@
+-- `memory::staged` meets its contract. Assumes nothing.
+use native.Mathlib.Omega.{arith}
+use Prim.Native.Nat.{_+_}
+use mathlib.Core.Path.{sym}
+use Rattle.lists.specs.Parts.{part}
+use Rattle.memory.specs.Layout.{stagingAt}
+use Rattle.memory.specs.MemLaws.{staged-at}
+use native.Mathlib.Nat.{add-sub-cancel-left}
+use Rattle.lists.specs.PartLaws.{length-part}
+use borrow.Author.Needs.{needs}
+use Rattle.memory.proofs.staged.Statement.{statement}
+use Rattle.memory.proofs.staged.Tie as tie
+
+add-start : tie.Need-add-start
+add-start c = search needs
+
+add-end : tie.Need-add-end
+add-end c = search needs
+
+sub-result : tie.Need-sub-result
+sub-result c = search needs
+
+part-result-start : tie.Need-part-result-start
+part-result-start c = search needs
+
+part-result-end : tie.Need-part-result-end
+part-result-end c = search needs
+
+returns : tie.Need-returns
+unfolding part
+returns c =
+    let a = c .before .args in
+    rw add-sub-cancel-left (sym (staged-at (a .m .now) (a .at) (a .n) (omega arith)), length-part (stagingAt + a .at) (a .n) (a .m .now) (omega arith))
+
+pub staged-spec : {M : Type 1} → statement M
+staged-spec =
+    tie.close (tie.spec add-start add-end sub-result part-result-start part-result-end returns)

@@ -1,0 +1,82 @@
+-- The guard's memory as tables: the areas in which its bytes are laid out, and what stands in each.
+-- Assumes nothing.
+use Prim.Native.Nat.{ℕ, _+_, _*_}
+use mathlib.Core.List.{List, [], _∷_}
+use lib.ListN.{getD}
+use Rattle.lists.specs.LittleEndian.{decode}
+use Rattle.lists.specs.Areas.{total, areas}
+use Rattle.lists.specs.Rows.{table}
+use Rattle.filesystem.specs.Tables.{Node, OpenFile, NODES, OPEN-FILES, PAGES}
+use Rattle.memory.specs.Records.{nodeOf, nodeWidth, openOf, openWidth}
+
+-- the header: numbers of 8 bytes
+abbrev pub headNumbers : ℕ
+headNumbers = 16
+
+abbrev pub digestWidth : ℕ
+digestWidth = 32
+
+-- the staging area: a pending call's data, then new digests
+abbrev pub dataSize : ℕ
+dataSize = 4096
+
+abbrev pub newDigests : ℕ
+newDigests = 8
+
+abbrev pub stagingSize : ℕ
+stagingSize = dataSize + newDigests * digestWidth
+
+-- header, nodes, open files, digests, staging area, one behind the other
+abbrev pub areaSizes : List ℕ
+areaSizes = headNumbers * 8 ∷ NODES * nodeWidth ∷ OPEN-FILES * openWidth ∷ PAGES * digestWidth ∷ stagingSize ∷ []
+
+-- the least length of the slice that is the guard
+abbrev pub memorySize : ℕ
+memorySize = total areaSizes
+
+-- where each area begins
+abbrev pub nodesAt : ℕ
+nodesAt = headNumbers * 8
+
+abbrev pub opensAt : ℕ
+opensAt = nodesAt + NODES * nodeWidth
+
+abbrev pub digestsAt : ℕ
+digestsAt = opensAt + OPEN-FILES * openWidth
+
+abbrev pub stagingAt : ℕ
+stagingAt = digestsAt + PAGES * digestWidth
+
+pub record Mem : Type 0 where
+  pub head : List ℕ
+  pub nodes : List Node
+  pub opens : List OpenFile
+  pub digests : List (List ℕ)
+  pub staged : List ℕ
+
+unfoldable pub memFrom : List (List ℕ) → Mem
+memFrom a = record {
+  head = table decode 8 headNumbers (getD a 0 []);
+  nodes = table nodeOf nodeWidth NODES (getD a 1 []);
+  opens = table openOf openWidth OPEN-FILES (getD a 2 []);
+  digests = table (λ r. r) digestWidth PAGES (getD a 3 []);
+  staged = getD a 4 [];
+}
+
+unfoldable pub memOf : List ℕ → Mem
+memOf m = memFrom (areas 0 areaSizes m)
+
+abbrev pub withHead : List ℕ → Mem → Mem
+withHead x s = record { head = x; nodes = s .nodes; opens = s .opens; digests = s .digests; staged = s .staged }
+
+abbrev pub withNodes : List Node → Mem → Mem
+withNodes x s = record { head = s .head; nodes = x; opens = s .opens; digests = s .digests; staged = s .staged }
+
+abbrev pub withOpens : List OpenFile → Mem → Mem
+withOpens x s = record { head = s .head; nodes = s .nodes; opens = x; digests = s .digests; staged = s .staged }
+
+abbrev pub withDigests : List (List ℕ) → Mem → Mem
+withDigests x s = record { head = s .head; nodes = s .nodes; opens = s .opens; digests = x; staged = s .staged }
+
+abbrev pub withStaged : List ℕ → Mem → Mem
+withStaged x s = record { head = s .head; nodes = s .nodes; opens = s .opens; digests = s .digests; staged = x }

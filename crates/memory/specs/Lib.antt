@@ -1,0 +1,5 @@
+pub mod Records
+pub mod RecordLaws
+pub mod Layout
+pub mod MemLaws
+pub mod FlatLaws

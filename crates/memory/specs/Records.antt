@@ -1,0 +1,48 @@
+-- A row of bytes as a record: where each field of a node and of an open file stands.
+-- Assumes nothing.
+use Prim.Native.Nat.{ℕ, _-_, _%_}
+use mathlib.Core.List.{List, [], _∷_, _++_}
+use lib.ListN.{length, replicate}
+use Rattle.lists.specs.LittleEndian.{encode, decode}
+use Rattle.lists.specs.Parts.{part, overwrite}
+use Rattle.filesystem.specs.Tables.{Node, OpenFile}
+
+-- the number in w bytes from `at`
+unfoldable pub field : ℕ → ℕ → List ℕ → ℕ
+field at w r = decode (part at w r)
+
+-- a row with another number there
+unfoldable pub setField : ℕ → ℕ → ℕ → List ℕ → List ℕ
+setField at w x r = overwrite r at (encode w x)
+
+-- Nodes: rows of 56 bytes, the last one spare.
+abbrev pub nodeWidth : ℕ
+nodeWidth = 56
+
+-- a name has at most 32 bytes, whatever its length byte holds
+unfoldable pub rowName : List ℕ → List ℕ
+rowName r = part 23 (field 22 1 r % 33) r
+
+unfoldable pub nodeOf : List ℕ → Node
+nodeOf r = record { id = field 0 8 r; parent = field 8 8 r; kind = field 16 1 r; mode = field 17 1 r; size = field 18 4 r; name = rowName r }
+
+-- a node's row up to its name, with the name's length n
+unfoldable pub nodeFront : (id parent kind mode size n : ℕ) → List ℕ
+nodeFront id parent kind mode size n = encode 8 id ++ (encode 8 parent ++ (kind ∷ mode ∷ (encode 4 size ++ (n ∷ []))))
+
+unfoldable pub nodeRow : Node → List ℕ
+nodeRow n = nodeFront (n .id) (n .parent) (n .kind) (n .mode) (n .size) (length (n .name)) ++ (n .name ++ replicate (33 - length (n .name)) 0)
+
+-- Open files: rows of 24 bytes, 13 to 15 and the last four spare.
+abbrev pub openWidth : ℕ
+openWidth = 24
+
+unfoldable pub openOf : List ℕ → OpenFile
+openOf r = record { handle = field 0 8 r; descriptor = field 8 4 r; rights = field 12 1 r; cursor = field 16 4 r }
+
+unfoldable pub openRow : OpenFile → List ℕ
+openRow o =
+    encode 8 (o .handle)
+    ++ (encode 4 (o .descriptor)
+    ++ (o .rights ∷ 0 ∷ 0 ∷ 0 ∷ (encode 4 (o .cursor)
+    ++ (0 ∷ 0 ∷ 0 ∷ 0 ∷ []))))

@@ -1,0 +1,397 @@
+// The guard's memory: one slice that the caller lends holds all of it. Only this crate knows where a table stands
+// (specs/Layout.antt) and where a field stands in its row (specs/Records.antt). Contracts are over the view `memOf`.
+ghost use mathlib.Core.Path.{_≡_};
+ghost use mathlib.Core.List.{List, []};
+ghost use Prim.Native.Nat.{_+_, _*_, _%_, _<_, _≤_};
+ghost use lib.ListN.{length, getD, take, set};
+ghost use Rattle.lists.specs.Parts.{part, overwrite};
+ghost use Rattle.lists.specs.Rows.{rows};
+ghost use Rattle.lists.specs.Form.{put-all, bytes};
+ghost use Rattle.filesystem.specs.Tables.{NODES, OPEN-FILES, PAGES, nodeAt, openAt, isChild, newNode, newOpenFile, withSize, withCursor, setMode, setSize, setCursor};
+ghost use Rattle.memory.specs.Records.{nodeFront, nodeOf, openOf};
+ghost use Rattle.memory.specs.Layout.{Mem, memOf, memorySize, headNumbers, digestWidth, dataSize, newDigests, stagingSize, withHead, withNodes, withOpens, withDigests, withStaged};
+
+// The length that the slice needs; `least_length` says that contracts mean the same by `memorySize`.
+pub const SIZE: usize = 52352;
+
+const NODES_AT: usize = 128;
+
+const NODE_WIDTH: usize = 56;
+
+const OPENS_AT: usize = 14464;
+
+const OPEN_WIDTH: usize = 24;
+
+const DIGESTS_AT: usize = 15232;
+
+const DIGEST_WIDTH: usize = 32;
+
+const STAGING_AT: usize = 48000;
+
+const DATA_SIZE: usize = 4096;
+
+pub fn least_length() -> usize
+    ensures { λ r. ⌜ r ≡ memorySize ⌝ }
+{
+    SIZE
+}
+
+// ---- the header
+
+// Number k of the header.
+pub fn head(m: &[u8], k: usize) -> u64
+    requires { ⌜ (k < headNumbers) × (memorySize ≤ length (now m)) ⌝ }
+    ensures { λ r. ⌜ r ≡ getD (memOf (now (m .entry)) .head) k 0 ⌝ }
+{
+    numbers::u64_at(m, k * 8)
+}
+
+pub fn put_head(m: &mut [u8], k: usize, x: u64)
+    requires { ⌜ (k < headNumbers) × (memorySize ≤ length (now m)) ⌝ }
+    ensures { λ _. ⌜ memOf (now (m .exit)) ≡ withHead (set (memOf (now (m .entry)) .head) k x) (memOf (now (m .entry))) ⌝ }
+    ensures { λ _. ⌜ length (now (m .exit)) ≡ length (now (m .entry)) ⌝ }
+{
+    let b = numbers::bytes8(x);
+    buffers::put(m, k * 8, &b);
+}
+
+// ---- nodes
+
+pub fn node_id(m: &[u8], i: usize) -> u64
+    requires { ⌜ (i < NODES) × (memorySize ≤ length (now m)) ⌝ }
+    ensures { λ r. ⌜ r ≡ nodeAt (memOf (now (m .entry)) .nodes) i .id ⌝ }
+{
+    numbers::u64_at(m, NODES_AT + i * NODE_WIDTH)
+}
+
+pub fn node_parent(m: &[u8], i: usize) -> u64
+    requires { ⌜ (i < NODES) × (memorySize ≤ length (now m)) ⌝ }
+    ensures { λ r. ⌜ r ≡ nodeAt (memOf (now (m .entry)) .nodes) i .parent ⌝ }
+{
+    numbers::u64_at(m, NODES_AT + i * NODE_WIDTH + 8)
+}
+
+pub fn node_kind(m: &[u8], i: usize) -> u8
+    requires { ⌜ (i < NODES) × (memorySize ≤ length (now m)) ⌝ }
+    ensures { λ r. ⌜ r ≡ nodeAt (memOf (now (m .entry)) .nodes) i .kind ⌝ }
+{
+    m[NODES_AT + i * NODE_WIDTH + 16]
+}
+
+pub fn node_mode(m: &[u8], i: usize) -> u8
+    requires { ⌜ (i < NODES) × (memorySize ≤ length (now m)) ⌝ }
+    ensures { λ r. ⌜ r ≡ nodeAt (memOf (now (m .entry)) .nodes) i .mode ⌝ }
+{
+    m[NODES_AT + i * NODE_WIDTH + 17]
+}
+
+pub fn node_size(m: &[u8], i: usize) -> u32
+    requires { ⌜ (i < NODES) × (memorySize ≤ length (now m)) ⌝ }
+    ensures { λ r. ⌜ r ≡ nodeAt (memOf (now (m .entry)) .nodes) i .size ⌝ }
+{
+    numbers::u32_at(m, NODES_AT + i * NODE_WIDTH + 18)
+}
+
+// A length byte as a length: at most 32, whatever the byte holds.
+fn name_length(b: u8) -> usize
+    ensures { λ r. ⌜ r ≡ b % 33 ⌝ }
+{
+    if b < 33 {
+        return b as usize;
+    }
+    (b % 33) as usize
+}
+
+pub fn node_name(m: &[u8], i: usize) -> &[u8]
+    requires { ⌜ (i < NODES) × (memorySize ≤ length (now m)) ⌝ }
+    ensures { λ r. ⌜ (now r ≡ nodeAt (memOf (now (m .entry)) .nodes) i .name) × (length (now r) ≤ 32) ⌝ }
+{
+    let at = NODES_AT + i * NODE_WIDTH;
+    let n = name_length(m[at + 22]);
+    let start = at + 23;
+    let end = start + n;
+    &m[start..end]
+}
+
+// Whether node i has this parent and this name.
+pub fn is_child(m: &[u8], i: usize, parent: u64, name: &[u8]) -> bool
+    requires { ⌜ (i < NODES) × (memorySize ≤ length (now m)) ⌝ }
+    ensures { λ r. ⌜ r ≡ isChild parent (now (name .entry)) (nodeAt (memOf (now (m .entry)) .nodes) i) ⌝ }
+{
+    if node_parent(m, i) != parent {
+        return false;
+    }
+    buffers::same(node_name(m, i), name)
+}
+
+// A node's row up to its name.
+fn node_front(id: u64, parent: u64, kind: u8, mode: u8, size: u32, n: u8) -> [u8; 23]
+    ensures { λ r. ⌜ r ≡ nodeFront id parent kind mode size n ⌝ }
+{
+    let a = numbers::bytes8(id);
+    let b = numbers::bytes8(parent);
+    let s = numbers::bytes4(size);
+    [
+        a[0],
+        a[1],
+        a[2],
+        a[3],
+        a[4],
+        a[5],
+        a[6],
+        a[7],
+        b[0],
+        b[1],
+        b[2],
+        b[3],
+        b[4],
+        b[5],
+        b[6],
+        b[7],
+        kind,
+        mode,
+        s[0],
+        s[1],
+        s[2],
+        s[3],
+        n,
+    ]
+}
+
+// A node's row.
+pub fn node_row(id: u64, parent: u64, kind: u8, mode: u8, size: u32, name: &[u8]) -> [u8; 56]
+    requires { ⌜ length (now name) ≤ 32 ⌝ }
+    ensures { λ r. ⌜ nodeOf r ≡ withSize size (newNode id parent kind mode (now (name .entry))) ⌝ }
+{
+    let front = node_front(id, parent, kind, mode, size, name.len() as u8);
+    let mut r = [0u8; 56];
+    buffers::put(&mut r, 0, &front);
+    buffers::put(&mut r, 23, name);
+    r
+}
+
+pub fn put_node(m: &mut [u8], i: usize, row: [u8; 56])
+    requires { ⌜ (i < NODES) × (memorySize ≤ length (now m)) ⌝ }
+    ensures { λ _. ⌜ memOf (now (m .exit)) ≡ withNodes (set (memOf (now (m .entry)) .nodes) i (nodeOf row)) (memOf (now (m .entry))) ⌝ }
+    ensures { λ _. ⌜ length (now (m .exit)) ≡ length (now (m .entry)) ⌝ }
+{
+    buffers::put(m, NODES_AT + i * NODE_WIDTH, &row);
+}
+
+pub fn set_mode(m: &mut [u8], i: usize, mode: u8)
+    requires { ⌜ (i < NODES) × (memorySize ≤ length (now m)) ⌝ }
+    ensures { λ _. ⌜ memOf (now (m .exit)) ≡ withNodes (setMode (memOf (now (m .entry)) .nodes) i mode) (memOf (now (m .entry))) ⌝ }
+    ensures { λ _. ⌜ length (now (m .exit)) ≡ length (now (m .entry)) ⌝ }
+{
+    m[NODES_AT + i * NODE_WIDTH + 17] = mode;
+}
+
+pub fn set_size(m: &mut [u8], i: usize, size: u32)
+    requires { ⌜ (i < NODES) × (memorySize ≤ length (now m)) ⌝ }
+    ensures { λ _. ⌜ memOf (now (m .exit)) ≡ withNodes (setSize (memOf (now (m .entry)) .nodes) i size) (memOf (now (m .entry))) ⌝ }
+    ensures { λ _. ⌜ length (now (m .exit)) ≡ length (now (m .entry)) ⌝ }
+{
+    let b = numbers::bytes4(size);
+    buffers::put(m, NODES_AT + i * NODE_WIDTH + 18, &b);
+}
+
+pub fn move_nodes(m: &mut [u8], from: usize, to: usize, n: usize)
+    requires { ⌜ (from + n ≤ NODES) × (to + n ≤ NODES) × (memorySize ≤ length (now m)) ⌝ }
+    ensures { λ _. ⌜ memOf (now (m .exit)) ≡ withNodes (overwrite (memOf (now (m .entry)) .nodes) to (part from n (memOf (now (m .entry)) .nodes))) (memOf (now (m .entry))) ⌝ }
+    ensures { λ _. ⌜ length (now (m .exit)) ≡ length (now (m .entry)) ⌝ }
+{
+    buffers::shift(
+        m,
+        NODES_AT + from * NODE_WIDTH,
+        NODES_AT + to * NODE_WIDTH,
+        n * NODE_WIDTH,
+    );
+}
+
+// ---- open files
+
+pub fn open_handle(m: &[u8], i: usize) -> u64
+    requires { ⌜ (i < OPEN-FILES) × (memorySize ≤ length (now m)) ⌝ }
+    ensures { λ r. ⌜ r ≡ openAt (memOf (now (m .entry)) .opens) i .handle ⌝ }
+{
+    numbers::u64_at(m, OPENS_AT + i * OPEN_WIDTH)
+}
+
+pub fn open_descriptor(m: &[u8], i: usize) -> u32
+    requires { ⌜ (i < OPEN-FILES) × (memorySize ≤ length (now m)) ⌝ }
+    ensures { λ r. ⌜ r ≡ openAt (memOf (now (m .entry)) .opens) i .descriptor ⌝ }
+{
+    numbers::u32_at(m, OPENS_AT + i * OPEN_WIDTH + 8)
+}
+
+pub fn open_rights(m: &[u8], i: usize) -> u8
+    requires { ⌜ (i < OPEN-FILES) × (memorySize ≤ length (now m)) ⌝ }
+    ensures { λ r. ⌜ r ≡ openAt (memOf (now (m .entry)) .opens) i .rights ⌝ }
+{
+    m[OPENS_AT + i * OPEN_WIDTH + 12]
+}
+
+pub fn open_cursor(m: &[u8], i: usize) -> u32
+    requires { ⌜ (i < OPEN-FILES) × (memorySize ≤ length (now m)) ⌝ }
+    ensures { λ r. ⌜ r ≡ openAt (memOf (now (m .entry)) .opens) i .cursor ⌝ }
+{
+    numbers::u32_at(m, OPENS_AT + i * OPEN_WIDTH + 16)
+}
+
+// An open file's row.
+pub fn open_row(handle: u64, descriptor: u32, rights: u8, cursor: u32) -> [u8; 24]
+    ensures { λ r. ⌜ openOf r ≡ withCursor cursor (newOpenFile handle descriptor rights) ⌝ }
+{
+    let h = numbers::bytes8(handle);
+    let d = numbers::bytes4(descriptor);
+    let c = numbers::bytes4(cursor);
+    [
+        h[0],
+        h[1],
+        h[2],
+        h[3],
+        h[4],
+        h[5],
+        h[6],
+        h[7],
+        d[0],
+        d[1],
+        d[2],
+        d[3],
+        rights,
+        0,
+        0,
+        0,
+        c[0],
+        c[1],
+        c[2],
+        c[3],
+        0,
+        0,
+        0,
+        0,
+    ]
+}
+
+pub fn put_open(m: &mut [u8], i: usize, row: [u8; 24])
+    requires { ⌜ (i < OPEN-FILES) × (memorySize ≤ length (now m)) ⌝ }
+    ensures { λ _. ⌜ memOf (now (m .exit)) ≡ withOpens (set (memOf (now (m .entry)) .opens) i (openOf row)) (memOf (now (m .entry))) ⌝ }
+    ensures { λ _. ⌜ length (now (m .exit)) ≡ length (now (m .entry)) ⌝ }
+{
+    buffers::put(m, OPENS_AT + i * OPEN_WIDTH, &row);
+}
+
+pub fn set_cursor(m: &mut [u8], i: usize, cursor: u32)
+    requires { ⌜ (i < OPEN-FILES) × (memorySize ≤ length (now m)) ⌝ }
+    ensures { λ _. ⌜ memOf (now (m .exit)) ≡ withOpens (setCursor (memOf (now (m .entry)) .opens) i cursor) (memOf (now (m .entry))) ⌝ }
+    ensures { λ _. ⌜ length (now (m .exit)) ≡ length (now (m .entry)) ⌝ }
+{
+    let b = numbers::bytes4(cursor);
+    buffers::put(m, OPENS_AT + i * OPEN_WIDTH + 16, &b);
+}
+
+pub fn move_opens(m: &mut [u8], from: usize, to: usize, n: usize)
+    requires { ⌜ (from + n ≤ OPEN-FILES) × (to + n ≤ OPEN-FILES) × (memorySize ≤ length (now m)) ⌝ }
+    ensures { λ _. ⌜ memOf (now (m .exit)) ≡ withOpens (overwrite (memOf (now (m .entry)) .opens) to (part from n (memOf (now (m .entry)) .opens))) (memOf (now (m .entry))) ⌝ }
+    ensures { λ _. ⌜ length (now (m .exit)) ≡ length (now (m .entry)) ⌝ }
+{
+    buffers::shift(
+        m,
+        OPENS_AT + from * OPEN_WIDTH,
+        OPENS_AT + to * OPEN_WIDTH,
+        n * OPEN_WIDTH,
+    );
+}
+
+// ---- digests
+
+pub fn digest(m: &[u8], k: usize) -> &[u8]
+    requires { ⌜ (k < PAGES) × (memorySize ≤ length (now m)) ⌝ }
+    ensures { λ r. ⌜ (now r ≡ getD (memOf (now (m .entry)) .digests) k []) × (length (now r) ≡ 32) ⌝ }
+{
+    let at = DIGESTS_AT + k * DIGEST_WIDTH;
+    let end = at + DIGEST_WIDTH;
+    &m[at..end]
+}
+
+pub fn put_digest(m: &mut [u8], k: usize, x: [u8; 32])
+    requires { ⌜ (k < PAGES) × (memorySize ≤ length (now m)) ⌝ }
+    ensures { λ _. ⌜ memOf (now (m .exit)) ≡ withDigests (set (memOf (now (m .entry)) .digests) k x) (memOf (now (m .entry))) ⌝ }
+    ensures { λ _. ⌜ length (now (m .exit)) ≡ length (now (m .entry)) ⌝ }
+{
+    buffers::put(m, DIGESTS_AT + k * DIGEST_WIDTH, &x);
+}
+
+pub fn move_digests(m: &mut [u8], from: usize, to: usize, n: usize)
+    requires { ⌜ (from + n ≤ PAGES) × (to + n ≤ PAGES) × (memorySize ≤ length (now m)) ⌝ }
+    ensures { λ _. ⌜ memOf (now (m .exit)) ≡ withDigests (overwrite (memOf (now (m .entry)) .digests) to (part from n (memOf (now (m .entry)) .digests))) (memOf (now (m .entry))) ⌝ }
+    ensures { λ _. ⌜ length (now (m .exit)) ≡ length (now (m .entry)) ⌝ }
+{
+    buffers::shift(
+        m,
+        DIGESTS_AT + from * DIGEST_WIDTH,
+        DIGESTS_AT + to * DIGEST_WIDTH,
+        n * DIGEST_WIDTH,
+    );
+}
+
+// The first n digests, one behind the other.
+pub fn digests(m: &[u8], n: usize) -> &[u8]
+    requires { ⌜ (n ≤ PAGES) × (memorySize ≤ length (now m)) ⌝ }
+    ensures { λ r. ⌜ (now r ≡ put-all (bytes digestWidth) (take n (memOf (now (m .entry)) .digests))) × (length (now r) ≡ n * digestWidth) ⌝ }
+{
+    let at = DIGESTS_AT;
+    let end = at + n * DIGEST_WIDTH;
+    &m[at..end]
+}
+
+// n digests that stand one behind the other, kept as the first n.
+pub fn put_digests(m: &mut [u8], n: usize, x: &[u8])
+    requires { ⌜ (n ≤ PAGES) × (length (now x) ≡ n * digestWidth) × (memorySize ≤ length (now m)) ⌝ }
+    ensures { λ _. ⌜ memOf (now (m .exit)) ≡ withDigests (overwrite (memOf (now (m .entry)) .digests) 0 (rows digestWidth n (now (x .entry)))) (memOf (now (m .entry))) ⌝ }
+    ensures { λ _. ⌜ length (now (m .exit)) ≡ length (now (m .entry)) ⌝ }
+{
+    buffers::put(m, DIGESTS_AT, x);
+}
+
+// ---- the staging area
+
+pub fn staged(m: &[u8], at: usize, n: usize) -> &[u8]
+    requires { ⌜ (at + n ≤ stagingSize) × (memorySize ≤ length (now m)) ⌝ }
+    ensures { λ r. ⌜ (now r ≡ part at n (memOf (now (m .entry)) .staged)) × (length (now r) ≡ n) ⌝ }
+{
+    let start = STAGING_AT + at;
+    let end = start + n;
+    &m[start..end]
+}
+
+pub fn stage(m: &mut [u8], at: usize, x: &[u8])
+    requires { ⌜ (at + length (now x) ≤ stagingSize) × (memorySize ≤ length (now m)) ⌝ }
+    ensures { λ _. ⌜ memOf (now (m .exit)) ≡ withStaged (overwrite (memOf (now (m .entry)) .staged) at (now (x .entry))) (memOf (now (m .entry))) ⌝ }
+    ensures { λ _. ⌜ length (now (m .exit)) ≡ length (now (m .entry)) ⌝ }
+{
+    buffers::put(m, STAGING_AT + at, x);
+}
+
+// Digest k of the new ones in the staging area.
+pub fn stage_digest(m: &mut [u8], k: usize, x: [u8; 32])
+    requires { ⌜ (k < newDigests) × (memorySize ≤ length (now m)) ⌝ }
+    ensures { λ _. ⌜ memOf (now (m .exit)) ≡ withStaged (overwrite (memOf (now (m .entry)) .staged) (dataSize + k * digestWidth) x) (memOf (now (m .entry))) ⌝ }
+    ensures { λ _. ⌜ length (now (m .exit)) ≡ length (now (m .entry)) ⌝ }
+{
+    buffers::put(m, STAGING_AT + (DATA_SIZE + k * DIGEST_WIDTH), &x);
+}
+
+// The first n new digests, kept from digest i on.
+pub fn keep_digests(m: &mut [u8], i: usize, n: usize)
+    requires { ⌜ (i + n ≤ PAGES) × (n ≤ newDigests) × (memorySize ≤ length (now m)) ⌝ }
+    ensures { λ _. ⌜ memOf (now (m .exit)) ≡ withDigests (overwrite (memOf (now (m .entry)) .digests) i (rows digestWidth n (part dataSize (n * digestWidth) (memOf (now (m .entry)) .staged)))) (memOf (now (m .entry))) ⌝ }
+    ensures { λ _. ⌜ length (now (m .exit)) ≡ length (now (m .entry)) ⌝ }
+{
+    buffers::shift(
+        m,
+        STAGING_AT + DATA_SIZE,
+        DIGESTS_AT + i * DIGEST_WIDTH,
+        n * DIGEST_WIDTH,
+    );
+}
