@@ -1,0 +1,133 @@
+-- `image_reader::all_admitted` meets its contract. The invariant says what remains to be done. Assumes nothing.
+use native.Mathlib.Omega.{arith}
+use mathlib.Core.Path.{_≡_, refl, ap, ap₂, sym, _∙_}
+use Rattle.images.specs.Width.{idBytes}
+use Rattle.image_reader.specs.Records.{recordAt, recordEnd, nodesFrom, endFrom}
+use mathlib.Core.List.{[], _∷_}
+use Prim.Native.Nat.{ℕ, _+_, _-_, _≤_, _<_}
+use lib.ListN.{length, take, length-set}
+use Rattle.image_reader.specs.RecordLaws.{record-least, record-in, end-next, end-rises}
+use Rattle.image_reader.specs.StepLaws.{first-end, first-admitted, next-end, admitted-stop, admitted-step, admitted-end}
+use Rattle.image_reader.specs.Admission.{admitted}
+use borrow.Author.Needs.{needs}
+use Rattle.image_reader.proofs.all_admitted.Statement.{statement}
+use Rattle.image_reader.proofs.all_admitted.Tie as tie
+
+abbrev Inv-loop : tie.InvT-loop
+Inv-loop image n lengths₀ at₀ i₀ lengths at i =
+    (0 < i) × (i ≤ n) × (length lengths ≡ length lengths₀) × (at ≡ endFrom idBytes image 4 i) × (endFrom idBytes image at (n - i) ≡ endFrom idBytes image 4 n)
+    × (admitted idBytes (nodesFrom idBytes image 4 i) (take i lengths) (nodesFrom idBytes image at (n - i)) ≡ admitted idBytes (recordAt idBytes image 4 ∷ []) (0 ∷ []) (nodesFrom idBytes image (recordEnd idBytes image 4) (n - 1)))
+
+abbrev μ-loop : tie.MeasureT-loop
+μ-loop image n lengths₀ at₀ i₀ lengths at i = n - i
+
+slice-write-lengths : tie.Need-slice-write-lengths Inv-loop μ-loop
+slice-write-lengths c = search needs
+
+record-end-requires : tie.Need-record-end-requires Inv-loop μ-loop
+record-end-requires c κs =
+    let a = c .before .before .args in
+    let s = a .image .now in
+    let h = record-in idBytes s 4 (a .n) (omega arith) in
+    let g = record-least idBytes s 4 in
+    omega (arith, h, g)
+
+loop-holds : tie.Need-loop-holds Inv-loop μ-loop
+loop-holds c =
+    let a = c .before .before .before .args in
+    let s = a .image .now in
+    let r = c .record-end .ensures .0 in (
+      omega arith,
+      omega arith,
+      refl,
+      r ∙ sym (first-end idBytes s),
+      ap (λ (p : ℕ). endFrom idBytes s p (a .n - 1)) r ∙ sym (end-next idBytes s 4 (a .n) (omega arith)),
+      first-admitted idBytes s (a .lengths .now) (omega arith) (a .n - 1) r,
+    )
+
+admission-requires : tie.Need-admission-requires Inv-loop μ-loop
+admission-requires c κs =
+    let a = c .before .before .before .before .before .before .args in
+    let s = a .image .now in
+    let l = c .before .before .loop in
+    let h = record-in idBytes s (l .at) (a .n - l .i) (omega arith) in
+    let g = end-rises idBytes s 4 (l .i) (a .n) (omega arith) in
+    (omega (arith, g), omega (arith, h, l .inv .4), omega (arith, l .inv .2, length-set (a .lengths .now) 0 0))
+
+same-length : tie.Need-same-length Inv-loop μ-loop
+same-length c = let a = c .before .before .before .before .before .before .before .before .args in let l = c .before .before .before .before .loop in l .inv .2 ∙ length-set (a .lengths .now) 0 0
+
+returns : tie.Need-returns Inv-loop μ-loop
+returns c =
+    let a = c .before .before .before .before .before .before .before .before .args in
+    let s = a .image .now in
+    let l = c .before .before .before .before .loop in
+    sym (sym (l .inv .5) ∙ admitted-stop idBytes s (l .at) (l .i) (a .n) (l .lengths) (l .inv .3) (omega arith) (omega (arith, c .before .admission .ensures)))
+
+cast-lengths : tie.Need-cast-lengths Inv-loop μ-loop
+cast-lengths c = search needs
+
+slice-write-lengths-2 : tie.Need-slice-write-lengths-2 Inv-loop μ-loop
+slice-write-lengths-2 c = let a = c .before .before .before .before .before .before .before .before .args in omega (arith, c .before .before .before .before .loop .inv .2, length-set (a .lengths .now) 0 0)
+
+record-end-requires-2 : tie.Need-record-end-requires-2 Inv-loop μ-loop
+record-end-requires-2 c κs =
+    let a = c .before .before .before .before .before .before .before .before .args in
+    let s = a .image .now in
+    let l = c .before .before .before .before .loop in
+    let h = record-in idBytes s (l .at) (a .n - l .i) (omega arith) in
+    let g = record-least idBytes s (l .at) in
+    omega (arith, h, g, l .inv .4)
+
+add-i : tie.Need-add-i Inv-loop μ-loop
+add-i c = search needs
+
+loop-less : tie.Need-loop-less Inv-loop μ-loop
+loop-less c = search needs
+
+loop-again : tie.Need-loop-again Inv-loop μ-loop
+loop-again c =
+    let a = c .before .before .before .before .before .before .before .before .before .args in
+    let s = a .image .now in
+    let l = c .before .before .before .before .before .loop in
+    let e : a .n - (l .i + 1) ≡ a .n - l .i - 1 = omega arith in
+    let r = c .record-end2 .ensures .0 in
+    let k = length-set (a .lengths .now) 0 0 in (
+      omega arith,
+      omega arith,
+      length-set (l .lengths) (l .i) _ ∙ l .inv .2,
+      next-end idBytes s (l .at) (l .i) (l .inv .3) r,
+      ap₂ (endFrom idBytes s) r e ∙ sym (end-next idBytes s (l .at) (a .n - l .i) (omega arith)) ∙ l .inv .4,
+      admitted-step idBytes s (l .at) (l .i) (a .n) (l .lengths) (l .inv .3) (omega arith) _ _ (omega (arith, l .inv .2, k)) (c .before .before .admission .ensures) (omega arith) r ∙ l .inv .5,
+    )
+
+same-length-2 : tie.Need-same-length-2 Inv-loop μ-loop
+same-length-2 c = let a = c .before .before .before .before .before .args in let l = c .before .loop in l .inv .2 ∙ length-set (a .lengths .now) 0 0
+
+returns-2 : tie.Need-returns-2 Inv-loop μ-loop
+returns-2 c =
+    let a = c .before .before .before .before .before .args in
+    let s = a .image .now in
+    let l = c .before .loop in
+    sym (sym (l .inv .5) ∙ admitted-end idBytes s (nodesFrom idBytes s 4 (l .i)) (take (l .i) (l .lengths)) (l .at) (a .n - l .i) (omega arith))
+
+pub all-admitted-spec : {M : Type 1} → statement M
+all-admitted-spec =
+    tie.close
+    (tie.spec
+    Inv-loop
+    μ-loop
+    slice-write-lengths
+    record-end-requires
+    loop-holds
+    admission-requires
+    same-length
+    returns
+    cast-lengths
+    slice-write-lengths-2
+    record-end-requires-2
+    add-i
+    loop-less
+    loop-again
+    same-length-2
+    returns-2)

@@ -1,0 +1,104 @@
+-- `image_reader::form` meets its contract. Assumes nothing.
+use native.Mathlib.Omega.{arith}
+use mathlib.Core.Path.{_≡_, ap, _∙_}
+use Rattle.images.specs.Width.{idBytes}
+use Rattle.image_reader.specs.Records.{endFrom, nodeCount, recordsEnd, digestCount}
+use lib.Dec.{leb}
+use Prim.Native.Nat.{ℕ, _+_, _-_, _*_}
+use lib.ListN.{length}
+use Rattle.image_reader.specs.RecordLaws.{end-least, end-none, end-some, no-form, a-form, formed-short, formed-many, formed-cut, formed-other, formed-yes}
+use Rattle.lists.specs.Pick.{pick}
+use Rattle.lists.specs.LittleEndian.{decode}
+use Rattle.lists.specs.Parts.{part}
+use borrow.Author.Needs.{needs}
+use Rattle.image_reader.proofs.form.Statement.{statement}
+use Rattle.image_reader.proofs.form.Tie as tie
+
+returns : tie.Need-returns
+returns c = let s = c .before .before .args .image .now in no-form idBytes s _ (formed-short idBytes s (c .if1 .taken))
+
+u32-at-requires : tie.Need-u32-at-requires
+u32-at-requires c κs = search needs
+
+cast-n : tie.Need-cast-n
+cast-n c = search needs
+
+returns-2 : tie.Need-returns-2
+returns-2 c = let s = c .before .before .before .before .args .image .now in no-form idBytes s _ (formed-many idBytes s (omega (arith, c .before .u32-at .ensures)))
+
+records-end-requires : tie.Need-records-end-requires
+records-end-requires c κs = search needs
+
+returns-3 : tie.Need-returns-3
+returns-3 c =
+    let s = c .before .before .before .before .before .before .args .image .now in
+    let E = recordsEnd idBytes s in
+    let q = c .before .records-end .ensures .0 ∙ ap (λ (n : ℕ). pick (leb (endFrom idBytes s 4 n) (length s)) (endFrom idBytes s 4 n) 0) (c .before .before .before .u32-at .ensures) in
+    let h = end-least idBytes s 4 (nodeCount s) in
+    let g = end-none idBytes s (c .before .records-end .result) E q (c .if3 .taken) (omega arith) in
+    no-form idBytes s _ (formed-cut idBytes s (omega (arith, g)))
+
+sub-if4 : tie.Need-sub-if4
+sub-if4 c = omega arith
+
+returns-4 : tie.Need-returns-4
+returns-4 c =
+    let s = c .before .before .before .before .before .before .before .args .image .now in
+    let E = recordsEnd idBytes s in
+    let q = c .before .before .records-end .ensures .0 ∙ ap (λ (n : ℕ). pick (leb (endFrom idBytes s 4 n) (length s)) (endFrom idBytes s 4 n) 0) (c .before .before .before .before .u32-at .ensures) in
+    let g = end-some idBytes s (c .before .before .records-end .result) E q (c .before .if3 .left) in
+    no-form idBytes s _ (formed-cut idBytes s (omega (arith, g)))
+
+u32-at-requires-2 : tie.Need-u32-at-requires-2
+u32-at-requires-2 c κs = search needs
+
+cast-k : tie.Need-cast-k
+cast-k c = search needs
+
+sub-if5 : tie.Need-sub-if5
+sub-if5 c = search needs
+
+sub-if5-2 : tie.Need-sub-if5-2
+sub-if5-2 c = search needs
+
+mul-if5 : tie.Need-mul-if5
+mul-if5 c = search needs
+
+returns-5 : tie.Need-returns-5
+returns-5 c =
+    let s = c .before .before .before .before .before .before .before .before .before .args .image .now in
+    let E = recordsEnd idBytes s in
+    let q = c .before .before .before .before .records-end .ensures .0 ∙ ap (λ (n : ℕ). pick (leb (endFrom idBytes s 4 n) (length s)) (endFrom idBytes s 4 n) 0) (c .before .before .before .before .before .before .u32-at .ensures) in
+    let g = end-some idBytes s (c .before .before .before .before .records-end .result) E q (c .before .before .before .if3 .left) in
+    let d : c .before .u32-at2 .result ≡ digestCount idBytes s = c .before .u32-at2 .ensures ∙ ap (λ (e : ℕ). decode (part e 4 s)) g in
+    no-form idBytes s _ (formed-other idBytes s (λ z. c .if5 .taken (omega arith)))
+
+returns-6 : tie.Need-returns-6
+returns-6 c =
+    let s = c .before .before .before .before .before .before .before .before .before .args .image .now in
+    let E = recordsEnd idBytes s in
+    let q = c .before .before .before .before .records-end .ensures .0 ∙ ap (λ (n : ℕ). pick (leb (endFrom idBytes s 4 n) (length s)) (endFrom idBytes s 4 n) 0) (c .before .before .before .before .before .before .u32-at .ensures) in
+    let g = end-some idBytes s (c .before .before .before .before .records-end .result) E q (c .before .before .before .if3 .left) in
+    let d : c .before .u32-at2 .result ≡ digestCount idBytes s = c .before .u32-at2 .ensures ∙ ap (λ (e : ℕ). decode (part e 4 s)) g in
+    let z : E + 4 + digestCount idBytes s * 32 ≡ length s = omega (arith, c .if5 .left) in
+    a-form idBytes s (c .before .before .before .before .records-end .result) E g (formed-yes idBytes s (omega arith) (omega (arith, c .before .before .before .before .before .before .u32-at .ensures)) z)
+
+pub form-spec : {M : Type 1} → statement M
+form-spec =
+    tie.close
+    (tie.spec
+    returns
+    u32-at-requires
+    cast-n
+    returns-2
+    records-end-requires
+    returns-3
+    sub-if4
+    returns-4
+    u32-at-requires-2
+    cast-k
+    sub-if5
+    sub-if5-2
+    mul-if5
+    returns-5
+    returns-6)

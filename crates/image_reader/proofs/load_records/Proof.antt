@@ -1,0 +1,106 @@
+-- `image_reader::load_records` meets its contract. The invariant says what remains to be done. Assumes nothing.
+use native.Mathlib.Omega.{arith}
+use mathlib.Core.Path.{_≡_, refl, ap, ap₂, sym, _∙_}
+use Rattle.images.specs.Width.{idBytes}
+use Rattle.image_reader.specs.Records.{recordAt, nodesFrom, endFrom}
+use mathlib.Core.List.{List}
+use Prim.Native.Nat.{ℕ, _+_, _-_, _≤_}
+use lib.ListN.{length, set}
+use Rattle.memory.specs.Layout.{Mem, memOf, withNodes}
+use Rattle.lists.specs.Parts.{overwrite}
+use Rattle.image_reader.specs.RecordLaws.{record-least, record-in, end-next, end-last, nodes-last}
+use Rattle.lists.specs.PartLaws.{overwrite-none}
+use Rattle.filesystem.specs.Tables.{Node, noNode}
+use Rattle.memory.specs.MemLaws.{length-nodes}
+use Rattle.image_reader.specs.StepLaws.{next-end}
+use Rattle.image_reader.specs.Loaded.{short-name, loaded-next}
+use borrow.Author.Needs.{needs}
+use Rattle.image_reader.proofs.load_records.Statement.{statement}
+use Rattle.image_reader.proofs.load_records.Tie as tie
+
+abbrev Inv-loop : tie.InvT-loop
+Inv-loop image n m₀ at₀ i₀ m at i =
+    (i ≤ n) × (length m ≡ length m₀) × (at ≡ endFrom idBytes image 4 i) × (endFrom idBytes image at (n - i) ≡ endFrom idBytes image 4 n)
+    × (memOf m ≡ withNodes (overwrite (memOf m₀ .nodes) 0 (nodesFrom idBytes image 4 i)) (memOf m₀))
+
+abbrev μ-loop : tie.MeasureT-loop
+μ-loop image n m₀ at₀ i₀ m at i = n - i
+
+loop-holds : tie.Need-loop-holds Inv-loop μ-loop
+loop-holds c =
+    let a = c .before .before .args in
+    let s = a .image .now in
+    let ns = memOf (a .m .now) .nodes in
+    let e : a .n - 0 ≡ a .n = omega arith in (
+      omega arith,
+      refl,
+      sym (end-last idBytes s 4),
+      ap (endFrom idBytes s 4) e,
+      ap (λ (r : List Node). withNodes r (memOf (a .m .now))) (sym (ap (overwrite ns 0) (nodes-last idBytes s 4) ∙ overwrite-none noNode ns 0)),
+    )
+
+load-record-requires : tie.Need-load-record-requires Inv-loop μ-loop
+load-record-requires c κs =
+    let a = c .before .before .before .before .before .args in
+    let s = a .image .now in
+    let l = c .before .before .loop in
+    let h = record-in idBytes s (l .at) (a .n - l .i) (omega arith) in
+    (omega (arith, h, l .inv .3, c .before .before .before .before .before .pre .2), short-name idBytes s (a .n) (l .i) (c .before .before .before .before .before .pre .0) (omega arith) (l .inv .2), omega (arith, c .before .before .before .before .before .pre .1), omega (arith, l .inv .1, c .before .before .before .before .before .pre .3))
+
+record-end-requires : tie.Need-record-end-requires Inv-loop μ-loop
+record-end-requires c κs =
+    let a = c .before .before .before .before .before .before .before .before .args in
+    let s = a .image .now in
+    let l = c .before .before .before .before .before .loop in
+    let h = record-in idBytes s (l .at) (a .n - l .i) (omega arith) in
+    let g = record-least idBytes s (l .at) in
+    omega (arith, h, g, l .inv .3, c .before .before .before .before .before .before .before .before .pre .2)
+
+add-i : tie.Need-add-i Inv-loop μ-loop
+add-i c = search needs
+
+loop-less : tie.Need-loop-less Inv-loop μ-loop
+loop-less c = search needs
+
+loop-again : tie.Need-loop-again Inv-loop μ-loop
+loop-again c =
+    let a = c .before .before .before .before .before .before .before .before .before .args in
+    let s = a .image .now in
+    let l = c .before .before .before .before .before .before .loop in
+    let x = recordAt idBytes s (l .at) in
+    let r = c .record-end .ensures .0 in
+    let e : a .n - (l .i + 1) ≡ a .n - l .i - 1 = omega arith in
+    let k = length-nodes (a .m .now) in (
+      omega arith,
+      c .before .before .before .load-record .ensures .1 ∙ l .inv .1,
+      next-end idBytes s (l .at) (l .i) (l .inv .2) r,
+      ap₂ (endFrom idBytes s) r e ∙ sym (end-next idBytes s (l .at) (a .n - l .i) (omega arith)) ∙ l .inv .3,
+      c .before .before .before .load-record .ensures .0 ∙ ap (λ (M : Mem). withNodes (set (M .nodes) (l .i) x) M) (l .inv .4)
+          ∙ ap (λ (ns : List Node). withNodes ns (memOf (a .m .now))) (loaded-next idBytes s (memOf (a .m .now) .nodes) (l .i) (l .at) (l .inv .2) (omega (arith, k, c .before .before .before .before .before .before .before .before .before .pre .1))),
+    )
+
+same-length : tie.Need-same-length Inv-loop μ-loop
+same-length c = search needs
+
+returns : tie.Need-returns Inv-loop μ-loop
+returns c =
+    let a = c .before .before .before .before .args in
+    let s = a .image .now in
+    let l = c .before .loop in
+    let e : l .i ≡ a .n = omega arith in
+    (l .inv .4 ∙ ap (λ (n : ℕ). withNodes (overwrite (memOf (a .m .now) .nodes) 0 (nodesFrom idBytes s 4 n)) (memOf (a .m .now))) e, l .inv .1)
+
+pub load-records-spec : {M : Type 1} → statement M
+load-records-spec =
+    tie.close
+    (tie.spec
+    Inv-loop
+    μ-loop
+    loop-holds
+    load-record-requires
+    record-end-requires
+    add-i
+    loop-less
+    loop-again
+    same-length
+    returns)

@@ -1,0 +1,47 @@
+-- `image_reader::record_end` meets its contract. Assumes nothing.
+use native.Mathlib.Omega.{arith}
+use Rattle.images.specs.Width.{idBytes}
+use Rattle.image_reader.specs.Records.{recordEnd}
+use mathlib.Core.Path.{refl}
+use Prim.Native.Nat.{_+_, _*_}
+use borrow.Author.Needs.{needs}
+use Rattle.image_reader.proofs.record_end.Statement.{statement}
+use Rattle.image_reader.proofs.record_end.Tie as tie
+
+add-result : tie.Need-add-result
+add-result c = search needs
+
+mul-result : tie.Need-mul-result
+mul-result c = search needs
+
+add-result-2 : tie.Need-add-result-2
+add-result-2 c = search needs
+
+add-result-3 : tie.Need-add-result-3
+add-result-3 c = search needs
+
+shared-slice-read-result : tie.Need-shared-slice-read-result
+shared-slice-read-result c = search needs
+
+cast-result : tie.Need-cast-result
+cast-result c = omega (arith, c .shared-slice-known .given (c .before .args .at + 2 * idBytes + 6))
+
+add-result-4 : tie.Need-add-result-4
+add-result-4 c = omega (arith, c .shared-slice-known .given (c .before .args .at + 2 * idBytes + 6))
+
+returns : tie.Need-returns
+unfolding recordEnd
+returns c = let h = c .shared-slice-known .given (c .before .args .at + 2 * idBytes + 6) in (refl, omega arith, omega (arith, h))
+
+pub record-end-spec : {M : Type 1} → statement M
+record-end-spec =
+    tie.close
+    (tie.spec
+    add-result
+    mul-result
+    add-result-2
+    add-result-3
+    shared-slice-read-result
+    cast-result
+    add-result-4
+    returns)

@@ -1,0 +1,35 @@
+-- `image_reader::record_name` meets its contract. Assumes nothing.
+use native.Mathlib.Omega.{arith}
+use Rattle.images.specs.Width.{idBytes}
+use Rattle.lists.specs.Parts.{part}
+use Rattle.image_reader.specs.RecordLaws.{record-least}
+use Rattle.image_reader.specs.TestLaws.{name-part}
+use borrow.Author.Needs.{needs}
+use Rattle.image_reader.proofs.record_name.Statement.{statement}
+use Rattle.image_reader.proofs.record_name.Tie as tie
+
+add-start : tie.Need-add-start
+add-start c = let h = record-least idBytes (c .before .args .image .now) (c .before .args .at) in omega (arith, h)
+
+record-end-requires : tie.Need-record-end-requires
+record-end-requires c κs = let h = record-least idBytes (c .before .args .image .now) (c .before .args .at) in omega (arith, h)
+
+sub-result : tie.Need-sub-result
+sub-result c = omega arith
+
+part-result-start : tie.Need-part-result-start
+part-result-start c = omega arith
+
+part-result-end : tie.Need-part-result-end
+part-result-end c = search needs
+
+returns : tie.Need-returns
+unfolding part
+returns c =
+    let a = c .before .before .before .args in
+    rw (c .before .record-end .ensures .0) (name-part idBytes (a .image .now) (a .at))
+
+pub record-name-spec : {M : Type 1} → statement M
+record-name-spec =
+    tie.close
+    (tie.spec add-start record-end-requires sub-result part-result-start part-result-end returns)

@@ -1,0 +1,79 @@
+-- `image_reader::records_end` meets its contract. The invariant says what remains to be done. Assumes nothing.
+use native.Mathlib.Omega.{arith}
+use mathlib.Core.Path.{_≡_, ap, ap₂, sym, _∙_}
+use Rattle.images.specs.Width.{idBytes}
+use Rattle.image_reader.specs.Records.{endFrom}
+use Prim.Native.Nat.{_+_, _≤_, _-_}
+use lib.ListN.{length}
+use Rattle.image_reader.specs.RecordLaws.{no-end, an-end, cut-front, cut-record, end-next, end-last}
+use borrow.Author.Needs.{needs}
+use Rattle.image_reader.proofs.records_end.Statement.{statement}
+use Rattle.image_reader.proofs.records_end.Tie as tie
+
+abbrev Inv-loop : tie.InvT-loop
+Inv-loop image n at₀ i₀ at i = (i ≤ n) × (at ≤ length image) × (endFrom idBytes image at (n - i) ≡ endFrom idBytes image 4 n)
+
+abbrev μ-loop : tie.MeasureT-loop
+μ-loop image n at₀ i₀ at i = n - i
+
+loop-holds : tie.Need-loop-holds Inv-loop μ-loop
+loop-holds c = let e : c .before .args .n - 0 ≡ c .before .args .n = omega arith in (omega arith, omega arith, ap (endFrom idBytes (c .before .args .image .now) 4) e)
+
+sub-if1 : tie.Need-sub-if1 Inv-loop μ-loop
+sub-if1 c = search needs
+
+returns : tie.Need-returns Inv-loop μ-loop
+returns c =
+    let a = c .before .before .before .before .args in
+    let s = a .image .now in
+    let l = c .before .before .loop in
+    (no-end idBytes s (endFrom idBytes s 4 (a .n)) (omega (arith, cut-front idBytes s (l .at) (a .n - l .i) (omega arith) (omega arith), l .inv .2)), omega arith)
+
+record-end-requires : tie.Need-record-end-requires Inv-loop μ-loop
+record-end-requires c κs = search needs
+
+returns-2 : tie.Need-returns-2 Inv-loop μ-loop
+returns-2 c =
+    let a = c .before .before .before .before .before .before .args in
+    let s = a .image .now in
+    let l = c .before .before .before .before .loop in
+    (no-end idBytes s (endFrom idBytes s 4 (a .n)) (omega (arith, cut-record idBytes s (l .at) (a .n - l .i) (omega arith) (omega (arith, c .before .record-end .ensures .0)), l .inv .2)), omega arith)
+
+add-i : tie.Need-add-i Inv-loop μ-loop
+add-i c = search needs
+
+loop-less : tie.Need-loop-less Inv-loop μ-loop
+loop-less c = search needs
+
+loop-again : tie.Need-loop-again Inv-loop μ-loop
+loop-again c =
+    let a = c .before .before .before .before .before .before .args in
+    let s = a .image .now in
+    let l = c .before .before .before .before .loop in
+    let e : a .n - (l .i + 1) ≡ a .n - l .i - 1 = omega arith in
+    (omega arith, omega arith, ap₂ (endFrom idBytes s) (c .before .record-end .ensures .0) e ∙ sym (end-next idBytes s (l .at) (a .n - l .i) (omega arith)) ∙ l .inv .2)
+
+returns-3 : tie.Need-returns-3 Inv-loop μ-loop
+returns-3 c =
+    let a = c .before .before .before .args in
+    let s = a .image .now in
+    let l = c .before .loop in
+    let z : a .n - l .i ≡ 0 = omega arith in
+    let e : endFrom idBytes s 4 (a .n) ≡ l .at = sym (l .inv .2) ∙ ap (endFrom idBytes s (l .at)) z ∙ end-last idBytes s (l .at) in
+    (rw e (an-end idBytes s (l .at) (omega arith)), omega arith)
+
+pub records-end-spec : {M : Type 1} → statement M
+records-end-spec =
+    tie.close
+    (tie.spec
+    Inv-loop
+    μ-loop
+    loop-holds
+    sub-if1
+    returns
+    record-end-requires
+    returns-2
+    add-i
+    loop-less
+    loop-again
+    returns-3)

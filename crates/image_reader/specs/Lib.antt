@@ -1,0 +1,9 @@
+pub mod Records
+pub mod RecordLaws
+pub mod Admission
+pub mod TestLaws
+pub mod AdmissionLaws
+pub mod StepLaws
+pub mod SoundAdmitted
+pub mod ParseLaws
+pub mod Loaded

@@ -1,0 +1,439 @@
+// The saved image read from any bytes (document 01, 'The saved image'): whether it is sound, and its tables put into the memory.
+ghost use mathlib.Core.Path.{_≡_};
+ghost use mathlib.Core.Bool.{true, _&&_, _||_};
+ghost use mathlib.Core.List.{[], _∷_};
+ghost use Prim.Native.Nat.{_+_, _-_, _*_, _≤_, _<_};
+ghost use lib.Dec.{eqb, leb};
+ghost use lib.ListN.{length, set};
+ghost use Rattle.lists.specs.Pick.{pick};
+ghost use Rattle.lists.specs.Parts.{overwrite};
+ghost use Rattle.lists.specs.Search.{any, every, place};
+ghost use Rattle.filesystem.specs.Tables.{NODES, PAGES, NAME-BYTES, pageTotal};
+ghost use Rattle.filesystem.specs.Paths.{componentForm};
+ghost use Rattle.filesystem.specs.Image.{isRoot, inLimits, soundNodes, parse};
+ghost use Rattle.memory.specs.Layout.{memOf, memorySize, withNodes, withDigests};
+ghost use Rattle.images.specs.Width.{idBytes, frontLength};
+ghost use Rattle.image_reader.specs.Records.{recordAt, recordEnd, nodesFrom, endFrom, recordsEnd, digestCount, imageDigests, formed, plainByte, ownName, isSome};
+ghost use Rattle.image_reader.specs.Loaded.{Loaded};
+ghost use Rattle.image_reader.specs.Admission.{clash, isParent, admit, admitted};
+
+const ID_BYTES: usize = images::ID_BYTES;
+
+// A record up to its name.
+const FRONT: usize = 2 * ID_BYTES + 7;
+
+// ---- a record's fields
+
+fn record_id(image: &[u8], at: usize) -> u64
+    requires { ⌜ at + frontLength idBytes ≤ length (now image) ⌝ }
+    ensures { λ r. ⌜ r ≡ recordAt idBytes (now (image .entry)) at .id ⌝ }
+{
+    numbers::number_at(image, at, ID_BYTES)
+}
+
+fn record_parent(image: &[u8], at: usize) -> u64
+    requires { ⌜ at + frontLength idBytes ≤ length (now image) ⌝ }
+    ensures { λ r. ⌜ r ≡ recordAt idBytes (now (image .entry)) at .parent ⌝ }
+{
+    numbers::number_at(image, at + ID_BYTES, ID_BYTES)
+}
+
+fn record_kind(image: &[u8], at: usize) -> u8
+    requires { ⌜ at + frontLength idBytes ≤ length (now image) ⌝ }
+    ensures { λ r. ⌜ r ≡ recordAt idBytes (now (image .entry)) at .kind ⌝ }
+{
+    image[at + 2 * ID_BYTES]
+}
+
+fn record_mode(image: &[u8], at: usize) -> u8
+    requires { ⌜ at + frontLength idBytes ≤ length (now image) ⌝ }
+    ensures { λ r. ⌜ r ≡ recordAt idBytes (now (image .entry)) at .mode ⌝ }
+{
+    image[at + 2 * ID_BYTES + 1]
+}
+
+fn record_size(image: &[u8], at: usize) -> u32
+    requires { ⌜ at + frontLength idBytes ≤ length (now image) ⌝ }
+    ensures { λ r. ⌜ r ≡ recordAt idBytes (now (image .entry)) at .size ⌝ }
+{
+    numbers::u32_at(image, at + 2 * ID_BYTES + 2)
+}
+
+// The place behind the record.
+fn record_end(image: &[u8], at: usize) -> usize
+    requires { ⌜ at + frontLength idBytes ≤ length (now image) ⌝ }
+    ensures { λ r. ⌜ (r ≡ recordEnd idBytes (now (image .entry)) at) × (at + frontLength idBytes ≤ r) × (r ≤ at + frontLength idBytes + 255) ⌝ }
+{
+    at + FRONT + image[at + 2 * ID_BYTES + 6] as usize
+}
+
+fn record_name(image: &[u8], at: usize) -> &[u8]
+    requires { ⌜ recordEnd idBytes (now image) at ≤ length (now image) ⌝ }
+    ensures { λ r. ⌜ now r ≡ recordAt idBytes (now (image .entry)) at .name ⌝ }
+{
+    let start = at + FRONT;
+    let end = record_end(image, at);
+    &image[start..end]
+}
+
+// ---- where the sections stand
+
+// The place behind n records, or 0 where the image ends before that.
+fn records_end(image: &[u8], n: usize) -> usize
+    requires { ⌜ 4 ≤ length (now image) ⌝ }
+    ensures { λ r. ⌜ (r ≡ pick (leb (endFrom idBytes (now (image .entry)) 4 n) (length (now (image .entry)))) (endFrom idBytes (now (image .entry)) 4 n) 0) × (r ≤ length (now (image .entry))) ⌝ }
+{
+    let mut at = 4;
+    let mut i = 0;
+    while i < n {
+        if image.len() - at < FRONT {
+            return 0;
+        }
+        at = record_end(image, at);
+        if image.len() < at {
+            return 0;
+        }
+        i += 1;
+    }
+    at
+}
+
+// The place behind the records where the image has its form, else 0.
+fn form(image: &[u8]) -> usize
+    ensures { λ r. ⌜ r ≡ pick (formed idBytes (now (image .entry))) (recordsEnd idBytes (now (image .entry))) 0 ⌝ }
+{
+    let len = image.len();
+    if len < 4 {
+        return 0;
+    }
+    let n = numbers::u32_at(image, 0) as usize;
+    if 256 < n {
+        return 0;
+    }
+    let end = records_end(image, n);
+    if end == 0 {
+        return 0;
+    }
+    if len - end < 4 {
+        return 0;
+    }
+    let k = numbers::u32_at(image, end) as usize;
+    if len - end - 4 != k * 32 {
+        return 0;
+    }
+    end
+}
+
+// ---- a node by itself
+
+// No byte 0 and no slash.
+fn is_plain(name: &[u8]) -> bool
+    ensures { λ r. ⌜ r ≡ every plainByte (now (name .entry)) ⌝ }
+{
+    let mut i = 0;
+    while i < name.len() {
+        if name[i] == 0 {
+            return false;
+        }
+        if name[i] == 47 {
+            return false;
+        }
+        i += 1;
+    }
+    true
+}
+
+// Neither empty nor `.` nor `..`.
+fn is_own(name: &[u8]) -> bool
+    ensures { λ r. ⌜ r ≡ ownName (now (name .entry)) ⌝ }
+{
+    let n = name.len();
+    if n == 0 {
+        return false;
+    }
+    if 2 < n {
+        return true;
+    }
+    if name[0] != 46 {
+        return true;
+    }
+    if n == 1 {
+        return false;
+    }
+    name[1] != 46
+}
+
+// A component's form, and at most 32 bytes.
+fn is_named(name: &[u8]) -> bool
+    ensures { λ r. ⌜ r ≡ (componentForm (now (name .entry)) && leb (length (now (name .entry))) NAME-BYTES) ⌝ }
+{
+    if 32 < name.len() {
+        return false;
+    }
+    if !is_own(name) {
+        return false;
+    }
+    is_plain(name)
+}
+
+fn is_kind_and_size(kind: u8, size: u32) -> bool
+    ensures { λ r. ⌜ r ≡ (eqb kind 1 && leb size 65536 || eqb kind 2 && eqb size 0) ⌝ }
+{
+    if kind == 1 {
+        return size <= 65536;
+    }
+    if kind == 2 {
+        return size == 0;
+    }
+    false
+}
+
+// The limits of a node by itself.
+fn is_in_limits(image: &[u8], at: usize) -> bool
+    requires { ⌜ at + frontLength idBytes ≤ length (now image) ⌝ }
+    ensures { λ r. ⌜ r ≡ inLimits idBytes (recordAt idBytes (now (image .entry)) at) ⌝ }
+{
+    if record_id(image, at) == 0 {
+        return false;
+    }
+    if 7 < record_mode(image, at) {
+        return false;
+    }
+    is_kind_and_size(record_kind(image, at), record_size(image, at))
+}
+
+fn is_root(image: &[u8], at: usize) -> bool
+    requires { ⌜ recordEnd idBytes (now image) at ≤ length (now image) ⌝ }
+    ensures { λ r. ⌜ r ≡ isRoot (recordAt idBytes (now (image .entry)) at) ⌝ }
+{
+    if record_id(image, at) != 1 {
+        return false;
+    }
+    if record_kind(image, at) != 2 {
+        return false;
+    }
+    if record_parent(image, at) != 0 {
+        return false;
+    }
+    let name = record_name(image, at);
+    name.len() == 0
+}
+
+// ---- a node against those before it
+
+// Whether the record at b may not stand beside an earlier one at a.
+fn is_clash(image: &[u8], a: usize, b: usize) -> bool
+    requires { ⌜ (recordEnd idBytes (now image) a ≤ length (now image)) × (recordEnd idBytes (now image) b ≤ length (now image)) ⌝ }
+    ensures { λ r. ⌜ r ≡ clash (recordAt idBytes (now (image .entry)) b) (recordAt idBytes (now (image .entry)) a) ⌝ }
+{
+    if record_id(image, a) == record_id(image, b) {
+        return true;
+    }
+    if record_parent(image, a) != record_parent(image, b) {
+        return false;
+    }
+    let name = record_name(image, a);
+    buffers::same(name, record_name(image, b))
+}
+
+// Whether one of the first i records clashes with the one at `at`.
+fn clashes(image: &[u8], at: usize, i: usize) -> bool
+    requires { ⌜ (endFrom idBytes (now image) 4 i ≤ length (now image)) × (recordEnd idBytes (now image) at ≤ length (now image)) ⌝ }
+    ensures { λ r. ⌜ r ≡ any (clash (recordAt idBytes (now (image .entry)) at)) (nodesFrom idBytes (now (image .entry)) 4 i) ⌝ }
+{
+    let mut a = 4;
+    let mut seen = 0;
+    while seen < i {
+        if is_clash(image, a, at) {
+            return true;
+        }
+        a = record_end(image, a);
+        seen += 1;
+    }
+    false
+}
+
+// Whether the record at a is a directory with this id.
+fn is_parent(image: &[u8], a: usize, id: u64) -> bool
+    requires { ⌜ a + frontLength idBytes ≤ length (now image) ⌝ }
+    ensures { λ r. ⌜ r ≡ (eqb (recordAt idBytes (now (image .entry)) a .id) id && eqb (recordAt idBytes (now (image .entry)) a .kind) 2) ⌝ }
+{
+    if record_id(image, a) != id {
+        return false;
+    }
+    record_kind(image, a) == 2
+}
+
+// The place among the first i records of the parent of the one at `at`, or i.
+fn parent_place(image: &[u8], at: usize, i: usize) -> usize
+    requires { ⌜ (endFrom idBytes (now image) 4 i ≤ length (now image)) × (recordEnd idBytes (now image) at ≤ length (now image)) ⌝ }
+    ensures { λ r. ⌜ r ≡ place (isParent (recordAt idBytes (now (image .entry)) at)) (nodesFrom idBytes (now (image .entry)) 4 i) ⌝ }
+{
+    let id = record_parent(image, at);
+    let mut a = 4;
+    let mut k = 0;
+    while k < i {
+        if is_parent(image, a, id) {
+            return k;
+        }
+        a = record_end(image, a);
+        k += 1;
+    }
+    k
+}
+
+// The length of the path of the record at `at`, by those of the first i; 256 where it may not stand there.
+fn admission(image: &[u8], at: usize, i: usize, lengths: &[u8]) -> usize
+    requires { ⌜ (endFrom idBytes (now image) 4 i ≤ length (now image)) × (recordEnd idBytes (now image) at ≤ length (now image)) × (i ≤ length (now lengths)) ⌝ }
+    ensures { λ r. ⌜ r ≡ admit idBytes (nodesFrom idBytes (now (image .entry)) 4 i) (now (lengths .entry)) (recordAt idBytes (now (image .entry)) at) ⌝ }
+{
+    if !is_in_limits(image, at) {
+        return 256;
+    }
+    let name = record_name(image, at);
+    if !is_named(name) {
+        return 256;
+    }
+    if clashes(image, at, i) {
+        return 256;
+    }
+    let j = parent_place(image, at, i);
+    if i <= j {
+        return 256;
+    }
+    1 + name.len() + lengths[j] as usize
+}
+
+// Whether each of the n records behind the first may stand behind those before it. The lengths of their paths are kept in `lengths`.
+fn all_admitted(image: &[u8], n: usize, lengths: &mut [u8]) -> bool
+    requires { ⌜ (0 < n) × (endFrom idBytes (now image) 4 n ≤ length (now image)) × (n ≤ length (now lengths)) ⌝ }
+    ensures { λ r. ⌜ r ≡ admitted idBytes (recordAt idBytes (now (image .entry)) 4 ∷ []) (0 ∷ []) (nodesFrom idBytes (now (image .entry)) (recordEnd idBytes (now (image .entry)) 4) (n - 1)) ⌝ }
+{
+    lengths[0] = 0;
+    let mut at = record_end(image, 4);
+    let mut i = 1;
+    while i < n {
+        let l = admission(image, at, i, lengths);
+        if 255 < l {
+            return false;
+        }
+        lengths[i] = l as u8;
+        at = record_end(image, at);
+        i += 1;
+    }
+    true
+}
+
+// The pages of the first n nodes.
+fn page_sum(image: &[u8], n: usize) -> usize
+    requires { ⌜ (n ≤ NODES) × (endFrom idBytes (now image) 4 n ≤ length (now image)) ⌝ }
+    ensures { λ r. ⌜ r ≡ pageTotal (nodesFrom idBytes (now (image .entry)) 4 n) ⌝ }
+{
+    let mut at = 4;
+    let mut total: usize = 0;
+    let mut i = 0;
+    while i < n {
+        total += tables::pages_for(record_size(image, at));
+        at = record_end(image, at);
+        i += 1;
+    }
+    total
+}
+
+// ---- the whole image
+
+// Whether the first n nodes are sound.
+fn are_sound(image: &[u8], n: usize) -> bool
+    requires { ⌜ (n ≤ NODES) × (endFrom idBytes (now image) 4 n ≤ length (now image)) ⌝ }
+    ensures { λ r. ⌜ r ≡ soundNodes idBytes (nodesFrom idBytes (now (image .entry)) 4 n) ⌝ }
+{
+    if n == 0 {
+        return false;
+    }
+    if !is_root(image, 4) {
+        return false;
+    }
+    if !is_in_limits(image, 4) {
+        return false;
+    }
+    if 1024 < page_sum(image, n) {
+        return false;
+    }
+    let mut lengths = [0u8; 256];
+    all_admitted(image, n, &mut lengths)
+}
+
+// Whether the image is sound, whatever bytes it has.
+pub fn is_sound(image: &[u8]) -> bool
+    ensures { λ r. ⌜ r ≡ isSome (parse idBytes (now (image .entry))) ⌝ }
+{
+    let end = form(image);
+    if end == 0 {
+        return false;
+    }
+    let n = numbers::u32_at(image, 0) as usize;
+    if !are_sound(image, n) {
+        return false;
+    }
+    let count = numbers::u32_at(image, end) as usize;
+    count == page_sum(image, n)
+}
+
+// ---- the tables put into the memory
+
+// The record at `at` as node i of the memory.
+fn load_record(image: &[u8], at: usize, m: &mut [u8], i: usize)
+    requires { ⌜ (recordEnd idBytes (now image) at ≤ length (now image)) × (length (recordAt idBytes (now image) at .name) ≤ 32) × (i < NODES) × (memorySize ≤ length (now m)) ⌝ }
+    ensures { λ _. ⌜ memOf (now (m .exit)) ≡ withNodes (set (memOf (now (m .entry)) .nodes) i (recordAt idBytes (now (image .entry)) at)) (memOf (now (m .entry))) ⌝ }
+    ensures { λ _. ⌜ length (now (m .exit)) ≡ length (now (m .entry)) ⌝ }
+{
+    let name = record_name(image, at);
+    let row = memory::node_row(
+        record_id(image, at),
+        record_parent(image, at),
+        record_kind(image, at),
+        record_mode(image, at),
+        record_size(image, at),
+        name,
+    );
+    memory::put_node(m, i, row);
+}
+
+// The first n records, which are sound, as the memory's first nodes.
+fn load_records(image: &[u8], n: usize, m: &mut [u8])
+    requires { ⌜ (soundNodes idBytes (nodesFrom idBytes (now image) 4 n) ≡ true) × (n ≤ NODES) × (endFrom idBytes (now image) 4 n ≤ length (now image)) × (memorySize ≤ length (now m)) ⌝ }
+    ensures { λ _. ⌜ memOf (now (m .exit)) ≡ withNodes (overwrite (memOf (now (m .entry)) .nodes) 0 (nodesFrom idBytes (now (image .entry)) 4 n)) (memOf (now (m .entry))) ⌝ }
+    ensures { λ _. ⌜ length (now (m .exit)) ≡ length (now (m .entry)) ⌝ }
+{
+    let mut at = 4;
+    let mut i = 0;
+    while i < n {
+        load_record(image, at, m, i);
+        at = record_end(image, at);
+        i += 1;
+    }
+}
+
+// The second section's digests as the memory's first digests.
+fn load_digests(image: &[u8], end: usize, m: &mut [u8])
+    requires { ⌜ (end ≡ recordsEnd idBytes (now image)) × (end + 4 + digestCount idBytes (now image) * 32 ≡ length (now image)) × (digestCount idBytes (now image) ≤ PAGES) × (memorySize ≤ length (now m)) ⌝ }
+    ensures { λ _. ⌜ memOf (now (m .exit)) ≡ withDigests (overwrite (memOf (now (m .entry)) .digests) 0 (imageDigests idBytes (now (image .entry)))) (memOf (now (m .entry))) ⌝ }
+    ensures { λ _. ⌜ length (now (m .exit)) ≡ length (now (m .entry)) ⌝ }
+{
+    let k = numbers::u32_at(image, end) as usize;
+    let start = end + 4;
+    memory::put_digests(m, k, &image[start..]);
+}
+
+// The tables of a sound image put into the memory, in place of its nodes and digests; the number of nodes.
+pub fn load_image(image: &[u8], m: &mut [u8]) -> usize
+    requires { ⌜ (isSome (parse idBytes (now image)) ≡ true) × (memorySize ≤ length (now m)) ⌝ }
+    ensures { λ r. ⌜ Loaded (now (image .entry)) (now (m .entry)) (now (m .exit)) r ⌝ }
+    ensures { λ _. ⌜ length (now (m .exit)) ≡ length (now (m .entry)) ⌝ }
+{
+    let n = numbers::u32_at(image, 0) as usize;
+    let end = records_end(image, n);
+    load_records(image, n, m);
+    load_digests(image, end, m);
+    n
+}

@@ -1,0 +1,38 @@
+-- `images::record_middle` meets its contract. Assumes nothing.
+use native.Mathlib.Omega.{arith}
+use Prim.Native.Nat.{_%_}
+use mathlib.Core.Path.{_≡_}
+use Rattle.lists.specs.LittleEndian.{encode}
+use Rattle.images.specs.Width.{middle}
+use borrow.Author.Needs.{needs}
+use Rattle.images.proofs.record_middle.Statement.{statement}
+use Rattle.images.proofs.record_middle.Tie as tie
+
+bytes4-requires : tie.Need-bytes4-requires
+bytes4-requires c κs = search needs
+
+array-read-t9 : tie.Need-array-read-t9
+array-read-t9 c = search needs
+
+array-read-t12 : tie.Need-array-read-t12
+array-read-t12 c = search needs
+
+array-read-t15 : tie.Need-array-read-t15
+array-read-t15 c = search needs
+
+array-read-t18 : tie.Need-array-read-t18
+array-read-t18 c = search needs
+
+returns : tie.Need-returns
+unfolding middle encode
+returns c =
+    let a = c .before .args in
+    let k : a .kind % 256 ≡ a .kind = omega arith in
+    let o : a .mode % 256 ≡ a .mode = omega arith in
+    let n : a .n % 256 ≡ a .n = omega arith in
+    rw (c .bytes4 .ensures, k, o, n)
+
+pub record-middle-spec : {M : Type 1} → statement M
+record-middle-spec =
+    tie.close
+    (tie.spec bytes4-requires array-read-t9 array-read-t12 array-read-t15 array-read-t18 returns)

@@ -1,0 +1,23 @@
+-- `images::same_digest` meets its contract. Assumes nothing.
+use Prim.Native.Nat.{ℕ}
+use mathlib.Core.Path.{ap, _∙_}
+use mathlib.Core.List.{List}
+use Rattle.lists.specs.Equal.{equal}
+use borrow.Author.Needs.{needs}
+use Rattle.images.proofs.same_digest.Statement.{statement}
+use Rattle.images.proofs.same_digest.Tie as tie
+
+seal-requires : tie.Need-seal-requires
+seal-requires c κs = search needs
+
+slice-aggregate-same : tie.Need-slice-aggregate-same
+slice-aggregate-same c = search needs
+
+same-requires : tie.Need-same-requires
+same-requires c κs = search needs
+
+returns : tie.Need-returns
+returns c = c .same .ensures ∙ ap (λ (d : List ℕ). equal d (c .before .before .before .before .before .args .expected .now)) (c .before .before .seal .ensures)
+
+pub same-digest-spec : {M : Type 1} → statement M
+same-digest-spec = tie.close (tie.spec seal-requires slice-aggregate-same same-requires returns)

@@ -1,0 +1,31 @@
+-- What the image's format settles once: the width of ids, and how long a record is.
+-- Assumes nothing.
+use Prim.Native.Nat.{ℕ, _+_, _*_}
+use mathlib.Core.List.{List, _++_}
+use lib.ListN.{length, take}
+use Rattle.lists.specs.LittleEndian.{encode}
+use Rattle.filesystem.specs.Tables.{Node, pageTotal}
+use Rattle.filesystem.specs.Image.{Image}
+use Rattle.memory.specs.Layout.{memOf}
+
+-- ids in the image
+abbrev pub idBytes : ℕ
+idBytes = 4
+
+-- the nodes in use, and their digests
+abbrev pub nodesIn : ℕ → List ℕ → List Node
+nodesIn n m = take n (memOf m .nodes)
+
+abbrev pub imageIn : ℕ → List ℕ → Image
+imageIn n m = (nodesIn n m, take (pageTotal (nodesIn n m)) (memOf m .digests))
+
+-- a record up to its name, and with it
+abbrev pub frontLength : ℕ → ℕ
+frontLength w = 2 * w + 7
+
+abbrev pub recordLength : ℕ → Node → ℕ
+recordLength w n = frontLength w + length (n .name)
+
+-- a record between its ids and its name
+unfoldable pub middle : (kind mode size n : ℕ) → List ℕ
+middle kind mode size n = encode 1 kind ++ (encode 1 mode ++ (encode 4 size ++ encode 1 n))

@@ -1,0 +1,198 @@
+-- Laws of the image's parts, and of parts written one behind the other.
+-- Assumes nothing.
+use Prim.Native.Nat.{ℕ, _+_, _*_, _≤_, _<_}
+use mathlib.Core.Path.{_≡_, refl, ap, ap₂, sym, _∙_}
+use mathlib.Core.List.{List, [], _∷_, _++_, append-assoc}
+use native.Mathlib.Omega.{arith}
+use native.Mathlib.Nat.{add-assoc}
+use native.Mathlib.Numerals.{add-one}
+use lib.ListN.{length, take, drop, length-append, drop-of-length-le}
+use lib.Seq.{drop-drop, drop-at, drop-cons, length-take-le, getD-take}
+use Rattle.lists.specs.LittleEndian.{encode, length-encode}
+use Rattle.lists.specs.Form.{put-all, bytes}
+use Rattle.lists.specs.Parts.{overwrite}
+use Rattle.lists.specs.PartLaws.{take-overwrite, overwrite-front, overwrite-none}
+use Rattle.filesystem.specs.Tables.{NODES, PAGES, Node, noNode, nodeAt, pagesFor, pageTotal}
+use Rattle.filesystem.specs.Image.{nodeForm, imageForm, print, recordsLength, imageLength}
+use Rattle.memory.specs.Layout.{memOf, memorySize}
+use Rattle.memory.specs.MemLaws.{length-nodes, length-digests}
+use Rattle.images.specs.Width.{nodesIn, imageIn, recordLength, middle}
+
+-- Parts written one behind the other.
+module _ {A : Type 0} where
+  drop-overwrite : (l : List A) (at : ℕ) (x : List A) → at ≤ length l → drop (at + length x) (overwrite l at x) ≡ drop (at + length x) l
+  unfolding overwrite
+  drop-overwrite l at x h =
+      let p : length (take at l ++ x) ≡ at + length x = length-append (take at l) x ∙ rw (length-take-le at l h) in
+      rw (← append-assoc (take at l) x (drop (at + length x) l)) (drop-at (take at l ++ x) (drop (at + length x) l) (at + length x) p)
+
+  pub overwrite-append : (l : List A) (at : ℕ) (x y : List A) → at ≤ length l → overwrite (overwrite l at x) (at + length x) y ≡ overwrite l at (x ++ y)
+  unfolding overwrite
+  overwrite-append l at x y h =
+      let o = overwrite l at x in
+      let n = at + length x in
+      let d : drop (n + length y) o ≡ drop (n + length y) l = sym (drop-drop (length y) n o) ∙ ap (drop (length y)) (drop-overwrite l at x h) ∙ drop-drop (length y) n l in
+      let t : take n o ≡ take at l ++ x = take-overwrite l at x n refl h in
+      let e : n + length y ≡ at + length (x ++ y) = add-assoc at (length x) (length y) ∙ ap (λ (k : ℕ). at + k) (sym (length-append x y)) in
+      ap₂ (λ (p q : List A). p ++ (y ++ q)) t (d ∙ ap (λ (k : ℕ). drop k l) e)
+      ∙ append-assoc (take at l) x (y ++ drop (at + length (x ++ y)) l)
+      ∙ ap (λ (r : List A). take at l ++ r) (sym (append-assoc x y (drop (at + length (x ++ y)) l)))
+
+  -- four parts from the front
+  pub four-parts : (l a b c d : List A) (p q r : ℕ) → p ≡ length a → q ≡ p + length b → r ≡ q + length c → r ≤ length l
+      → overwrite (overwrite (overwrite (overwrite l 0 a) p b) q c) r d ≡ ((a ++ b) ++ (c ++ d)) ++ drop (length ((a ++ b) ++ (c ++ d))) l
+  four-parts l a b c d p q r e f g h =
+      let n : length (a ++ b) ≡ q = length-append a b ∙ omega arith in
+      let k : length ((a ++ b) ++ c) ≡ r = length-append (a ++ b) c ∙ omega arith in
+      let s : overwrite (overwrite l 0 a) p b ≡ overwrite l 0 (a ++ b) = ap (λ (i : ℕ). overwrite (overwrite l 0 a) i b) (e ∙ omega arith) ∙ overwrite-append l 0 a b (omega arith) in
+      let t : overwrite (overwrite l 0 (a ++ b)) q c ≡ overwrite l 0 ((a ++ b) ++ c) = ap (λ (i : ℕ). overwrite (overwrite l 0 (a ++ b)) i c) (sym n ∙ omega arith) ∙ overwrite-append l 0 (a ++ b) c (omega arith) in
+      let u : overwrite (overwrite l 0 ((a ++ b) ++ c)) r d ≡ overwrite l 0 (((a ++ b) ++ c) ++ d) = ap (λ (i : ℕ). overwrite (overwrite l 0 ((a ++ b) ++ c)) i d) (sym k ∙ omega arith) ∙ overwrite-append l 0 ((a ++ b) ++ c) d (omega arith) in
+      ap (λ (o : List A). overwrite o r d) (ap (λ (o : List A). overwrite o q c) s ∙ t) ∙ u
+      ∙ ap (overwrite l 0) (append-assoc (a ++ b) c d)
+      ∙ overwrite-front l ((a ++ b) ++ (c ++ d))
+
+-- What stands from place i on.
+pub rest-at : (ns : List Node) (i : ℕ) → i < length ns → drop i ns ≡ nodeAt ns i ∷ drop (i + 1) ns
+unfolding nodeAt
+rest-at ns i h = rw (add-one i) (drop-cons ns i noNode h)
+
+module _ (m : List ℕ) (n : ℕ) (h : n ≤ NODES) where
+  pub length-in : length (nodesIn n m) ≡ n
+  length-in = length-take-le n (memOf m .nodes) (rw (length-nodes m) h)
+
+  pub node-in : (i : ℕ) → i < n → nodeAt (nodesIn n m) i ≡ nodeAt (memOf m .nodes) i
+  unfolding nodeAt
+  node-in i l = getD-take n (memOf m .nodes) i noNode l
+
+  -- what stands from place i on, by the memory's nodes
+  pub rest-in : (i : ℕ) → i < n → drop i (nodesIn n m) ≡ nodeAt (memOf m .nodes) i ∷ drop (i + 1) (nodesIn n m)
+  rest-in i l = rest-at (nodesIn n m) i (rw length-in l) ∙ ap (λ (x : Node). x ∷ drop (i + 1) (nodesIn n m)) (node-in i l)
+
+  pub pages-in : (i : ℕ) → i < n → pageTotal (drop i (nodesIn n m)) ≡ pagesFor (nodeAt (memOf m .nodes) i .size) + pageTotal (drop (i + 1) (nodesIn n m))
+  unfolding pageTotal
+  pages-in i l = ap pageTotal (rest-in i l)
+
+  pub records-in : (w i : ℕ) → i < n → recordsLength w (drop i (nodesIn n m)) ≡ recordLength w (nodeAt (memOf m .nodes) i) + recordsLength w (drop (i + 1) (nodesIn n m))
+  unfolding recordsLength
+  records-in w i l = ap (recordsLength w) (rest-in i l)
+
+  pub put-in : (w i : ℕ) → i < n → put-all (nodeForm w) (drop i (nodesIn n m)) ≡ nodeForm w .put (nodeAt (memOf m .nodes) i) ++ put-all (nodeForm w) (drop (i + 1) (nodesIn n m))
+  unfolding put-all
+  put-in w i l = ap (put-all (nodeForm w)) (rest-in i l)
+
+  -- nothing stands from place n on
+  end-in : (i : ℕ) → n ≤ i → drop i (nodesIn n m) ≡ []
+  end-in i l = drop-of-length-le (nodesIn n m) {i = i} (rw length-in l)
+
+  pub pages-end : (i : ℕ) → n ≤ i → pageTotal (drop i (nodesIn n m)) ≡ 0
+  unfolding pageTotal
+  pages-end i l = ap pageTotal (end-in i l)
+
+  pub records-end : (w i : ℕ) → n ≤ i → recordsLength w (drop i (nodesIn n m)) ≡ 0
+  unfolding recordsLength
+  records-end w i l = ap (recordsLength w) (end-in i l)
+
+  pub put-end : (w i : ℕ) → n ≤ i → put-all (nodeForm w) (drop i (nodesIn n m)) ≡ []
+  unfolding put-all
+  put-end w i l = ap (put-all (nodeForm w)) (end-in i l)
+
+-- A record in four parts.
+pub length-middle : (kind mode size n : ℕ) → length (middle kind mode size n) ≡ 7
+unfolding middle encode
+length-middle kind mode size n = refl
+
+pub length-record : (w : ℕ) (n : Node) → length (nodeForm w .put n) ≡ recordLength w n
+unfolding nodeForm
+length-record w n = simp (length-append, length-encode) (omega arith)
+
+pub record-parts : (w : ℕ) (n : Node) → nodeForm w .put n ≡ encode w (n .id) ++ (encode w (n .parent) ++ (middle (n .kind) (n .mode) (n .size) (length (n .name)) ++ n .name))
+unfolding nodeForm middle
+record-parts w n = simp append-assoc
+
+pub record-written : (l : List ℕ) (at w : ℕ) (n : Node) → at + recordLength w n ≤ length l
+    → overwrite (overwrite (overwrite l at (encode w (n .id) ++ encode w (n .parent))) (at + 2 * w) (middle (n .kind) (n .mode) (n .size) (length (n .name)))) (at + 2 * w + 7) (n .name)
+    ≡ overwrite l at (nodeForm w .put n)
+record-written l at w n h =
+    let a = encode w (n .id) in
+    let b = encode w (n .parent) in
+    let c = middle (n .kind) (n .mode) (n .size) (length (n .name)) in
+    let p : length a ≡ w = length-encode w (n .id) in
+    let q : length b ≡ w = length-encode w (n .parent) in
+    let k : length c ≡ 7 = length-middle (n .kind) (n .mode) (n .size) (length (n .name)) in
+    let n₂ : length (a ++ b) ≡ 2 * w = length-append a b ∙ omega arith in
+    let n₃ : length ((a ++ b) ++ c) ≡ 2 * w + 7 = length-append (a ++ b) c ∙ omega arith in
+    let z : at + 2 * w + 7 ≡ at + length ((a ++ b) ++ c) = omega arith in
+    let t : overwrite (overwrite l at (a ++ b)) (at + 2 * w) c ≡ overwrite l at ((a ++ b) ++ c) = ap (λ (i : ℕ). overwrite (overwrite l at (a ++ b)) (at + i) c) (sym n₂) ∙ overwrite-append l at (a ++ b) c (omega arith) in
+    let u : overwrite (overwrite l at ((a ++ b) ++ c)) (at + 2 * w + 7) (n .name) ≡ overwrite l at (((a ++ b) ++ c) ++ n .name) =
+    ap (λ (i : ℕ). overwrite (overwrite l at ((a ++ b) ++ c)) i (n .name)) z ∙ overwrite-append l at ((a ++ b) ++ c) (n .name) (omega arith) in
+    ap (λ (o : List ℕ). overwrite o (at + 2 * w + 7) (n .name)) t ∙ u
+    ∙ ap (overwrite l at) (append-assoc (a ++ b) c (n .name) ∙ append-assoc a b (c ++ n .name) ∙ sym (record-parts w n))
+
+pub ids-written : (l : List ℕ) (at w i p : ℕ) → at ≤ length l → overwrite (overwrite l at (encode w i)) (at + w) (encode w p) ≡ overwrite l at (encode w i ++ encode w p)
+ids-written l at w i p h = ap (λ (k : ℕ). overwrite (overwrite l at (encode w i)) (at + k) (encode w p)) (sym (length-encode w i)) ∙ overwrite-append l at (encode w i) (encode w p) h
+
+pub made : {k k′ m m′ s s′ n n′ : ℕ} → k ≡ k′ → m ≡ m′ → s ≡ s′ → n ≡ n′ → middle k m s n ≡ middle k′ m′ s′ n′
+made e f g h = λ i. middle (e i) (f i) (g i) (h i)
+
+-- the record as three writes make it
+pub record-made : (l : List ℕ) (at w : ℕ) (x : Node) → at + recordLength w x ≤ length l
+    → {l₁ l₂ l₃ f s : List ℕ} {id parent : ℕ} → l₁ ≡ overwrite l at (encode w id ++ encode w parent) → l₂ ≡ overwrite l₁ (at + 2 * w) f → l₃ ≡ overwrite l₂ (at + 2 * w + 7) s
+    → id ≡ x .id → parent ≡ x .parent → f ≡ middle (x .kind) (x .mode) (x .size) (length (x .name)) → s ≡ x .name
+    → l₃ ≡ overwrite l at (nodeForm w .put x)
+record-made l at w x h e₁ e₂ e₃ p q r t =
+    let g₁ = e₁ ∙ ap₂ (λ (i j : ℕ). overwrite l at (encode w i ++ encode w j)) p q in
+    let g₂ = e₂ ∙ ap₂ (λ (o f : List ℕ). overwrite o (at + 2 * w) f) g₁ r in
+    e₃ ∙ ap₂ (λ (o s : List ℕ). overwrite o (at + 2 * w + 7) s) g₂ t ∙ record-written l at w x h
+
+-- The records' length, and the image's.
+pub length-records : (w : ℕ) (ns : List Node) → length (put-all (nodeForm w) ns) ≡ recordsLength w ns
+unfolding put-all recordsLength
+length-records w [] = refl
+length-records w (n ∷ ns) = rw (length-append (nodeForm w .put n) (put-all (nodeForm w) ns), length-record w n, length-records w ns)
+
+pub print-parts : (w : ℕ) (ns : List Node) (ds : List (List ℕ)) → print w (ns, ds) ≡ (encode 4 (length ns) ++ put-all (nodeForm w) ns) ++ (encode 4 (length ds) ++ put-all (bytes 32) ds)
+unfolding print imageForm
+print-parts w ns ds = refl
+
+-- Records one after another: what remains to be written.
+module _ (m : List ℕ) (n : ℕ) (h : n ≤ NODES) (w i : ℕ) where
+  pub record-next : i < n → (l : List ℕ) (at : ℕ) → at ≤ length l → {l′ : List ℕ} {at′ : ℕ} → l′ ≡ overwrite l at (nodeForm w .put (nodeAt (memOf m .nodes) i)) → at′ ≡ at + recordLength w (nodeAt (memOf m .nodes) i)
+      → overwrite l′ at′ (put-all (nodeForm w) (drop (i + 1) (nodesIn n m))) ≡ overwrite l at (put-all (nodeForm w) (drop i (nodesIn n m)))
+  record-next b l at f e g =
+      let x = nodeForm w .put (nodeAt (memOf m .nodes) i) in
+      let r = put-all (nodeForm w) (drop (i + 1) (nodesIn n m)) in
+      ap₂ (λ (o : List ℕ) (k : ℕ). overwrite o k r) e (g ∙ ap (λ (k : ℕ). at + k) (sym (length-record w (nodeAt (memOf m .nodes) i))))
+      ∙ overwrite-append l at x r f ∙ ap (overwrite l at) (sym (put-in m n h w i b))
+
+  pub records-done : n ≤ i → (l : List ℕ) (at : ℕ) → l ≡ overwrite l at (put-all (nodeForm w) (drop i (nodesIn n m)))
+  records-done b l at = sym (ap (overwrite l at) (put-end m n h w i b) ∙ overwrite-none 0 l at)
+
+-- The image as four writes make it, and its length.
+module _ (w n : ℕ) (l m : List ℕ) (at pages : ℕ) (d : List ℕ) (h : n ≤ NODES) (room : memorySize ≤ length m) (few : pageTotal (nodesIn n m) ≤ PAGES) (fits : imageLength w (nodesIn n m) ≤ length l)
+    (behind : at ≡ 4 + recordsLength w (nodesIn n m)) (count : pages ≡ pageTotal (nodesIn n m)) (flat : d ≡ put-all (bytes 32) (take pages (memOf m .digests))) (size : length d ≡ pages * 32) where
+  abbrev ns : List Node
+  ns = nodesIn n m
+
+  abbrev records : List ℕ
+  records = put-all (nodeForm w) ns
+
+  as-parts : print w (imageIn n m) ≡ (encode 4 n ++ records) ++ (encode 4 pages ++ d)
+  as-parts =
+      let k : length (take (pageTotal ns) (memOf m .digests)) ≡ pages = length-take-le (pageTotal ns) (memOf m .digests) (rw (length-digests m) few) ∙ sym count in
+      let e : put-all (bytes 32) (take (pageTotal ns) (memOf m .digests)) ≡ d = ap (λ (k : ℕ). put-all (bytes 32) (take k (memOf m .digests))) (sym count) ∙ sym flat in
+      print-parts w ns (take (pageTotal ns) (memOf m .digests))
+      ∙ ap₂ (λ (a : ℕ) (r : List ℕ). (encode 4 a ++ records) ++ r) (length-in m n h) (ap₂ (λ (a : ℕ) (r : List ℕ). encode 4 a ++ r) k e)
+
+  pub image-written : {l₁ l₂ l₃ l₄ : List ℕ} → l₁ ≡ overwrite l 0 (encode 4 n) → l₂ ≡ overwrite l₁ 4 records → l₃ ≡ overwrite l₂ at (encode 4 pages) → l₄ ≡ overwrite l₃ (at + 4) d
+      → (l₄ ≡ print w (imageIn n m) ++ drop (length (print w (imageIn n m))) l) × (at + 4 + 32 * pages ≡ length (print w (imageIn n m)))
+  unfolding imageLength
+  image-written e₁ e₂ e₃ e₄ =
+      let a : length (encode 4 n) ≡ 4 = length-encode 4 n in
+      let b : length records ≡ recordsLength w ns = length-records w ns in
+      let c : length (encode 4 pages) ≡ 4 = length-encode 4 pages in
+      let g : length ((encode 4 n ++ records) ++ (encode 4 pages ++ d)) ≡ at + 4 + 32 * pages = simp length-append (omega arith) in (
+        e₄ ∙ ap (λ (o : List ℕ). overwrite o (at + 4) d) (e₃ ∙ ap (λ (o : List ℕ). overwrite o at (encode 4 pages)) (e₂ ∙ ap (λ (o : List ℕ). overwrite o 4 records) e₁))
+            ∙ four-parts l (encode 4 n) records (encode 4 pages) d 4 at (at + 4) (omega arith) (omega arith) (omega arith) (omega arith)
+            ∙ ap (λ (x : List ℕ). x ++ drop (length x) l) (sym as-parts),
+        sym g ∙ ap length (sym as-parts),
+      )

@@ -1,0 +1,7 @@
+pub mod Scans
+pub mod Parts
+pub mod PathForms
+pub mod Walks
+pub mod WalkLaws
+pub mod WalkAnswers
+pub mod FormAnswers

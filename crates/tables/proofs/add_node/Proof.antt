@@ -1,0 +1,29 @@
+-- `tables::add_node` meets its contract. Assumes nothing.
+use native.Mathlib.Omega.{arith}
+use mathlib.Core.Path.{_≡_, ap, _∙_}
+use Prim.Native.Nat.{_+_}
+use lib.ListN.{length}
+use Rattle.memory.specs.Layout.{memOf}
+use Rattle.memory.specs.Records.{nodeOf}
+use Rattle.memory.specs.MemLaws.{length-nodes}
+use Rattle.tables.specs.View.{viewOf}
+use Rattle.tables.specs.ViewLaws.{view-add}
+use borrow.Author.Needs.{needs}
+use Rattle.tables.proofs.add_node.Statement.{statement}
+use Rattle.tables.proofs.add_node.Tie as tie
+
+put-node-requires : tie.Need-put-node-requires
+put-node-requires c κs = search needs
+
+same-length : tie.Need-same-length
+same-length c = search needs
+
+returns : tie.Need-returns
+returns c =
+    let a = c .before .before .before .before .before .args in
+    let m = memOf (a .m .now) in
+    let f : length (m .nodes) ≡ 256 = length-nodes (a .m .now) in
+    (λ o. ap (viewOf (a .n + 1) o) (c .before .before .put-node .ensures .0) ∙ view-add m (a .n) o (nodeOf (a .row)) (omega arith) (c .before .before .before .before .before .pre .1), omega arith)
+
+pub add-node-spec : {M : Type 1} → statement M
+add-node-spec = tie.close (tie.spec put-node-requires same-length returns)

@@ -1,0 +1,29 @@
+-- `tables::add_open` meets its contract. Assumes nothing.
+use native.Mathlib.Omega.{arith}
+use mathlib.Core.Path.{_≡_, ap, _∙_}
+use Prim.Native.Nat.{_+_}
+use lib.ListN.{length}
+use Rattle.memory.specs.Layout.{memOf}
+use Rattle.memory.specs.Records.{openOf}
+use Rattle.memory.specs.MemLaws.{length-opens}
+use Rattle.tables.specs.View.{viewOf}
+use Rattle.tables.specs.ViewLaws.{view-open}
+use borrow.Author.Needs.{needs}
+use Rattle.tables.proofs.add_open.Statement.{statement}
+use Rattle.tables.proofs.add_open.Tie as tie
+
+put-open-requires : tie.Need-put-open-requires
+put-open-requires c κs = search needs
+
+same-length : tie.Need-same-length
+same-length c = search needs
+
+returns : tie.Need-returns
+returns c =
+    let a = c .before .before .before .before .before .args in
+    let m = memOf (a .m .now) in
+    let f : length (m .opens) ≡ 32 = length-opens (a .m .now) in
+    (λ n. ap (viewOf n (a .o + 1)) (c .before .before .put-open .ensures .0) ∙ view-open m n (a .o) (openOf (a .row)) (omega arith), omega arith)
+
+pub add-open-spec : {M : Type 1} → statement M
+add-open-spec = tie.close (tie.spec put-open-requires same-length returns)

@@ -1,0 +1,163 @@
+-- `tables::finish_change` meets its contract. The rows that it needs are there: `room`. Assumes nothing.
+use native.Mathlib.Omega.{arith}
+use mathlib.Core.Path.{_≡_, ap, _∙_}
+use Prim.Native.Nat.{_*_}
+use lib.ListN.{length, take}
+use lib.Seq.{length-take-le}
+use Rattle.lists.specs.Parts.{part}
+use Rattle.lists.specs.RowLaws.{length-rows}
+use Rattle.filesystem.specs.Tables.{nodeAt, pagesFor, pageTotal}
+use Rattle.memory.specs.Layout.{memOf, digestWidth, dataSize}
+use Rattle.memory.specs.MemLaws.{length-nodes, length-digests}
+use Rattle.tables.specs.View.{viewOf, stagedDigests}
+use Rattle.tables.specs.ChangeLaws.{room, view-change}
+use borrow.Author.Needs.{needs}
+use Rattle.tables.proofs.finish_change.Statement.{statement}
+use Rattle.tables.proofs.finish_change.Tie as tie
+
+first-page-requires : tie.Need-first-page-requires
+first-page-requires c κs =
+    let a = c .before .before .args in
+    let ns = memOf (a .m .now) .nodes in
+    let l : length ns ≡ 256 = length-nodes (a .m .now) in
+    let e : length (take (a .n) ns) ≡ a .n = length-take-le (a .n) ns (omega arith) in
+    let k = c .before .before .pre .0 .known in
+    (omega arith, omega arith)
+
+node-size-requires : tie.Need-node-size-requires
+node-size-requires c κs =
+    let a = c .before .before .before .before .args in
+    let ns = memOf (a .m .now) .nodes in
+    let l : length ns ≡ 256 = length-nodes (a .m .now) in
+    let e : length (take (a .n) ns) ≡ a .n = length-take-le (a .n) ns (omega arith) in
+    let k = c .before .before .before .before .pre .0 .known in
+    (omega arith, omega arith)
+
+pages-for-requires : tie.Need-pages-for-requires
+pages-for-requires c κs = search needs
+
+add-next : tie.Need-add-next
+add-next c =
+    let a = c .before .before .before .before .before .before .args in
+    let ns = memOf (a .m .now) .nodes in
+    let l : length ns ≡ 256 = length-nodes (a .m .now) in
+    let e : length (take (a .n) ns) ≡ a .n = length-take-le (a .n) ns (omega arith) in
+    let k = c .before .before .before .before .before .before .pre .0 .known in
+    omega arith
+
+pages-for-requires-2 : tie.Need-pages-for-requires-2
+pages-for-requires-2 c κs = search needs
+
+add-end : tie.Need-add-end
+add-end c =
+    let a = c .before .before .before .before .before .before .before .args in
+    let ns = memOf (a .m .now) .nodes in
+    let l : length ns ≡ 256 = length-nodes (a .m .now) in
+    let e : length (take (a .n) ns) ≡ a .n = length-take-le (a .n) ns (omega arith) in
+    let k = c .before .before .before .before .before .before .before .pre .0 .known in
+    omega arith
+
+first-page-requires-2 : tie.Need-first-page-requires-2
+first-page-requires-2 c κs = search needs
+
+sub-move-digests : tie.Need-sub-move-digests
+sub-move-digests c =
+    let a = c .before .before .before .before .before .before .before .before .before .before .args in
+    let ns = memOf (a .m .now) .nodes in
+    let l : length ns ≡ 256 = length-nodes (a .m .now) in
+    let x : c .before .before .before .before .before .before .before .first-page .result ≡ pageTotal (take (a .k) ns) = c .before .before .before .before .before .before .before .first-page .ensures .0 in
+    let y : c .before .before .before .before .pages-for .result ≡ pagesFor (nodeAt ns (a .k) .size) = c .before .before .before .before .pages-for .ensures .0 ∙ ap pagesFor (c .before .before .before .before .before .node-size .ensures) in
+    let w : c .before .before .before .pages-for2 .result ≡ pagesFor (a .size) = c .before .before .before .pages-for2 .ensures .0 in
+    let z : c .before .first-page2 .result ≡ pageTotal (take (a .n) ns) = c .before .first-page2 .ensures .0 in
+    let r = room ns (a .n) (a .k) (a .size) (a .from) (a .count) (c .before .before .before .before .before .before .before .first-page .result) (c .before .before .before .before .pages-for .result) (c .before .before .before .pages-for2 .result) (c .before .first-page2 .result) (omega arith) (c .before .before .before .before .before .before .before .before .before .before .pre .0) x y w z in
+    omega arith
+
+move-digests-requires : tie.Need-move-digests-requires
+move-digests-requires c κs =
+    let a = c .before .before .before .before .before .before .before .before .before .before .args in
+    let ns = memOf (a .m .now) .nodes in
+    let l : length ns ≡ 256 = length-nodes (a .m .now) in
+    let x : c .before .before .before .before .before .before .before .first-page .result ≡ pageTotal (take (a .k) ns) = c .before .before .before .before .before .before .before .first-page .ensures .0 in
+    let y : c .before .before .before .before .pages-for .result ≡ pagesFor (nodeAt ns (a .k) .size) = c .before .before .before .before .pages-for .ensures .0 ∙ ap pagesFor (c .before .before .before .before .before .node-size .ensures) in
+    let w : c .before .before .before .pages-for2 .result ≡ pagesFor (a .size) = c .before .before .before .pages-for2 .ensures .0 in
+    let z : c .before .first-page2 .result ≡ pageTotal (take (a .n) ns) = c .before .first-page2 .ensures .0 in
+    let r = room ns (a .n) (a .k) (a .size) (a .from) (a .count) (c .before .before .before .before .before .before .before .first-page .result) (c .before .before .before .before .pages-for .result) (c .before .before .before .pages-for2 .result) (c .before .first-page2 .result) (omega arith) (c .before .before .before .before .before .before .before .before .before .before .pre .0) x y w z in
+    (omega arith, omega arith, omega arith)
+
+add-keep-digests : tie.Need-add-keep-digests
+add-keep-digests c =
+    let a = c .before .before .before .before .before .before .before .before .before .before .before .before .before .before .args in
+    let ns = memOf (a .m .now) .nodes in
+    let l : length ns ≡ 256 = length-nodes (a .m .now) in
+    let x : c .before .before .before .before .before .before .before .before .before .before .before .first-page .result ≡ pageTotal (take (a .k) ns) = c .before .before .before .before .before .before .before .before .before .before .before .first-page .ensures .0 in
+    let y : c .before .before .before .before .before .before .before .before .pages-for .result ≡ pagesFor (nodeAt ns (a .k) .size) = c .before .before .before .before .before .before .before .before .pages-for .ensures .0 ∙ ap pagesFor (c .before .before .before .before .before .before .before .before .before .node-size .ensures) in
+    let w : c .before .before .before .before .before .before .before .pages-for2 .result ≡ pagesFor (a .size) = c .before .before .before .before .before .before .before .pages-for2 .ensures .0 in
+    let z : c .before .before .before .before .before .first-page2 .result ≡ pageTotal (take (a .n) ns) = c .before .before .before .before .before .first-page2 .ensures .0 in
+    let r = room ns (a .n) (a .k) (a .size) (a .from) (a .count) (c .before .before .before .before .before .before .before .before .before .before .before .first-page .result) (c .before .before .before .before .before .before .before .before .pages-for .result) (c .before .before .before .before .before .before .before .pages-for2 .result) (c .before .before .before .before .before .first-page2 .result) (omega arith) (c .before .before .before .before .before .before .before .before .before .before .before .before .before .before .pre .0) x y w z in
+    omega arith
+
+keep-digests-requires : tie.Need-keep-digests-requires
+keep-digests-requires c κs =
+    let a = c .before .before .before .before .before .before .before .before .before .before .before .before .before .before .args in
+    let ns = memOf (a .m .now) .nodes in
+    let l : length ns ≡ 256 = length-nodes (a .m .now) in
+    let x : c .before .before .before .before .before .before .before .before .before .before .before .first-page .result ≡ pageTotal (take (a .k) ns) = c .before .before .before .before .before .before .before .before .before .before .before .first-page .ensures .0 in
+    let y : c .before .before .before .before .before .before .before .before .pages-for .result ≡ pagesFor (nodeAt ns (a .k) .size) = c .before .before .before .before .before .before .before .before .pages-for .ensures .0 ∙ ap pagesFor (c .before .before .before .before .before .before .before .before .before .node-size .ensures) in
+    let w : c .before .before .before .before .before .before .before .pages-for2 .result ≡ pagesFor (a .size) = c .before .before .before .before .before .before .before .pages-for2 .ensures .0 in
+    let z : c .before .before .before .before .before .first-page2 .result ≡ pageTotal (take (a .n) ns) = c .before .before .before .before .before .first-page2 .ensures .0 in
+    let r = room ns (a .n) (a .k) (a .size) (a .from) (a .count) (c .before .before .before .before .before .before .before .before .before .before .before .first-page .result) (c .before .before .before .before .before .before .before .before .pages-for .result) (c .before .before .before .before .before .before .before .pages-for2 .result) (c .before .before .before .before .before .first-page2 .result) (omega arith) (c .before .before .before .before .before .before .before .before .before .before .before .before .before .before .pre .0) x y w z in
+    (omega arith, omega arith, omega arith)
+
+set-size-requires : tie.Need-set-size-requires
+set-size-requires c κs =
+    let a = c .before .before .before .before .before .before .before .before .before .before .before .before .before .before .before .before .before .before .args in
+    let ns = memOf (a .m .now) .nodes in
+    let l : length ns ≡ 256 = length-nodes (a .m .now) in
+    let x : c .before .before .before .before .before .before .before .before .before .before .before .before .before .before .before .first-page .result ≡ pageTotal (take (a .k) ns) = c .before .before .before .before .before .before .before .before .before .before .before .before .before .before .before .first-page .ensures .0 in
+    let y : c .before .before .before .before .before .before .before .before .before .before .before .before .pages-for .result ≡ pagesFor (nodeAt ns (a .k) .size) = c .before .before .before .before .before .before .before .before .before .before .before .before .pages-for .ensures .0 ∙ ap pagesFor (c .before .before .before .before .before .before .before .before .before .before .before .before .before .node-size .ensures) in
+    let w : c .before .before .before .before .before .before .before .before .before .before .before .pages-for2 .result ≡ pagesFor (a .size) = c .before .before .before .before .before .before .before .before .before .before .before .pages-for2 .ensures .0 in
+    let z : c .before .before .before .before .before .before .before .before .before .first-page2 .result ≡ pageTotal (take (a .n) ns) = c .before .before .before .before .before .before .before .before .before .first-page2 .ensures .0 in
+    let r = room ns (a .n) (a .k) (a .size) (a .from) (a .count) (c .before .before .before .before .before .before .before .before .before .before .before .before .before .before .before .first-page .result) (c .before .before .before .before .before .before .before .before .before .before .before .before .pages-for .result) (c .before .before .before .before .before .before .before .before .before .before .before .pages-for2 .result) (c .before .before .before .before .before .before .before .before .before .first-page2 .result) (omega arith) (c .before .before .before .before .before .before .before .before .before .before .before .before .before .before .before .before .before .before .pre .0) x y w z in
+    (omega arith, omega arith)
+
+same-length : tie.Need-same-length
+same-length c = search needs
+
+returns : tie.Need-returns
+unfolding stagedDigests
+returns c =
+    let a = c .before .before .before .before .before .before .before .before .before .before .before .before .before .before .before .before .before .before .before .before .before .args in
+    let ns = memOf (a .m .now) .nodes in
+    let l : length ns ≡ 256 = length-nodes (a .m .now) in
+    let x : c .before .before .before .before .before .before .before .before .before .before .before .before .before .before .before .before .before .before .first-page .result ≡ pageTotal (take (a .k) ns) = c .before .before .before .before .before .before .before .before .before .before .before .before .before .before .before .before .before .before .first-page .ensures .0 in
+    let y : c .before .before .before .before .before .before .before .before .before .before .before .before .before .before .before .pages-for .result ≡ pagesFor (nodeAt ns (a .k) .size) = c .before .before .before .before .before .before .before .before .before .before .before .before .before .before .before .pages-for .ensures .0 ∙ ap pagesFor (c .before .before .before .before .before .before .before .before .before .before .before .before .before .before .before .before .node-size .ensures) in
+    let w : c .before .before .before .before .before .before .before .before .before .before .before .before .before .before .pages-for2 .result ≡ pagesFor (a .size) = c .before .before .before .before .before .before .before .before .before .before .before .before .before .before .pages-for2 .ensures .0 in
+    let z : c .before .before .before .before .before .before .before .before .before .before .before .before .first-page2 .result ≡ pageTotal (take (a .n) ns) = c .before .before .before .before .before .before .before .before .before .before .before .before .first-page2 .ensures .0 in
+    let r = room ns (a .n) (a .k) (a .size) (a .from) (a .count) (c .before .before .before .before .before .before .before .before .before .before .before .before .before .before .before .before .before .before .first-page .result) (c .before .before .before .before .before .before .before .before .before .before .before .before .before .before .before .pages-for .result) (c .before .before .before .before .before .before .before .before .before .before .before .before .before .before .pages-for2 .result) (c .before .before .before .before .before .before .before .before .before .before .before .before .first-page2 .result) (omega arith) (c .before .before .before .before .before .before .before .before .before .before .before .before .before .before .before .before .before .before .before .before .before .pre .0) x y w z in
+    let m = memOf (a .m .now) in
+    let new = stagedDigests (a .count) (m .staged) in
+    let g : length new ≡ a .count = length-rows digestWidth (a .count) (part dataSize (a .count * digestWidth) (m .staged)) in (
+      λ q o.
+          ap (viewOf (a .n) o) (c .before .before .set-size .ensures .0 ∙ rw (c .before .before .before .before .before .before .keep-digests .ensures .0, c .before .before .before .before .before .before .before .before .before .before .move-digests .ensures .0))
+          ∙ view-change q m (a .n) o (a .k) (a .size) (a .from) new (c .before .before .before .before .before .before .before .before .before .before .before .before .before .before .before .before .before .before .first-page .result) (c .before .before .before .before .before .before .before .before .before .before .before .before .before .before .before .pages-for .result) (c .before .before .before .before .before .before .before .before .before .before .before .before .before .before .pages-for2 .result) (c .before .before .before .before .before .before .before .before .before .before .before .before .first-page2 .result) (omega arith) (length-digests (a .m .now)) (rw g (c .before .before .before .before .before .before .before .before .before .before .before .before .before .before .before .before .before .before .before .before .before .pre .0)) x y w z,
+      omega arith,
+    )
+
+pub finish-change-spec : {M : Type 1} → statement M
+finish-change-spec =
+    tie.close
+    (tie.spec
+    first-page-requires
+    node-size-requires
+    pages-for-requires
+    add-next
+    pages-for-requires-2
+    add-end
+    first-page-requires-2
+    sub-move-digests
+    move-digests-requires
+    add-keep-digests
+    keep-digests-requires
+    set-size-requires
+    same-length
+    returns)

@@ -1,0 +1,103 @@
+-- `tables::remove_node` meets its contract. The pages of node k end no later than all pages do. Assumes nothing.
+use native.Mathlib.Omega.{arith}
+use mathlib.Core.Path.{_≡_, ap, _∙_}
+use Prim.Native.Nat.{_+_, _-_}
+use lib.ListN.{length, take}
+use Rattle.memory.specs.Layout.{memOf}
+use Rattle.filesystem.specs.Tables.{nodeAt, pagesFor, pageTotal}
+use Rattle.memory.specs.MemLaws.{length-nodes, length-digests}
+use Rattle.tables.specs.View.{viewOf}
+use Rattle.tables.specs.ContentLaws.{total-part}
+use Rattle.tables.specs.ViewLaws.{view-remove}
+use borrow.Author.Needs.{needs}
+use Rattle.tables.proofs.remove_node.Statement.{statement}
+use Rattle.tables.proofs.remove_node.Tie as tie
+
+first-page-requires : tie.Need-first-page-requires
+first-page-requires c κs = search needs
+
+node-size-requires : tie.Need-node-size-requires
+node-size-requires c κs = search needs
+
+pages-for-requires : tie.Need-pages-for-requires
+pages-for-requires c κs = search needs
+
+add-next : tie.Need-add-next
+add-next c = search needs
+
+first-page-requires-2 : tie.Need-first-page-requires-2
+first-page-requires-2 c κs = search needs
+
+sub-move-digests : tie.Need-sub-move-digests
+sub-move-digests c =
+    let a = c .before .before .before .before .before .before .before .before .before .args in
+    let ns = memOf (a .m .now) .nodes in
+    let l : length ns ≡ 256 = length-nodes (a .m .now) in
+    let x : c .before .before .before .before .before .before .first-page .result ≡ pageTotal (take (a .k) ns) = c .before .before .before .before .before .before .first-page .ensures .0 in
+    let y : c .before .before .before .pages-for .result ≡ pagesFor (nodeAt ns (a .k) .size) = c .before .before .before .pages-for .ensures .0 ∙ ap pagesFor (c .before .before .before .before .node-size .ensures) in
+    let z : c .before .first-page2 .result ≡ pageTotal (take (a .n) ns) = c .before .first-page2 .ensures .0 in
+    let t = total-part ns (a .n) (a .k) (omega arith) (omega arith) in
+    omega arith
+
+move-digests-requires : tie.Need-move-digests-requires
+move-digests-requires c κs =
+    let a = c .before .before .before .before .before .before .before .before .before .args in
+    let ns = memOf (a .m .now) .nodes in
+    let l : length ns ≡ 256 = length-nodes (a .m .now) in
+    let x : c .before .before .before .before .before .before .first-page .result ≡ pageTotal (take (a .k) ns) = c .before .before .before .before .before .before .first-page .ensures .0 in
+    let y : c .before .before .before .pages-for .result ≡ pagesFor (nodeAt ns (a .k) .size) = c .before .before .before .pages-for .ensures .0 ∙ ap pagesFor (c .before .before .before .before .node-size .ensures) in
+    let z : c .before .first-page2 .result ≡ pageTotal (take (a .n) ns) = c .before .first-page2 .ensures .0 in
+    let t = total-part ns (a .n) (a .k) (omega arith) (omega arith) in
+    (omega arith, omega arith, omega arith)
+
+add-move-nodes : tie.Need-add-move-nodes
+add-move-nodes c = search needs
+
+add-move-nodes-2 : tie.Need-add-move-nodes-2
+add-move-nodes-2 c = search needs
+
+sub-move-nodes : tie.Need-sub-move-nodes
+sub-move-nodes c = search needs
+
+move-nodes-requires : tie.Need-move-nodes-requires
+move-nodes-requires c κs = search needs
+
+same-length : tie.Need-same-length
+same-length c = search needs
+
+returns : tie.Need-returns
+returns c =
+    let a = c .before .before .before .before .before .before .before .before .before .before .before .before .before .before .before .before .args in
+    let ns = memOf (a .m .now) .nodes in
+    let l : length ns ≡ 256 = length-nodes (a .m .now) in
+    let x : c .before .before .before .before .before .before .before .before .before .before .before .before .before .first-page .result ≡ pageTotal (take (a .k) ns) = c .before .before .before .before .before .before .before .before .before .before .before .before .before .first-page .ensures .0 in
+    let y : c .before .before .before .before .before .before .before .before .before .before .pages-for .result ≡ pagesFor (nodeAt ns (a .k) .size) = c .before .before .before .before .before .before .before .before .before .before .pages-for .ensures .0 ∙ ap pagesFor (c .before .before .before .before .before .before .before .before .before .before .before .node-size .ensures) in
+    let z : c .before .before .before .before .before .before .before .before .first-page2 .result ≡ pageTotal (take (a .n) ns) = c .before .before .before .before .before .before .before .before .first-page2 .ensures .0 in
+    let t = total-part ns (a .n) (a .k) (omega arith) (omega arith) in
+    let m = memOf (a .m .now) in
+    let ld : length (m .digests) ≡ 1024 = length-digests (a .m .now) in
+    let f = c .before .before .before .before .before .before .before .before .before .before .before .before .before .first-page .result in
+    let e = f + c .before .before .before .before .before .before .before .before .before .before .pages-for .result in (
+      λ o.
+          ap (viewOf (a .n - 1) o) (c .before .before .move-nodes .ensures .0 ∙ rw (c .before .before .before .before .before .before .move-digests .ensures .0, z))
+          ∙ view-remove m (a .n) o (a .k) f e (omega arith) (omega arith) x (rw y) (omega arith),
+      omega arith,
+    )
+
+pub remove-node-spec : {M : Type 1} → statement M
+remove-node-spec =
+    tie.close
+    (tie.spec
+    first-page-requires
+    node-size-requires
+    pages-for-requires
+    add-next
+    first-page-requires-2
+    sub-move-digests
+    move-digests-requires
+    add-move-nodes
+    add-move-nodes-2
+    sub-move-nodes
+    move-nodes-requires
+    same-length
+    returns)

@@ -1,0 +1,297 @@
+-- A file's digests with new ones among them: rows moved and overwritten at its first page are what the machine says.
+-- Assumes nothing.
+use mathlib.Core.Path.{_≡_, refl, ap, ap₂, sym, _∙_}
+use mathlib.Core.Bool.{true, false, true≢false}
+use mathlib.Core.List.{List, [], _∷_}
+use Prim.Native.Nat.{ℕ, zero, suc, _+_, _-_, _≤_, _<_, max}
+use native.Mathlib.Nat.{add-zero}
+use native.Mathlib.Omega.{arith}
+use lib.Dec.{leb, ltb}
+use lib.ListN.{length, getD, take, drop, set}
+use lib.Seq.{ext-getD, set-split, length-take-le, take-take, take-set-lt, getD-take}
+use borrow.Author.Tests.{leb-true, leb-false, ltb-true, ltb-false, le-leb, lt-ltb}
+use Rattle.lists.specs.Pick.{pick, pick-true, pick-false}
+use Rattle.lists.specs.Equal.{Is, isT, isF, is, and-fst, and-snd, and-both}
+use Rattle.lists.specs.Cells.{length-tab, getD-tab}
+use Rattle.lists.specs.Parts.{part, overwrite}
+use Rattle.lists.specs.PartLaws.{length-part, length-overwrite, getD-part, part-before, part-after, part-within, overwrite-all}
+use Rattle.filesystem.specs.Tables.{Node, noNode, nodeAt, withSize, setSize, pagesFor, pageTotal, PAGES}
+use Rattle.filesystem.specs.Image.{divide}
+use Rattle.memory.specs.Layout.{Mem, newDigests, withNodes, withDigests}
+use Rattle.rules.specs.Pages.{inside, pageAt, Change, writing, shrinking, first, last, sizeAfter, FitsSize}
+use Rattle.rules.specs.Skeleton.{Config}
+use Rattle.machine.specs.Machine.{zeroDigest, replaced}
+use Rattle.tables.specs.View.{viewOf, withFiles, withChange, Changeable, mayChange, pagesChange}
+use Rattle.tables.specs.ContentLaws.{total-append, total-split, divide-at, divide-set, front-kept, moved-there}
+
+-- what stands in a place, whatever would be read past the end
+getD-any : {A : Type 0} (l : List A) (i : ℕ) (a b : A) → i < length l → getD l i a ≡ getD l i b
+getD-any [] i a b h = absurd (omega arith)
+getD-any (x ∷ l) zero a b h = refl
+getD-any (x ∷ l) (suc i) a b h = getD-any l i a b (omega arith)
+
+-- the places of an overwrite
+module _ {A : Type 0} (l : List A) (at : ℕ) (x : List A) (d : A) (fits : at + length x ≤ length l) where
+  one : (i : ℕ) → part i 1 (overwrite l at x) ≡ part i 1 l → getD (overwrite l at x) i d ≡ getD l i d
+  one i e =
+      let z : i + 0 ≡ i = add-zero i in
+      rw z at (sym (getD-part i 1 0 (overwrite l at x) d (omega arith)) ∙ ap (λ (r : List A). getD r 0 d) e ∙ getD-part i 1 0 l d (omega arith))
+
+  pub over-before : (i : ℕ) → i < at → getD (overwrite l at x) i d ≡ getD l i d
+  over-before i h = one i (part-before l at x i 1 (omega arith) fits)
+
+  pub over-behind : (i : ℕ) → at + length x ≤ i → getD (overwrite l at x) i d ≡ getD l i d
+  over-behind i h = one i (part-after l at x i 1 h fits)
+
+  pub over-all : part at (length x) (overwrite l at x) ≡ x
+  over-all =
+      part-within l at x at (length x) 0 (sym (add-zero at)) (omega arith) fits
+      ∙ overwrite-all (part at (length x) l) x (length-part at (length x) l fits)
+
+  pub over-inside : (i : ℕ) → at ≤ i → i < at + length x → getD (overwrite l at x) i d ≡ getD x (i - at) d
+  over-inside i h g =
+      let e : at + (i - at) ≡ i = omega arith in
+      sym (rw e at (getD-part at (length x) (i - at) (overwrite l at x) d (omega arith))) ∙ ap (λ (r : List A). getD r (i - at) d) over-all
+
+-- rows overwritten are the machine's new list
+module _ (c : Config) (x y : List (List ℕ)) (size from : ℕ) (new : List (List ℕ)) where
+  pub replaced-cells : length x ≡ pagesFor size → from + length new ≤ length x
+      → ((i : ℕ) → i < length x → inside from (length new) i ≡ false → getD x i [] ≡ getD y i (zeroDigest c)) → overwrite x from new ≡ replaced c y size from new
+  unfolding replaced
+  replaced-cells e f other = ext-getD [] _ _ (length-overwrite x from new f ∙ e ∙ sym (length-tab (pagesFor size) _)) (λ i h. cell i (rw (length-overwrite x from new f) at h))
+    where
+      cell : (i : ℕ) → i < length x
+          → getD (overwrite x from new) i [] ≡ getD (replaced c y size from new) i []
+      cell i h = go (is (leb from i)) (is (ltb i (from + length new)))
+        where
+          at-cell : getD (replaced c y size from new) i [] ≡ pick (inside from (length new) i) (getD new (i - from) []) (getD y i (zeroDigest c))
+          at-cell = getD-tab (pagesFor size) _ i [] (omega arith)
+
+          out : inside from (length new) i ≡ false → getD x i [] ≡ getD (replaced c y size from new) i []
+          out n = other i h n ∙ sym (at-cell ∙ pick-false (inside from (length new) i) _ _ n)
+
+          go : Is (leb from i) → Is (ltb i (from + length new)) → getD (overwrite x from new) i [] ≡ getD (replaced c y size from new) i []
+          go (isT a) (isT b) =
+              over-inside x from new [] f i (leb-true _ _ a) (ltb-true _ _ b) ∙ sym (at-cell ∙ pick-true (inside from (length new) i) _ _ (and-both _ _ a b))
+          go (isT a) (isF b) = over-behind x from new [] f i (ltb-false _ _ b) ∙ out (rw (a, b))
+          go (isF a) b = over-before x from new [] f i (leb-false _ _ a) ∙ out (rw a)
+
+-- the rows behind file k moved to where its pages will end, and the new rows put among its own
+module _ (c : Config) (ns : List Node) (ds : List (List ℕ)) (k size from : ℕ) (new : List (List ℕ)) (f p q r : ℕ) where
+  record Placed : Type 0 where
+    known : k < length ns
+    is-first : f ≡ pageTotal (take k ns)
+    is-old : p ≡ pagesFor (nodeAt ns k .size)
+    is-new : q ≡ pagesFor size
+    is-rest : r ≡ pageTotal (drop (suc k) ns)
+    fits-before : f + p + r ≤ length ds
+    fits-after : f + q + r ≤ length ds
+    begins : from ≤ p
+    ends : from + length new ≤ q
+    covered : q ≤ max p (from + length new)
+
+  moved : List (List ℕ)
+  moved = overwrite ds (f + q) (part (f + p) r ds)
+
+  module _ (h : Placed) where
+    rest-length : length (part (f + p) r ds) ≡ r
+    rest-length = length-part (f + p) r ds (h .fits-before)
+
+    moved-length : length moved ≡ length ds
+    unfolding moved
+    moved-length = let n = rest-length in let g = h .fits-after in length-overwrite ds (f + q) (part (f + p) r ds) (omega arith)
+
+    new-fits : f + from + length new ≤ length moved
+    new-fits = let n = moved-length in let g = h .fits-after in let e = h .ends in omega arith
+
+    rest-fits : f + q + length (part (f + p) r ds) ≤ length ds
+    rest-fits = let n = rest-length in let g = h .fits-after in omega arith
+
+    front : take f (overwrite moved (f + from) new) ≡ take f ds
+    unfolding moved
+    front = front-kept moved (f + from) new f (omega arith) new-fits ∙ front-kept ds (f + q) (part (f + p) r ds) f (omega arith) rest-fits
+
+    back : part (f + q) r (overwrite moved (f + from) new) ≡ part (f + p) r ds
+    unfolding moved
+    back =
+        let e = h .ends in
+        part-after moved (f + from) new (f + q) r (omega arith) new-fits ∙ moved-there ds (f + q) (f + p) r (h .fits-before) (h .fits-after)
+
+    own : part f q (overwrite moved (f + from) new) ≡ overwrite (part f q ds) from new
+    unfolding moved
+    own =
+        let n = moved-length in
+        let g = h .fits-after in
+        part-within moved (f + from) new f q from refl (h .ends) (omega arith)
+        ∙ ap (λ (l : List (List ℕ)). overwrite l from new) (part-before ds (f + q) (part (f + p) r ds) f q (omega arith) rest-fits)
+
+    -- what is not new was there
+    kept : (i : ℕ) → i < length (part f q ds) → inside from (length new) i ≡ false → getD (part f q ds) i [] ≡ getD (part f p ds) i (zeroDigest c)
+    kept i l n = go (is (ltb i p))
+      where
+        size-own : length (part f q ds) ≡ q
+        size-own = let g = h .fits-after in length-part f q ds (omega arith)
+
+        go : Is (ltb i p) → getD (part f q ds) i [] ≡ getD (part f p ds) i (zeroDigest c)
+        go (isT a) =
+            let b : i < p = ltb-true _ _ a in
+            let e = size-own in
+            let g = h .fits-before in
+            getD-part f q i ds [] (omega arith) ∙ getD-any ds (f + i) [] (zeroDigest c) (omega arith) ∙ sym (getD-part f p i ds (zeroDigest c) b)
+        go (isF a) =
+            let b : p ≤ i = ltb-false _ _ a in
+            let e = size-own in
+            let g = h .begins in
+            let d = h .covered in
+            absurd (true≢false (sym (and-both _ _ (le-leb from i (omega arith)) (lt-ltb i (from + length new) (omega arith))) ∙ n))
+
+    contents-changed : (y : Node) → y .size ≡ size → divide (set ns k y) (overwrite moved (f + from) new) ≡ set (divide ns ds) k (replaced c (getD (divide ns ds) k []) size from new)
+    contents-changed y e =
+        let g = h .fits-after in
+        let l : length (part f q ds) ≡ q = length-part f q ds (omega arith) in
+        let z = h .ends in
+        divide-set ns k (h .known) y ds (overwrite moved (f + from) new) f p q (h .is-first) (h .is-old) (h .is-new ∙ ap pagesFor (sym e)) front (ap (λ j. part (f + q) j (overwrite moved (f + from) new)) (sym (h .is-rest)) ∙ back ∙ ap (λ j. part (f + p) j ds) (h .is-rest))
+        ∙ ap (set (divide ns ds) k)
+        (own
+        ∙ replaced-cells c (part f q ds) (part f p ds) size from new (l ∙ h .is-new) (omega arith) kept
+        ∙ ap (λ (x : List (List ℕ)). replaced c x size from new) (ap₂ (λ i j. part i j ds) (h .is-first) (h .is-old) ∙ sym (divide-at ns k (h .known) ds)))
+
+-- the page total with node k of another size
+pub total-set : (ns : List Node) (k size : ℕ) → k < length ns → pageTotal (setSize ns k size) ≡ pageTotal (take k ns) + (pagesFor size + pageTotal (drop (suc k) ns))
+unfolding pageTotal setSize
+total-set ns k size h = ap pageTotal (set-split ns k _ h) ∙ total-append (take k ns) _
+
+-- the first n nodes, node k of another size
+front-size : (l : List Node) (n k size : ℕ) → k < n → take n (setSize l k size) ≡ setSize (take n l) k size
+unfolding setSize nodeAt
+front-size l n k size h = take-set-lt n l k _ h ∙ ap (λ (y : Node). set (take n l) k (withSize size y)) (sym (getD-take n l k noNode h))
+
+module _ (c : Config) (m : Mem) (n o k size from : ℕ) (new : List (List ℕ)) (f p q t : ℕ) where
+  pub view-change : n ≤ length (m .nodes) → length (m .digests) ≡ PAGES → Changeable (take n (m .nodes)) k size from (length new)
+      → f ≡ pageTotal (take k (m .nodes)) → p ≡ pagesFor (nodeAt (m .nodes) k .size) → q ≡ pagesFor size → t ≡ pageTotal (take n (m .nodes))
+      → viewOf n o (withNodes (setSize (m .nodes) k size) (withDigests (overwrite (overwrite (m .digests) (f + q) (part (f + p) (t - (f + p)) (m .digests))) (f + from) new) m)) ≡ withChange c k size from new (viewOf n o m)
+  unfolding viewOf withChange moved setSize nodeAt
+  view-change g d h ef ep eq et =
+      let ns = take n (m .nodes) in
+      let l : length ns ≡ n = length-take-le n (m .nodes) g in
+      let kn : k < n = let z = h .known in omega arith in
+      let a : f ≡ pageTotal (take k ns) = ef ∙ ap pageTotal (sym (take-take k n (m .nodes) (omega arith))) in
+      let b : p ≡ pagesFor (nodeAt ns k .size) = ep ∙ ap (λ (x : Node). pagesFor (x .size)) (sym (getD-take n (m .nodes) k noNode kn)) in
+      let s = total-split ns k (h .known) in
+      let u = total-set ns k size (h .known) in
+      let z1 = h .room-before in
+      let z2 = h .room-after in
+      let z3 = h .begins in
+      let z4 = h .covered in
+      let r = pageTotal (drop (suc k) ns) in
+      let e : t - (f + p) ≡ r = omega arith in
+      let w : Placed c ns (m .digests) k size from new f p q r = record {
+        known = h .known;
+        is-first = a;
+        is-old = b;
+        is-new = eq;
+        is-rest = refl;
+        fits-before = omega arith;
+        fits-after = omega arith;
+        begins = omega arith;
+        ends = rw eq (h .ends);
+        covered = rw (eq, b) z4;
+      } in
+      let x = front-size (m .nodes) n k size kn in
+      ap₂ (λ a b. withFiles a b (viewOf n o m)) x
+      (ap₂ (λ a j. divide a (overwrite (overwrite (m .digests) (f + q) (part (f + p) j (m .digests))) (f + from) new)) x e
+      ∙ contents-changed c ns (m .digests) k size from new f p q r w (withSize size (nodeAt ns k)) refl)
+
+-- what such a change asks of the rows: where the pages of node k end, of all nodes, and after the change
+pub record Room (n k from count f p q t : ℕ) : Type 0 where
+  pub known : k < n
+  pub within : f + p ≤ t
+  pub before-fits : t ≤ PAGES
+  pub after-fits : f + q + (t - (f + p)) ≤ PAGES
+  pub new-fits : f + from + count ≤ PAGES
+  pub few : count ≤ newDigests
+
+module _ (l : List Node) (n k size from count f p q t : ℕ) where
+  pub room : n ≤ length l → Changeable (take n l) k size from count → f ≡ pageTotal (take k l) → p ≡ pagesFor (nodeAt l k .size) → q ≡ pagesFor size → t ≡ pageTotal (take n l) → Room n k from count f p q t
+  unfolding nodeAt
+  room g h ef ep eq et =
+      let e : length (take n l) ≡ n = length-take-le n l g in
+      let kn : k < n = let z = h .known in omega arith in
+      let a : pageTotal (take k (take n l)) ≡ pageTotal (take k l) = ap pageTotal (take-take k n l (omega arith)) in
+      let b : pagesFor (getD (take n l) k noNode .size) ≡ pagesFor (getD l k noNode .size) = ap (λ (x : Node). pagesFor (x .size)) (getD-take n l k noNode kn) in
+      let s = total-split (take n l) k (h .known) in
+      let u = total-set (take n l) k size (h .known) in
+      let z1 = h .room-before in
+      let z2 = h .room-after in
+      let z3 = h .ends in
+      let z4 = h .few in
+      record { known = kn; within = omega arith; before-fits = omega arith; after-fits = omega arith; new-fits = omega arith; few = z4 }
+
+-- the page total with node k of another size, by the total and the two sizes
+pub total-with : (l : List Node) (n k size : ℕ) → k < n → n ≤ length l → pageTotal (setSize (take n l) k size) + pagesFor (nodeAt l k .size) ≡ pageTotal (take n l) + pagesFor size
+unfolding nodeAt
+total-with l n k size h g =
+    let e : length (take n l) ≡ n = length-take-le n l g in
+    let b : pagesFor (getD (take n l) k noNode .size) ≡ pagesFor (getD l k noNode .size) = ap (λ (x : Node). pagesFor (x .size)) (getD-take n l k noNode h) in
+    let s = total-split (take n l) k (omega arith) in
+    let u = total-set (take n l) k size (omega arith) in
+    omega arith
+
+-- a change that the file can have, with a digest for each page that it stores
+pub change-changeable : (ns : List Node) (k : ℕ) (q : Change) → k < length ns → FitsSize q (nodeAt ns k .size) → pageTotal ns ≤ PAGES → pageTotal (setSize ns k (sizeAfter q (nodeAt ns k .size))) ≤ PAGES
+    → last q - first q ≤ newDigests → Changeable ns k (sizeAfter q (nodeAt ns k .size)) (first q) (last q - first q)
+unfolding sizeAfter first last pageAt pagesFor
+change-changeable ns k (writing p d) h g b a f =
+    record { known = h; room-before = b; room-after = a; begins = let z = g .0 in omega arith; ends = let z = g .0 in omega arith; covered = let z = g .0 in omega arith; few = f }
+change-changeable ns k (shrinking n) h g b a f =
+    record { known = h; room-before = b; room-after = a; begins = omega arith; ends = omega arith; covered = omega arith; few = f }
+
+-- the test of the page counts, and what it says
+module _ (old new from count : ℕ) where
+  pages-true : pagesChange old new from count ≡ true → (from ≤ old) × (from + count ≤ new) × (new ≤ max old (from + count)) × (count ≤ newDigests)
+  unfolding pagesChange
+  pages-true e =
+      let e1 = and-snd (leb from old) _ e in
+      let e2 = and-snd (leb (from + count) new) _ e1 in
+      (leb-true _ _ (and-fst _ _ e), leb-true _ _ (and-fst _ _ e1), leb-true _ _ (and-fst _ _ e2), leb-true _ _ (and-snd (leb new (max old (from + count))) _ e2))
+
+  pub pages-so : from ≤ old → from + count ≤ new → new ≤ max old (from + count) → count ≤ newDigests → pagesChange old new from count ≡ true
+  unfolding pagesChange
+  pages-so a b c d = and-both _ _ (le-leb _ _ a) (and-both _ _ (le-leb _ _ b) (and-both _ _ (le-leb _ _ c) (le-leb _ _ d)))
+
+  pub pages-no : (from ≤ old → from + count ≤ new → new ≤ max old (from + count) → count ≤ newDigests → ⊥) → pagesChange old new from count ≡ false
+  pages-no n = go (is (pagesChange old new from count))
+    where
+      go : Is (pagesChange old new from count) → pagesChange old new from count ≡ false
+      go (isT e) = let (a, b, c, d) = pages-true e in absurd (n a b c d)
+      go (isF e) = e
+
+module _ (ns : List Node) (k size from count : ℕ) where
+  -- a change that passes the test can be done
+  pub may-change : mayChange ns k size from count ≡ true → Changeable ns k size from count
+  unfolding mayChange
+  may-change e =
+      let e1 = and-snd (ltb k (length ns)) _ e in
+      let e2 = and-snd (leb (pageTotal ns) PAGES) _ e1 in
+      let (a, b, c, d) = pages-true (pagesFor (nodeAt ns k .size)) (pagesFor size) from count (and-snd (leb (pageTotal (setSize ns k size)) PAGES) _ e2) in
+      record { known = ltb-true _ _ (and-fst _ _ e); room-before = leb-true _ _ (and-fst _ _ e1); room-after = leb-true _ _ (and-fst _ _ e2); begins = a; ends = b; covered = c; few = d }
+
+  -- and one that can be done passes it
+  pub may-change-so : Changeable ns k size from count → mayChange ns k size from count ≡ true
+  unfolding mayChange
+  may-change-so h =
+      and-both _ _ (lt-ltb _ _ (h .known))
+      (and-both _ _ (le-leb _ _ (h .room-before))
+      (and-both _ _ (le-leb _ _ (h .room-after)) (pages-so (pagesFor (nodeAt ns k .size)) (pagesFor size) from count (h .begins) (h .ends) (h .covered) (h .few))))
+
+  pub may-change-no : (Changeable ns k size from count → ⊥) → mayChange ns k size from count ≡ false
+  may-change-no n = go (is (mayChange ns k size from count))
+    where
+      go : Is (mayChange ns k size from count) → mayChange ns k size from count ≡ false
+      go (isT e) = absurd (n (may-change e))
+      go (isF e) = e
+
+  -- where there is room, the page counts decide
+  pub may-change-pages : k < length ns → pageTotal ns ≤ PAGES → pageTotal (setSize ns k size) ≤ PAGES → mayChange ns k size from count ≡ pagesChange (pagesFor (nodeAt ns k .size)) (pagesFor size) from count
+  unfolding mayChange
+  may-change-pages a b c = rw (lt-ltb k (length ns) a, le-leb (pageTotal ns) PAGES b, le-leb (pageTotal (setSize ns k size)) PAGES c)
