@@ -18,6 +18,7 @@ void ours_put_digest(uint8_t *, size_t, size_t, const uint8_t *);
 void plain_put_digest(uint8_t *, size_t, size_t, const uint8_t *);
 size_t ours_write_image(const uint8_t *, size_t, size_t, uint8_t *, size_t);
 size_t plain_write_image(const uint8_t *, size_t, size_t, uint8_t *, size_t);
+size_t setup_image(const uint8_t *, size_t, uint8_t *);
 bool ours_is_sound(const uint8_t *, size_t);
 int plain_is_sound(const uint8_t *, size_t);
 size_t ours_load(const uint8_t *, size_t, uint8_t *, size_t);
@@ -60,7 +61,7 @@ static size_t longest(void)
         r[23 + 30] = i == '/' ? 'b' : 'a';
         r[23 + 31] = i == '/' ? 'b' : i;
     }
-    return plain_write_image(m, SIZE, 256, image, sizeof image);
+    return setup_image(m, 256, image);
 }
 #endif
 
