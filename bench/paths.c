@@ -1,13 +1,13 @@
-/* paths compare: both codes on the same paths and nodes. paths short|long: one call of each, to be counted. */
+/* paths compare: both codes on the same paths and nodes. paths ours|plain short|long: one call of each function, to be counted. */
 #include <stdbool.h>
 #include <stddef.h>
 #include <stdint.h>
 #include <stdio.h>
 #include <string.h>
 
-uint64_t rt_walk(const uint8_t *m, size_t length, size_t n, const uint8_t *path, size_t path_length);
-uint64_t rt_form(const uint8_t *path, size_t length);
-bool rt_covers(uint8_t mode, uint8_t rights);
+uint64_t ours_walk(const uint8_t *m, size_t length, size_t n, const uint8_t *path, size_t path_length);
+uint64_t ours_form(const uint8_t *path, size_t length);
+bool ours_covers(uint8_t mode, uint8_t rights);
 uint64_t plain_walk(const uint8_t *m, size_t length, size_t n, const uint8_t *path, size_t path_length);
 uint64_t plain_form(const uint8_t *path, size_t length);
 int plain_covers(unsigned mode, unsigned rights);
@@ -74,7 +74,7 @@ static int compare(void)
     long walks = 0, forms = 0, by_form[40] = {0}, by_walk[1100] = {0};
     for (unsigned mode = 0; mode < 8; mode++)
         for (unsigned rights = 1; rights < 4; rights++)
-            if (rt_covers((uint8_t)mode, (uint8_t)rights) != (plain_covers(mode, rights) == 1))
+            if (ours_covers((uint8_t)mode, (uint8_t)rights) != (plain_covers(mode, rights) == 1))
                 return printf("covers differs at %u %u\n", mode, rights), 1;
     for (int t = 0; t < 200000; t++) {
         static const char bytes[] = "//..aab\0";
@@ -83,7 +83,7 @@ static int compare(void)
             path[i] = t % 4 == 0 ? (random_number() % 20 == 0 ? '/' : 'a') : (uint8_t)bytes[random_number() % 8];
         if (n && random_number() % 8)
             path[0] = '/';
-        uint64_t a = rt_form(path, n), b = plain_form(path, n);
+        uint64_t a = ours_form(path, n), b = plain_form(path, n);
         if (a != b)
             return printf("form differs: %lu %lu\n", (unsigned long)a, (unsigned long)b), 1;
         forms++;
@@ -97,7 +97,7 @@ static int compare(void)
         memory[NODES_AT + (NODES - DEEP + random_number() % DEEP) * WIDTH + 16 + random_number() % 2] = (uint8_t)(random_number() % 8);
         if (random_number() % 2)
             n = random_number() % (n + 1);
-        uint64_t a = rt_walk(memory, SIZE, (size_t)nodes, path, n), b = plain_walk(memory, SIZE, (size_t)nodes, path, n);
+        uint64_t a = ours_walk(memory, SIZE, (size_t)nodes, path, n), b = plain_walk(memory, SIZE, (size_t)nodes, path, n);
         if (a != b)
             return printf("walk differs: %lu %lu\n", (unsigned long)a, (unsigned long)b), 1;
         walks++;
@@ -115,8 +115,10 @@ int main(int count, char **words)
         return 2;
     if (strcmp(words[1], "compare") == 0)
         return compare();
-    size_t n = full(strcmp(words[1], "short") == 0 ? 1 : 28, path);
-    uint64_t a = rt_walk(memory, SIZE, NODES, path, n), b = plain_walk(memory, SIZE, NODES, path, n);
-    uint64_t c = rt_form(path, n), d = plain_form(path, n);
-    return a == NODES - 1 && b == a && c == 0 && d == 0 ? 0 : 1;
+    int ours = strcmp(words[1], "ours") == 0;
+    size_t n = full(strcmp(words[2], "short") == 0 ? 1 : 28, path);
+    uint64_t node = ours ? ours_walk(memory, SIZE, NODES, path, n) : plain_walk(memory, SIZE, NODES, path, n);
+    uint64_t form = ours ? ours_form(path, n) : plain_form(path, n);
+    printf("%lu %lu\n", (unsigned long)node, (unsigned long)form);
+    return node == NODES - 1 && form == 0 ? 0 : 1;
 }

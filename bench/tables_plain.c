@@ -1,4 +1,4 @@
-/* Straightforward C on the rows of the guard's tables; with LOOPS, a removal by loops in place of memmove. */
+/* Straightforward C on the rows of the guard's tables. */
 #include <stddef.h>
 #include <stdint.h>
 #include <string.h>
@@ -15,26 +15,6 @@ enum { NODES_AT = 128, DIGESTS_AT = 15232 };
 
 static uint32_t pages(uint32_t size) { return (size + 1023) / 1024; }
 
-#ifdef LOOPS
-static void move_down(uint8_t *m, size_t to, size_t from, size_t n)
-{
-    for (size_t i = 0; i < n; i++)
-        m[to + i] = m[from + i];
-}
-
-void loops_remove(uint8_t *m, size_t len, size_t n, size_t k)
-{
-    struct node *nodes = (struct node *)(m + NODES_AT);
-    size_t first = 0, total = 0;
-    for (size_t i = 0; i < k; i++)
-        first += pages(nodes[i].size);
-    for (size_t i = 0; i < n; i++)
-        total += pages(nodes[i].size);
-    size_t next = first + pages(nodes[k].size);
-    move_down(m, DIGESTS_AT + 32 * first, DIGESTS_AT + 32 * next, 32 * (total - next));
-    move_down(m, NODES_AT + 56 * k, NODES_AT + 56 * (k + 1), (n - (k + 1)) * 56);
-}
-#else
 size_t plain_find(const uint8_t *m, size_t len, size_t n, uint64_t parent, const uint8_t *name, size_t name_len)
 {
     const struct node *nodes = (const struct node *)(m + NODES_AT);
@@ -66,6 +46,7 @@ void plain_put_digest(uint8_t *m, size_t len, size_t k, const uint8_t *x)
 {
     memcpy(m + DIGESTS_AT + 32 * k, x, 32);
 }
+
 static __attribute__((noinline)) size_t write_image(const uint8_t *m, size_t n, uint8_t *out)
 {
     const struct node *nodes = (const struct node *)(m + NODES_AT);
@@ -94,6 +75,7 @@ size_t plain_write_image(const uint8_t *m, size_t len, size_t n, uint8_t *out, s
 
 /* the same under another name, for setting up: what is counted is found by its name */
 size_t setup_image(const uint8_t *m, size_t n, uint8_t *out) { return write_image(m, n, out); }
+
 static uint32_t get32(const uint8_t *p)
 {
     uint32_t x;
@@ -172,4 +154,3 @@ size_t plain_load(const uint8_t *s, size_t length, uint8_t *m, size_t len)
     memcpy(m + DIGESTS_AT, s + p + 4, 32 * total);
     return n;
 }
-#endif

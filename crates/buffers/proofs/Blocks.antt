@@ -7,6 +7,8 @@ use native.Mathlib.Numerals.{add-one}
 use native.Mathlib.Omega.{arith}
 use lib.ListN.{length, getD, set, take, drop, length-append, length-drop, take-append-drop}
 use lib.Seq.{take-add, take-suc, take-suc-set, drop-drop, getD-drop, length-take-le, take-length, take-all, drop-append-add, drop-at}
+use Rattle.lists.specs.All.{Bytes, all-take, all-drop}
+use Rattle.lists.specs.LittleEndian.{encode, decode, encode-decode}
 use Rattle.lists.specs.Parts.{part, overwrite}
 use Rattle.lists.specs.PartLaws.{length-part, length-overwrite, part-before, part-after, overwrite-behind, overwrite-snoc}
 
@@ -96,3 +98,8 @@ module _ {A : Type 0} where
       let q : length (take (k - j) (drop j x)) ≡ k - j = length-take-le (k - j) (drop j x) (rw (length-drop j x) (omega arith)) in
       let u : length (overwrite l at (take j x)) ≡ length l = length-overwrite l at (take j x) (omega arith) in
       rw (r, t, ← overwrite-next l at (take j x) (take (k - j) (drop j x)) (at + j) (omega arith) (omega arith), over (overwrite l at (take j x)) (at + j) (take (k - j) (drop j x)) (drop j x) (rw (q, length-drop j x) (omega arith)) (omega arith), overwrite-next l at (take j x) (drop j x) (at + j) (omega arith) (omega arith), take-append-drop j x)
+
+-- the number that stands in n bytes, written as n bytes
+pub word-again : (x : List ℕ) → Bytes x → (i n : ℕ) → i + n ≤ length x → encode n (decode (part i n x)) ≡ part i n x
+unfolding part
+word-again x p i n h = rw (length-part i n x h) at (encode-decode (part i n x) (all-take n (all-drop i p)))

@@ -20,12 +20,15 @@ fn same_bytes(a: &[u8], b: &[u8]) -> bool
     true
 }
 
-// The same, eight bytes at a time; the last eight may have been seen before.
+// The same, eight bytes at a time and the last eight first: names of one directory often begin alike.
 fn same_words(a: &[u8], b: &[u8]) -> bool
     requires { ⌜ (length (now a) ≡ length (now b)) × (8 ≤ length (now a)) ⌝ }
     ensures { λ r. ⌜ r ≡ equal (now (a .entry)) (now (b .entry)) ⌝ }
 {
     let last = a.len() - 8;
+    if numbers::u64_at(a, last) != numbers::u64_at(b, last) {
+        return false;
+    }
     let mut i = 0;
     while i < last {
         if numbers::u64_at(a, i) != numbers::u64_at(b, i) {
@@ -33,7 +36,7 @@ fn same_words(a: &[u8], b: &[u8]) -> bool
         }
         i += 8;
     }
-    numbers::u64_at(a, last) == numbers::u64_at(b, last)
+    true
 }
 
 // The same for four to eight bytes: the first four and the last four.
@@ -48,59 +51,20 @@ fn same_to_8(a: &[u8], b: &[u8]) -> bool
     numbers::u32_at(a, last) == numbers::u32_at(b, last)
 }
 
-// The same for eight to sixteen bytes: the first eight and the last eight.
-fn same_to_16(a: &[u8], b: &[u8]) -> bool
-    requires { ⌜ (length (now a) ≡ length (now b)) × (8 ≤ length (now a)) × (length (now a) ≤ 16) ⌝ }
-    ensures { λ r. ⌜ r ≡ equal (now (a .entry)) (now (b .entry)) ⌝ }
-{
-    let last = a.len() - 8;
-    if numbers::u64_at(a, 0) != numbers::u64_at(b, 0) {
-        return false;
-    }
-    numbers::u64_at(a, last) == numbers::u64_at(b, last)
-}
-
-// The same for sixteen to thirty-two bytes: the first sixteen and the last sixteen.
-fn same_to_32(a: &[u8], b: &[u8]) -> bool
-    requires { ⌜ (length (now a) ≡ length (now b)) × (16 ≤ length (now a)) × (length (now a) ≤ 32) ⌝ }
-    ensures { λ r. ⌜ r ≡ equal (now (a .entry)) (now (b .entry)) ⌝ }
-{
-    let third = a.len() - 16;
-    let last = a.len() - 8;
-    if numbers::u64_at(a, 0) != numbers::u64_at(b, 0) {
-        return false;
-    }
-    if numbers::u64_at(a, 8) != numbers::u64_at(b, 8) {
-        return false;
-    }
-    if numbers::u64_at(a, third) != numbers::u64_at(b, third) {
-        return false;
-    }
-    numbers::u64_at(a, last) == numbers::u64_at(b, last)
-}
-
 // Whether two strings are equal.
 pub fn same(a: &[u8], b: &[u8]) -> bool
     ensures { λ r. ⌜ r ≡ equal (now (a .entry)) (now (b .entry)) ⌝ }
 {
-    let n = a.len();
-    if n != b.len() {
+    if a.len() != b.len() {
         return false;
     }
-    if n < 4 {
+    if a.len() < 4 {
         return same_bytes(a, b);
     }
-    if n <= 8 {
+    if a.len() < 8 {
         return same_to_8(a, b);
     }
-    if n <= 16 {
-        return same_to_16(a, b);
-    }
-    if n <= 32 {
-        same_to_32(a, b)
-    } else {
-        same_words(a, b)
-    }
+    same_words(a, b)
 }
 
 // A block of 128 bytes: read whole, and written whole.
@@ -128,33 +92,8 @@ fn put_block(m: &mut [u8], at: usize, b: [u8; 128])
     }
 }
 
-// The same for sixteen bytes.
-fn sixteen_at(m: &[u8], at: usize) -> [u8; 16]
-    requires { ⌜ at + 16 ≤ length (now m) ⌝ }
-    ensures { λ r. ⌜ r ≡ part at 16 (now (m .entry)) ⌝ }
-{
-    let mut b: [u8; 16] = [0; 16];
-    let mut i = 0;
-    while i < 16 {
-        b[i] = m[at + i];
-        i += 1;
-    }
-    b
-}
-
-fn put_sixteen(m: &mut [u8], at: usize, b: [u8; 16])
-    requires { ⌜ at + 16 ≤ length (now m) ⌝ }
-    ensures { λ _. ⌜ now (m .exit) ≡ overwrite (now (m .entry)) at b ⌝ }
-{
-    let mut i = 0;
-    while i < 16 {
-        m[at + i] = b[i];
-        i += 1;
-    }
-}
-
-// x written over the part of m at `at`, a byte at a time.
-fn put_bytes(m: &mut [u8], at: usize, x: &[u8])
+// x written over the part of m at `at`, a byte at a time. Public for a local array that other writes follow: its stores are then merged.
+pub fn put_bytes(m: &mut [u8], at: usize, x: &[u8])
     requires { ⌜ at + length (now x) ≤ length (now m) ⌝ }
     ensures { λ _. ⌜ now (m .exit) ≡ overwrite (now (m .entry)) at (now (x .entry)) ⌝ }
 {
@@ -162,16 +101,33 @@ fn put_bytes(m: &mut [u8], at: usize, x: &[u8])
     bytes::copy(x, &mut m[at..end]);
 }
 
-// The same for sixteen to thirty-two bytes: the first sixteen and the last sixteen.
+// The same for eight to sixteen bytes: the first eight and the last eight.
+fn put_to_16(m: &mut [u8], at: usize, x: &[u8])
+    requires { ⌜ (at + length (now x) ≤ length (now m)) × (8 ≤ length (now x)) × (length (now x) ≤ 16) ⌝ }
+    ensures { λ _. ⌜ now (m .exit) ≡ overwrite (now (m .entry)) at (now (x .entry)) ⌝ }
+{
+    let last = x.len() - 8;
+    numbers::put_number(m, at, 8, numbers::u64_at(x, 0));
+    numbers::put_number(m, at + last, 8, numbers::u64_at(x, last));
+}
+
+// Sixteen bytes of x, from i on.
+fn put_sixteen(m: &mut [u8], at: usize, x: &[u8], i: usize)
+    requires { ⌜ (at + 16 ≤ length (now m)) × (i + 16 ≤ length (now x)) ⌝ }
+    ensures { λ _. ⌜ now (m .exit) ≡ overwrite (now (m .entry)) at (part i 16 (now (x .entry))) ⌝ }
+{
+    numbers::put_number(m, at, 8, numbers::u64_at(x, i));
+    numbers::put_number(m, at + 8, 8, numbers::u64_at(x, i + 8));
+}
+
+// x for sixteen to thirty-two bytes: the first sixteen and the last sixteen.
 fn put_to_32(m: &mut [u8], at: usize, x: &[u8])
     requires { ⌜ (at + length (now x) ≤ length (now m)) × (16 ≤ length (now x)) × (length (now x) ≤ 32) ⌝ }
     ensures { λ _. ⌜ now (m .exit) ≡ overwrite (now (m .entry)) at (now (x .entry)) ⌝ }
 {
     let last = x.len() - 16;
-    let a = sixteen_at(x, 0);
-    let b = sixteen_at(x, last);
-    put_sixteen(m, at, a);
-    put_sixteen(m, at + last, b);
+    put_sixteen(m, at, x, 0);
+    put_sixteen(m, at + last, x, last);
 }
 
 // The same by blocks, and the rest by bytes.
@@ -179,13 +135,15 @@ fn put_blocks(m: &mut [u8], at: usize, x: &[u8])
     requires { ⌜ at + length (now x) ≤ length (now m) ⌝ }
     ensures { λ _. ⌜ now (m .exit) ≡ overwrite (now (m .entry)) at (now (x .entry)) ⌝ }
 {
+    let blocks = x.len() / 128;
     let mut i = 0;
-    while 128 <= x.len() - i {
-        let b = block_at(x, i);
-        put_block(m, at + i, b);
-        i += 128;
+    while i < blocks {
+        let b = block_at(x, 128 * i);
+        put_block(m, at + 128 * i, b);
+        i += 1;
     }
-    put_bytes(m, at + i, &x[i..]);
+    let done = 128 * i;
+    put_bytes(m, at + done, &x[done..]);
 }
 
 // x written over the part of m at `at`.
@@ -194,9 +152,11 @@ pub fn put(m: &mut [u8], at: usize, x: &[u8])
     ensures { λ _. ⌜ now (m .exit) ≡ overwrite (now (m .entry)) at (now (x .entry)) ⌝ }
 {
     let n = x.len();
-    if n < 16 {
+    if n < 8 {
         put_bytes(m, at, x);
-    } else if n < 33 {
+    } else if n <= 16 {
+        put_to_16(m, at, x);
+    } else if n <= 32 {
         put_to_32(m, at, x);
     } else {
         put_blocks(m, at, x);
@@ -218,13 +178,15 @@ fn shift_down(m: &mut [u8], from: usize, to: usize, n: usize)
     requires { ⌜ (to ≤ from) × (from + n ≤ length (now m)) ⌝ }
     ensures { λ _. ⌜ now (m .exit) ≡ overwrite (now (m .entry)) to (part from n (now (m .entry))) ⌝ }
 {
+    let blocks = n / 128;
     let mut i = 0;
-    while 128 <= n - i {
-        let b = block_at(m, from + i);
-        put_block(m, to + i, b);
-        i += 128;
+    while i < blocks {
+        let b = block_at(m, from + 128 * i);
+        put_block(m, to + 128 * i, b);
+        i += 1;
     }
-    bytes_down(m, from + i, to + i, n - i);
+    let done = 128 * i;
+    bytes_down(m, from + done, to + done, n - done);
 }
 
 fn bytes_up(m: &mut [u8], from: usize, to: usize, n: usize)

@@ -399,11 +399,12 @@ fn load_record(image: &[u8], at: usize, m: &mut [u8], i: usize)
     memory::put_node(m, i, row);
 }
 
-// The first n records, which are sound, as the memory's first nodes.
-fn load_records(image: &[u8], n: usize, m: &mut [u8])
+// The first n records, which are sound, as the memory's first nodes; the place behind them.
+fn load_records(image: &[u8], n: usize, m: &mut [u8]) -> usize
     requires { ⌜ (soundNodes idBytes (nodesFrom idBytes (now image) 4 n) ≡ true) × (n ≤ NODES) × (endFrom idBytes (now image) 4 n ≤ length (now image)) × (memorySize ≤ length (now m)) ⌝ }
     ensures { λ _. ⌜ memOf (now (m .exit)) ≡ withNodes (overwrite (memOf (now (m .entry)) .nodes) 0 (nodesFrom idBytes (now (image .entry)) 4 n)) (memOf (now (m .entry))) ⌝ }
     ensures { λ _. ⌜ length (now (m .exit)) ≡ length (now (m .entry)) ⌝ }
+    ensures { λ r. ⌜ r ≡ endFrom idBytes (now (image .entry)) 4 n ⌝ }
 {
     let mut at = 4;
     let mut i = 0;
@@ -412,6 +413,7 @@ fn load_records(image: &[u8], n: usize, m: &mut [u8])
         at = record_end(image, at);
         i += 1;
     }
+    at
 }
 
 // The second section's digests as the memory's first digests.
@@ -432,8 +434,7 @@ pub fn load_image(image: &[u8], m: &mut [u8]) -> usize
     ensures { λ _. ⌜ length (now (m .exit)) ≡ length (now (m .entry)) ⌝ }
 {
     let n = numbers::u32_at(image, 0) as usize;
-    let end = records_end(image, n);
-    load_records(image, n, m);
+    let end = load_records(image, n, m);
     load_digests(image, end, m);
     n
 }

@@ -165,7 +165,7 @@ pub fn node_row(id: u64, parent: u64, kind: u8, mode: u8, size: u32, name: &[u8]
 {
     let front = node_front(id, parent, kind, mode, size, name.len() as u8);
     let mut r = [0u8; 56];
-    buffers::put(&mut r, 0, &front);
+    buffers::put_bytes(&mut r, 0, &front);
     buffers::put(&mut r, 23, name);
     r
 }

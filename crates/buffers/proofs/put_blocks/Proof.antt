@@ -1,7 +1,7 @@
 -- `buffers::put_blocks` meets its contract. Assumes nothing.
 use native.Mathlib.Omega.{arith}
 use mathlib.Core.Path.{_≡_, refl, sym, _∙_}
-use Prim.Native.Nat.{_+_, _≤_, _-_}
+use Prim.Native.Nat.{_+_, _*_, _≤_, _-_}
 use lib.ListN.{length, take}
 use Rattle.lists.specs.Parts.{part, overwrite}
 use Rattle.lists.specs.PartLaws.{overwrite-none}
@@ -11,19 +11,22 @@ use Rattle.buffers.proofs.put_blocks.Statement.{statement}
 use Rattle.buffers.proofs.put_blocks.Tie as tie
 
 abbrev Inv-loop : tie.InvT-loop
-Inv-loop m₀ at x i₀ m i = (i ≤ length x) × (length m ≡ length m₀) × (m ≡ overwrite m₀ at (take i x))
+Inv-loop m₀ at x blocks i₀ m i = (128 * blocks ≤ length x) × (i ≤ blocks) × (length m ≡ length m₀) × (m ≡ overwrite m₀ at (take (128 * i) x))
 
 abbrev μ-loop : tie.MeasureT-loop
-μ-loop m₀ at x i₀ m i = length x - i
+μ-loop m₀ at x blocks i₀ m i = blocks - i
 
 loop-holds : tie.Need-loop-holds Inv-loop μ-loop
-loop-holds c = (omega arith, refl, sym (overwrite-none 0 (c .before .before .args .m .now) (c .before .before .args .at)))
+loop-holds c = (omega arith, omega arith, refl, sym (overwrite-none 0 (c .before .before .args .m .now) (c .before .before .args .at)))
 
-sub-loop : tie.Need-sub-loop Inv-loop μ-loop
-sub-loop c = search needs
+mul-block-at : tie.Need-mul-block-at Inv-loop μ-loop
+mul-block-at c = search needs
 
 block-at-requires : tie.Need-block-at-requires Inv-loop μ-loop
 block-at-requires c κs = search needs
+
+mul-put-block : tie.Need-mul-put-block Inv-loop μ-loop
+mul-put-block c = search needs
 
 add-put-block : tie.Need-add-put-block Inv-loop μ-loop
 add-put-block c = search needs
@@ -41,8 +44,12 @@ loop-again : tie.Need-loop-again Inv-loop μ-loop
 loop-again c =
     let l = c .before .before .before .before .before .before .loop in
     let a = c .before .before .before .before .before .before .before .before .before .args in
-    let e : c .before .before .put-block .last .0 ≡ overwrite (l .m) (a .at + l .i) (part (l .i) 128 (a .x .now)) = c .before .before .put-block .ensures ∙ rw (c .before .before .before .before .block-at .ensures) in
-    (omega arith, omega arith, rw (e, l .inv .2) (block-next (a .m .now) (a .x .now) (a .at) (l .i) 128 (omega arith) (omega arith)))
+    let e : c .before .before .put-block .last .0 ≡ overwrite (l .m) (a .at + 128 * l .i) (part (128 * l .i) 128 (a .x .now)) = c .before .before .put-block .ensures ∙ rw (c .before .before .before .before .block-at .ensures) in
+    let f : 128 * (l .i + 1) ≡ 128 * l .i + 128 = omega arith in
+    (omega arith, omega arith, omega arith, rw (e, f, l .inv .3) (block-next (a .m .now) (a .x .now) (a .at) (128 * l .i) 128 (omega arith) (omega arith)))
+
+mul-done : tie.Need-mul-done Inv-loop μ-loop
+mul-done c = search needs
 
 add-put-bytes : tie.Need-add-put-bytes Inv-loop μ-loop
 add-put-bytes c = search needs
@@ -66,7 +73,7 @@ returns : tie.Need-returns Inv-loop μ-loop
 returns c =
     let l = c .before .before .before .before .before .before .loop in
     let a = c .before .before .before .before .before .before .before .before .before .args in
-    c .before .before .put-bytes .ensures ∙ rw (l .inv .2) (rest-next (a .m .now) (a .x .now) (a .at) (l .i) (omega arith) (omega arith))
+    c .before .before .put-bytes .ensures ∙ rw (l .inv .3) (rest-next (a .m .now) (a .x .now) (a .at) (128 * l .i) (omega arith) (omega arith))
 
 pub put-blocks-spec : {M : Type 1} → statement M
 put-blocks-spec =
@@ -75,13 +82,15 @@ put-blocks-spec =
     Inv-loop
     μ-loop
     loop-holds
-    sub-loop
+    mul-block-at
     block-at-requires
+    mul-put-block
     add-put-block
     put-block-requires
     add-i
     loop-less
     loop-again
+    mul-done
     add-put-bytes
     sub-put-bytes
     part-put-bytes-start

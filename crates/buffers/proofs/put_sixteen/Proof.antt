@@ -1,68 +1,56 @@
 -- `buffers::put_sixteen` meets its contract. Assumes nothing.
 use native.Mathlib.Omega.{arith}
-use mathlib.Core.Path.{_≡_, refl, sym}
-use Prim.Native.Nat.{_≤_, _-_}
-use lib.ListN.{length, take, length-set}
-use lib.Seq.{take-length}
-use Rattle.lists.specs.Parts.{overwrite}
-use Rattle.lists.specs.PartLaws.{overwrite-none}
-use Rattle.buffers.proofs.Blocks.{write-next}
+use mathlib.Core.Path.{_≡_, _∙_}
+use Prim.Native.Nat.{_+_}
+use Rattle.lists.specs.All.{Bytes}
+use Rattle.lists.specs.EqualLaws.{bytes-of}
+use Rattle.lists.specs.Parts.{part}
+use Rattle.lists.specs.PartLaws.{length-part}
+use Rattle.buffers.proofs.Blocks.{part-add, overwrite-next, word-again}
 use borrow.Author.Needs.{needs}
 use Rattle.buffers.proofs.put_sixteen.Statement.{statement}
 use Rattle.buffers.proofs.put_sixteen.Tie as tie
 
-abbrev Inv-loop : tie.InvT-loop
-Inv-loop m₀ at b i₀ m i = (i ≤ 16) × (length m ≡ length m₀) × (m ≡ overwrite m₀ at (take i b))
+u64-at-requires : tie.Need-u64-at-requires
+u64-at-requires c κs = search needs
 
-abbrev μ-loop : tie.MeasureT-loop
-μ-loop m₀ at b i₀ m i = 16 - i
+put-number-requires : tie.Need-put-number-requires
+put-number-requires c κs = search needs
 
-loop-holds : tie.Need-loop-holds Inv-loop μ-loop
-loop-holds c = (omega arith, refl, sym (overwrite-none 0 (c .args .m .now) (c .args .at)))
+add-put-number : tie.Need-add-put-number
+add-put-number c = search needs
 
-array-read-m : tie.Need-array-read-m Inv-loop μ-loop
-array-read-m c = search needs
+add-u64-at : tie.Need-add-u64-at
+add-u64-at c = search needs
 
-add-m : tie.Need-add-m Inv-loop μ-loop
-add-m c = search needs
+u64-at-requires-2 : tie.Need-u64-at-requires-2
+u64-at-requires-2 c κs = search needs
 
-slice-write-m : tie.Need-slice-write-m Inv-loop μ-loop
-slice-write-m c = search needs
+put-number-requires-2 : tie.Need-put-number-requires-2
+put-number-requires-2 c κs = search needs
 
-add-i : tie.Need-add-i Inv-loop μ-loop
-add-i c = search needs
-
-loop-less : tie.Need-loop-less Inv-loop μ-loop
-loop-less c = search needs
-
-loop-again : tie.Need-loop-again Inv-loop μ-loop
-loop-again c =
-    let l = c .before .loop in
-    let a = c .before .before .args in
-    (omega arith, simp length-set (l .inv .1), rw (l .inv .2) (write-next 0 (a .m .now) (a .t3) (a .at) (l .i) (omega arith) (omega arith)))
-
-same-length : tie.Need-same-length Inv-loop μ-loop
+same-length : tie.Need-same-length
 same-length c = search needs
 
-returns : tie.Need-returns Inv-loop μ-loop
+returns : tie.Need-returns
 returns c =
-    let l = c .before .loop in
-    let a = c .before .before .args in
-    let e : l .i ≡ length (a .t3) = omega arith in
-    rw (e, take-length (a .t3)) at (l .inv .2)
+    let a = c .before .before .before .before .before .before .before .before .before .before .before .before .args in
+    let x = a .x .now in
+    let p : Bytes x = bytes-of x (λ k. omega (arith, c .before .before .before .before .before .before .before .before .before .before .shared-slice-known .given k)) in
+    let n = length-part (a .i) 8 x (omega arith) in
+    c .before .before .put-number2 .ensures
+    ∙ rw (c .before .before .before .before .before .before .before .put-number .ensures, c .before .before .before .before .before .before .before .before .u64-at .ensures, c .before .before .before .u64-at2 .ensures, word-again x p (a .i) 8 (omega arith), word-again x p (a .i + 8) 8 (omega arith), part-add x (a .i) 8 8)
+    (overwrite-next (a .m .now) (a .at) (part (a .i) 8 x) (part (a .i + 8) 8 x) (a .at + 8) (omega (arith, n)) (omega arith))
 
 pub put-sixteen-spec : {M : Type 1} → statement M
 put-sixteen-spec =
     tie.close
     (tie.spec
-    Inv-loop
-    μ-loop
-    loop-holds
-    array-read-m
-    add-m
-    slice-write-m
-    add-i
-    loop-less
-    loop-again
+    u64-at-requires
+    put-number-requires
+    add-put-number
+    add-u64-at
+    u64-at-requires-2
+    put-number-requires-2
     same-length
     returns)

@@ -1,6 +1,6 @@
 -- `buffers::put_to_32` meets its contract. Assumes nothing.
 use native.Mathlib.Omega.{arith}
-use mathlib.Core.Path.{_∙_}
+use mathlib.Core.Path.{_≡_, _∙_}
 use Prim.Native.Nat.{_-_}
 use lib.ListN.{length}
 use Rattle.buffers.proofs.Blocks.{both-ends}
@@ -10,12 +10,6 @@ use Rattle.buffers.proofs.put_to_32.Tie as tie
 
 sub-last : tie.Need-sub-last
 sub-last c = search needs
-
-sixteen-at-requires : tie.Need-sixteen-at-requires
-sixteen-at-requires c κs = search needs
-
-sixteen-at-requires-2 : tie.Need-sixteen-at-requires-2
-sixteen-at-requires-2 c κs = search needs
 
 put-sixteen-requires : tie.Need-put-sixteen-requires
 put-sixteen-requires c κs = search needs
@@ -31,18 +25,14 @@ same-length c = search needs
 
 returns : tie.Need-returns
 returns c =
-    let a = c .before .before .before .before .before .before .before .before .before .before .before .before .args in
-    c .before .before .put-sixteen2 .ensures
-    ∙ rw (c .before .before .before .before .before .before .put-sixteen .ensures, c .before .before .before .before .before .before .before .before .before .sixteen-at .ensures, c .before .before .before .before .before .before .before .before .sixteen-at2 .ensures)
-    (both-ends (a .m .now) (a .x .now) (a .at) (length (a .x .now) - 16) 16 (omega arith) (omega arith) (omega arith))
+    let a = c .before .before .before .before .before .before .before .before .before .before .args in
+    c .before .before .put-sixteen2 .ensures ∙ rw (c .before .before .before .before .before .before .put-sixteen .ensures) (both-ends (a .m .now) (a .x .now) (a .at) (length (a .x .now) - 16) 16 (omega arith) (omega arith) (omega arith))
 
 pub put-to-32-spec : {M : Type 1} → statement M
 put-to-32-spec =
     tie.close
     (tie.spec
     sub-last
-    sixteen-at-requires
-    sixteen-at-requires-2
     put-sixteen-requires
     add-put-sixteen
     put-sixteen-requires-2

@@ -21,23 +21,11 @@ same-to-8-requires c κs = search needs
 returns-3 : tie.Need-returns-3
 returns-3 c = search needs
 
-same-to-16-requires : tie.Need-same-to-16-requires
-same-to-16-requires c κs = search needs
-
-returns-4 : tie.Need-returns-4
-returns-4 c = search needs
-
-same-to-32-requires : tie.Need-same-to-32-requires
-same-to-32-requires c κs = search needs
-
 same-words-requires : tie.Need-same-words-requires
 same-words-requires c κs = search needs
 
-returns-5 : tie.Need-returns-5
-returns-5 c = search needs
-
-returns-6 : tie.Need-returns-6
-returns-6 c = search needs
+returns-4 : tie.Need-returns-4
+returns-4 c = search needs
 
 pub same-spec : {M : Type 1} → statement M
 same-spec =
@@ -48,9 +36,5 @@ same-spec =
     returns-2
     same-to-8-requires
     returns-3
-    same-to-16-requires
-    returns-4
-    same-to-32-requires
     same-words-requires
-    returns-5
-    returns-6)
+    returns-4)

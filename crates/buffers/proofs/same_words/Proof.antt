@@ -3,6 +3,7 @@ use native.Mathlib.Omega.{arith}
 use Prim.Native.Nat.{_+_, _≤_, _-_}
 use mathlib.Core.Path.{_≡_, refl, sym, _∙_}
 use lib.ListN.{length, take}
+use borrow.Author.Tests.{eq-eqb}
 use Rattle.lists.specs.All.{Bytes}
 use Rattle.lists.specs.EqualLaws.{bytes-of, word-differs, alike-word, last-decides}
 use borrow.Author.Needs.{needs}
@@ -18,9 +19,6 @@ abbrev μ-loop : tie.MeasureT-loop
 sub-last : tie.Need-sub-last Inv-loop μ-loop
 sub-last c = search needs
 
-loop-holds : tie.Need-loop-holds Inv-loop μ-loop
-loop-holds c = (omega arith, refl)
-
 u64-at-requires : tie.Need-u64-at-requires Inv-loop μ-loop
 u64-at-requires c κs = search needs
 
@@ -29,22 +27,11 @@ u64-at-requires-2 c κs = search needs
 
 returns : tie.Need-returns Inv-loop μ-loop
 returns c =
-    let a = c .before .before .before .before .before .before .before .args in
-    word-differs (a .a .now) (a .b .now) (c .before .before .before .before .loop .i) 8 _ _ (c .before .before .u64-at .ensures) (c .before .u64-at2 .ensures) (c .if1 .taken)
+    let a = c .before .before .before .before .before .args in
+    word-differs (a .a .now) (a .b .now) (length (a .a .now) - 8) 8 _ _ (c .before .before .u64-at .ensures) (c .before .u64-at2 .ensures) (c .if1 .taken)
 
-add-i : tie.Need-add-i Inv-loop μ-loop
-add-i c = search needs
-
-loop-less : tie.Need-loop-less Inv-loop μ-loop
-loop-less c = search needs
-
-loop-again : tie.Need-loop-again Inv-loop μ-loop
-loop-again c =
-    let a = c .before .before .before .before .before .before .before .args in
-    let l = c .before .before .before .before .loop in
-    let p : Bytes (a .a .now) = bytes-of (a .a .now) (λ k. omega (arith, c .before .before .before .before .before .before .shared-slice-known .given k)) in
-    let q : Bytes (a .b .now) = bytes-of (a .b .now) (λ k. omega (arith, c .before .before .before .before .before .shared-slice-known2 .given k)) in
-    (omega arith, alike-word (a .a .now) (a .b .now) p q 8 (l .i) (omega arith) (omega arith) (l .inv .1) (sym (c .before .before .u64-at .ensures) ∙ c .if1 .left ∙ c .before .u64-at2 .ensures))
+loop-holds : tie.Need-loop-holds Inv-loop μ-loop
+loop-holds c = (omega arith, refl)
 
 u64-at-requires-3 : tie.Need-u64-at-requires-3 Inv-loop μ-loop
 u64-at-requires-3 c κs = search needs
@@ -54,11 +41,31 @@ u64-at-requires-4 c κs = search needs
 
 returns-2 : tie.Need-returns-2 Inv-loop μ-loop
 returns-2 c =
-    let a = c .before .before .before .before .before .before .args in
-    let l = c .before .before .before .loop in
-    let p : Bytes (a .a .now) = bytes-of (a .a .now) (λ k. omega (arith, c .before .before .before .before .before .shared-slice-known .given k)) in
-    let q : Bytes (a .b .now) = bytes-of (a .b .now) (λ k. omega (arith, c .before .before .before .before .shared-slice-known2 .given k)) in
-    last-decides (a .a .now) (a .b .now) p q 8 (l .i) (length (a .a .now) - 8) _ _ (omega arith) (omega arith) (omega arith) (l .inv .1) (c .before .u64-at3 .ensures) (c .u64-at4 .ensures)
+    let a = c .before .before .before .before .before .before .before .before .before .before .args in
+    word-differs (a .a .now) (a .b .now) (c .before .before .before .before .loop .i) 8 _ _ (c .before .before .u64-at3 .ensures) (c .before .u64-at4 .ensures) (c .if2 .taken)
+
+add-i : tie.Need-add-i Inv-loop μ-loop
+add-i c = search needs
+
+loop-less : tie.Need-loop-less Inv-loop μ-loop
+loop-less c = search needs
+
+loop-again : tie.Need-loop-again Inv-loop μ-loop
+loop-again c =
+    let a = c .before .before .before .before .before .before .before .before .before .before .args in
+    let l = c .before .before .before .before .loop in
+    let p : Bytes (a .a .now) = bytes-of (a .a .now) (λ k. omega (arith, c .before .before .before .before .before .before .before .before .before .shared-slice-known .given k)) in
+    let q : Bytes (a .b .now) = bytes-of (a .b .now) (λ k. omega (arith, c .before .before .before .before .before .before .before .before .shared-slice-known2 .given k)) in
+    (omega arith, alike-word (a .a .now) (a .b .now) p q 8 (l .i) (omega arith) (omega arith) (l .inv .1) (sym (c .before .before .u64-at3 .ensures) ∙ c .if2 .left ∙ c .before .u64-at4 .ensures))
+
+returns-3 : tie.Need-returns-3 Inv-loop μ-loop
+returns-3 c =
+    let a = c .before .before .before .before .before .before .before .args in
+    let l = c .before .loop in
+    let p : Bytes (a .a .now) = bytes-of (a .a .now) (λ k. omega (arith, c .before .before .before .before .before .before .shared-slice-known .given k)) in
+    let q : Bytes (a .b .now) = bytes-of (a .b .now) (λ k. omega (arith, c .before .before .before .before .before .shared-slice-known2 .given k)) in
+    sym (eq-eqb _ _ (c .before .before .if1 .left))
+    ∙ last-decides (a .a .now) (a .b .now) p q 8 (l .i) (length (a .a .now) - 8) _ _ (omega arith) (omega arith) (omega arith) (l .inv .1) (c .before .before .before .before .u64-at .ensures) (c .before .before .before .u64-at2 .ensures)
 
 pub same-words-spec : {M : Type 1} → statement M
 same-words-spec =
@@ -67,13 +74,14 @@ same-words-spec =
     Inv-loop
     μ-loop
     sub-last
-    loop-holds
     u64-at-requires
     u64-at-requires-2
     returns
+    loop-holds
+    u64-at-requires-3
+    u64-at-requires-4
+    returns-2
     add-i
     loop-less
     loop-again
-    u64-at-requires-3
-    u64-at-requires-4
-    returns-2)
+    returns-3)

@@ -1,7 +1,7 @@
 -- `buffers::shift_down` meets its contract. Assumes nothing.
 use native.Mathlib.Omega.{arith}
 use mathlib.Core.Path.{_≡_, refl, sym, _∙_}
-use Prim.Native.Nat.{_+_, _≤_, _-_}
+use Prim.Native.Nat.{_+_, _*_, _≤_, _-_}
 use lib.ListN.{length}
 use Rattle.lists.specs.Parts.{part, overwrite}
 use Rattle.lists.specs.PartLaws.{move-none}
@@ -11,22 +11,25 @@ use Rattle.buffers.proofs.shift_down.Statement.{statement}
 use Rattle.buffers.proofs.shift_down.Tie as tie
 
 abbrev Inv-loop : tie.InvT-loop
-Inv-loop m₀ from to n i₀ m i = (i ≤ n) × (length m ≡ length m₀) × (m ≡ overwrite m₀ to (part from i m₀))
+Inv-loop m₀ from to n blocks i₀ m i = (128 * blocks ≤ n) × (i ≤ blocks) × (length m ≡ length m₀) × (m ≡ overwrite m₀ to (part from (128 * i) m₀))
 
 abbrev μ-loop : tie.MeasureT-loop
-μ-loop m₀ from to n i₀ m i = n - i
+μ-loop m₀ from to n blocks i₀ m i = blocks - i
 
 loop-holds : tie.Need-loop-holds Inv-loop μ-loop
-loop-holds c = (omega arith, refl, sym (move-none 0 (c .before .args .m .now) (c .before .args .to) (c .before .args .from)))
+loop-holds c = (omega arith, omega arith, refl, sym (move-none 0 (c .before .args .m .now) (c .before .args .to) (c .before .args .from)))
 
-sub-loop : tie.Need-sub-loop Inv-loop μ-loop
-sub-loop c = search needs
+mul-block-at : tie.Need-mul-block-at Inv-loop μ-loop
+mul-block-at c = search needs
 
 add-block-at : tie.Need-add-block-at Inv-loop μ-loop
 add-block-at c = search needs
 
 block-at-requires : tie.Need-block-at-requires Inv-loop μ-loop
 block-at-requires c κs = search needs
+
+mul-put-block : tie.Need-mul-put-block Inv-loop μ-loop
+mul-put-block c = search needs
 
 add-put-block : tie.Need-add-put-block Inv-loop μ-loop
 add-put-block c = search needs
@@ -44,8 +47,12 @@ loop-again : tie.Need-loop-again Inv-loop μ-loop
 loop-again c =
     let l = c .before .before .before .before .before .before .before .loop in
     let a = c .before .before .before .before .before .before .before .before .before .args in
-    let e : c .before .before .put-block .last .0 ≡ overwrite (l .m) (a .to + l .i) (part (a .from + l .i) 128 (l .m)) = c .before .before .put-block .ensures ∙ rw (c .before .before .before .before .block-at .ensures) in
-    (omega arith, omega arith, rw (e, l .inv .2) (block-down (a .m .now) (a .to) (a .from) (l .i) 128 (omega arith) (omega arith)))
+    let e : c .before .before .put-block .last .0 ≡ overwrite (l .m) (a .to + 128 * l .i) (part (a .from + 128 * l .i) 128 (l .m)) = c .before .before .put-block .ensures ∙ rw (c .before .before .before .before .block-at .ensures) in
+    let f : 128 * (l .i + 1) ≡ 128 * l .i + 128 = omega arith in
+    (omega arith, omega arith, omega arith, rw (e, f, l .inv .3) (block-down (a .m .now) (a .to) (a .from) (128 * l .i) 128 (omega arith) (omega arith)))
+
+mul-done : tie.Need-mul-done Inv-loop μ-loop
+mul-done c = search needs
 
 add-bytes-down : tie.Need-add-bytes-down Inv-loop μ-loop
 add-bytes-down c = search needs
@@ -66,8 +73,8 @@ returns : tie.Need-returns Inv-loop μ-loop
 returns c =
     let l = c .before .before .before .before .before .loop in
     let a = c .before .before .before .before .before .before .before .args in
-    let e : l .i + (a .n - l .i) ≡ a .n = omega arith in
-    c .before .before .bytes-down .ensures ∙ rw (l .inv .2) (rw e at (block-down (a .m .now) (a .to) (a .from) (l .i) (a .n - l .i) (omega arith) (omega arith)))
+    let e : 128 * l .i + (a .n - 128 * l .i) ≡ a .n = omega arith in
+    c .before .before .bytes-down .ensures ∙ rw (l .inv .3) (rw e at (block-down (a .m .now) (a .to) (a .from) (128 * l .i) (a .n - 128 * l .i) (omega arith) (omega arith)))
 
 pub shift-down-spec : {M : Type 1} → statement M
 shift-down-spec =
@@ -76,14 +83,16 @@ shift-down-spec =
     Inv-loop
     μ-loop
     loop-holds
-    sub-loop
+    mul-block-at
     add-block-at
     block-at-requires
+    mul-put-block
     add-put-block
     put-block-requires
     add-i
     loop-less
     loop-again
+    mul-done
     add-bytes-down
     add-bytes-down-2
     sub-bytes-down

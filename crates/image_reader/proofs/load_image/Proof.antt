@@ -1,6 +1,6 @@
 -- `image_reader::load_image` meets its contract. Assumes nothing.
 use native.Mathlib.Omega.{arith}
-use mathlib.Core.Path.{_≡_, ap, sym, _∙_}
+use mathlib.Core.Path.{_≡_, ap, _∙_}
 use Prim.Native.Nat.{ℕ}
 use Rattle.lists.specs.EqualLaws.{bytes-of}
 use Rattle.lists.specs.Parts.{overwrite}
@@ -8,7 +8,6 @@ use Rattle.filesystem.specs.Image.{soundNodes}
 use Rattle.memory.specs.Layout.{memOf, withNodes}
 use Rattle.images.specs.Width.{idBytes}
 use Rattle.image_reader.specs.Records.{nodesFrom, endFrom, recordsEnd}
-use Rattle.image_reader.specs.RecordLaws.{an-end}
 use Rattle.image_reader.specs.Loaded.{to-sound-image, both-loaded}
 use borrow.Author.Needs.{needs}
 use Rattle.image_reader.proofs.load_image.Statement.{statement}
@@ -25,48 +24,37 @@ u32-at-requires c κs =
 cast-n : tie.Need-cast-n
 cast-n c = search needs
 
-records-end-requires : tie.Need-records-end-requires
-records-end-requires c κs =
-    let a = c .before .before .before .args in
-    let s = a .image .now in
-    let i = to-sound-image idBytes s (bytes-of s (λ k. omega (arith, c .before .before .shared-slice-known .given k))) (c .before .before .before .pre .0) in
-    let f = i .form in
-    omega (arith, f .four)
-
 load-records-requires : tie.Need-load-records-requires
 load-records-requires c κs =
-    let a = c .before .before .before .before .before .args in
-    let s = a .image .now in
-    let i = to-sound-image idBytes s (bytes-of s (λ k. omega (arith, c .before .before .before .before .shared-slice-known .given k))) (c .before .before .before .before .before .pre .0) in
+    let b = c .before .before .before .before in
+    let s = b .args .image .now in
+    let i = to-sound-image idBytes s (bytes-of s (λ k. omega (arith, c .before .before .before .shared-slice-known .given k))) (b .pre .0) in
     let f = i .form in
-    let q = c .before .before .u32-at .ensures in
+    let q = c .before .u32-at .ensures in
     let e = ap (endFrom idBytes s 4) q in
-    (ap (λ (n : ℕ). soundNodes idBytes (nodesFrom idBytes s 4 n)) q ∙ i .nodes, omega (arith, q, f .count), omega (arith, e, f .within), omega (arith, c .before .before .before .before .before .pre .1))
+    (ap (λ (n : ℕ). soundNodes idBytes (nodesFrom idBytes s 4 n)) q ∙ i .nodes, omega (arith, q, f .count), omega (arith, e, f .within), omega (arith, b .pre .1))
 
 load-digests-requires : tie.Need-load-digests-requires
 load-digests-requires c κs =
-    let a = c .before .before .before .before .before .before .before .before .before .args in
-    let s = a .image .now in
-    let i = to-sound-image idBytes s (bytes-of s (λ k. omega (arith, c .before .before .before .before .before .before .before .before .shared-slice-known .given k))) (c .before .before .before .before .before .before .before .before .before .pre .0) in
+    let b = c .before .before .before .before .before .before .before .before in
+    let s = b .args .image .now in
+    let i = to-sound-image idBytes s (bytes-of s (λ k. omega (arith, c .before .before .before .before .before .before .before .shared-slice-known .given k))) (b .pre .0) in
     let f = i .form in
-    let q = c .before .before .before .before .before .before .u32-at .ensures in
-    let e : endFrom idBytes s 4 (c .before .before .before .before .before .before .u32-at .result) ≡ recordsEnd idBytes s = ap (endFrom idBytes s 4) q in
-    let r : c .before .before .before .before .before .records-end .result ≡ recordsEnd idBytes s = c .before .before .before .before .before .records-end .ensures .0 ∙ sym (an-end idBytes s (endFrom idBytes s 4 (c .before .before .before .before .before .before .u32-at .result)) (omega (arith, e, f .within))) ∙ e in
-    (r, omega (arith, r, f .ends), i .few, omega (arith, c .before .before .before .load-records .ensures .1, c .before .before .before .before .before .before .before .before .before .pre .1))
+    let r : c .before .before .before .load-records .result ≡ recordsEnd idBytes s = c .before .before .before .load-records .ensures .1 .1 ∙ ap (endFrom idBytes s 4) (c .before .before .before .before .before .u32-at .ensures) in
+    (r, omega (arith, r, f .ends), i .few, omega (arith, c .before .before .before .load-records .ensures .1 .0, b .pre .1))
 
 same-length : tie.Need-same-length
 same-length c = search needs
 
 returns : tie.Need-returns
 returns c =
-    let a = c .before .before .before .before .before .before .before .before .before .before .before .before .args in
-    let s = a .image .now in
-    let i = to-sound-image idBytes s (bytes-of s (λ k. omega (arith, c .before .before .before .before .before .before .before .before .before .before .before .shared-slice-known .given k))) (c .before .before .before .before .before .before .before .before .before .before .before .before .pre .0) in
-    let f = i .form in
-    let q = c .before .before .before .before .before .before .before .before .before .u32-at .ensures in
-    let m = a .m .now in
+    let b = c .before .before .before .before .before .before .before .before .before .before .before in
+    let s = b .args .image .now in
+    let i = to-sound-image idBytes s (bytes-of s (λ k. omega (arith, c .before .before .before .before .before .before .before .before .before .before .shared-slice-known .given k))) (b .pre .0) in
+    let q = c .before .before .before .before .before .before .before .before .u32-at .ensures in
+    let m = b .args .m .now in
     let x = c .before .before .before .before .before .before .load-records .ensures .0 ∙ ap (λ (n : ℕ). withNodes (overwrite (memOf m .nodes) 0 (nodesFrom idBytes s 4 n)) (memOf m)) q in
-    (both-loaded s m _ _ _ i q x (c .before .before .load-digests .ensures .0), c .before .before .load-digests .ensures .1 ∙ c .before .before .before .before .before .before .load-records .ensures .1)
+    (both-loaded s m _ _ _ i q x (c .before .before .load-digests .ensures .0), c .before .before .load-digests .ensures .1 ∙ c .before .before .before .before .before .before .load-records .ensures .1 .0)
 
 pub load-image-spec : {M : Type 1} → statement M
 load-image-spec =
@@ -74,7 +62,6 @@ load-image-spec =
     (tie.spec
     u32-at-requires
     cast-n
-    records-end-requires
     load-records-requires
     load-digests-requires
     same-length

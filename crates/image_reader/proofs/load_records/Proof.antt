@@ -88,7 +88,7 @@ returns c =
     let s = a .image .now in
     let l = c .before .loop in
     let e : l .i ≡ a .n = omega arith in
-    (l .inv .4 ∙ ap (λ (n : ℕ). withNodes (overwrite (memOf (a .m .now) .nodes) 0 (nodesFrom idBytes s 4 n)) (memOf (a .m .now))) e, l .inv .1)
+    (l .inv .4 ∙ ap (λ (n : ℕ). withNodes (overwrite (memOf (a .m .now) .nodes) 0 (nodesFrom idBytes s 4 n)) (memOf (a .m .now))) e, (l .inv .1, l .inv .2 ∙ ap (endFrom idBytes s 4) e))
 
 pub load-records-spec : {M : Type 1} → statement M
 load-records-spec =

@@ -17,27 +17,27 @@ cast-node-front c = search needs
 node-front-requires : tie.Need-node-front-requires
 node-front-requires c κs = search needs
 
+slice-aggregate-put-bytes : tie.Need-slice-aggregate-put-bytes
+slice-aggregate-put-bytes c = search needs
+
+slice-aggregate-put-bytes-2 : tie.Need-slice-aggregate-put-bytes-2
+slice-aggregate-put-bytes-2 c = search needs
+
+put-bytes-requires : tie.Need-put-bytes-requires
+put-bytes-requires c κs = search needs
+
 slice-aggregate-put : tie.Need-slice-aggregate-put
 slice-aggregate-put c = search needs
 
-slice-aggregate-put-2 : tie.Need-slice-aggregate-put-2
-slice-aggregate-put-2 c = search needs
-
 put-requires : tie.Need-put-requires
 put-requires c κs = search needs
-
-slice-aggregate-put-3 : tie.Need-slice-aggregate-put-3
-slice-aggregate-put-3 c = search needs
-
-put-requires-2 : tie.Need-put-requires-2
-put-requires-2 c κs = search needs
 
 returns : tie.Need-returns
 returns c =
     let a = c .before .before .before .before .before .before .before .before .before .args in
     let s = a .name .now in
-    let e = c .before .before .before .before .put .ensures ∙ ap (overwrite (replicate 56 0) 0) (c .before .before .before .before .before .before .before .node-front .ensures) in
-    ap nodeOf (c .before .put2 .ensures ∙ ap (λ (r : List ℕ). overwrite r 23 s) e)
+    let e = c .before .before .before .before .put-bytes .ensures ∙ ap (overwrite (replicate 56 0) 0) (c .before .before .before .before .before .before .before .node-front .ensures) in
+    ap nodeOf (c .before .put .ensures ∙ ap (λ (r : List ℕ). overwrite r 23 s) e)
     ∙ written-node (a .id) (a .parent) (a .kind) (a .mode) (a .size) s (replicate 56 0) (omega arith) (omega arith) (omega arith) (omega arith)
 
 pub node-row-spec : {M : Type 1} → statement M
@@ -46,9 +46,9 @@ node-row-spec =
     (tie.spec
     cast-node-front
     node-front-requires
+    slice-aggregate-put-bytes
+    slice-aggregate-put-bytes-2
+    put-bytes-requires
     slice-aggregate-put
-    slice-aggregate-put-2
     put-requires
-    slice-aggregate-put-3
-    put-requires-2
     returns)

@@ -1,0 +1,54 @@
+-- `buffers::put_to_16` meets its contract. Assumes nothing.
+use native.Mathlib.Omega.{arith}
+use mathlib.Core.Path.{_≡_, _∙_}
+use Prim.Native.Nat.{_-_}
+use lib.ListN.{length}
+use Rattle.lists.specs.All.{Bytes}
+use Rattle.lists.specs.EqualLaws.{bytes-of}
+use Rattle.buffers.proofs.Blocks.{both-ends, word-again}
+use borrow.Author.Needs.{needs}
+use Rattle.buffers.proofs.put_to_16.Statement.{statement}
+use Rattle.buffers.proofs.put_to_16.Tie as tie
+
+sub-last : tie.Need-sub-last
+sub-last c = search needs
+
+u64-at-requires : tie.Need-u64-at-requires
+u64-at-requires c κs = search needs
+
+put-number-requires : tie.Need-put-number-requires
+put-number-requires c κs = search needs
+
+add-put-number : tie.Need-add-put-number
+add-put-number c = search needs
+
+u64-at-requires-2 : tie.Need-u64-at-requires-2
+u64-at-requires-2 c κs = search needs
+
+put-number-requires-2 : tie.Need-put-number-requires-2
+put-number-requires-2 c κs = search needs
+
+same-length : tie.Need-same-length
+same-length c = search needs
+
+returns : tie.Need-returns
+returns c =
+    let a = c .before .before .before .before .before .before .before .before .before .before .before .before .args in
+    let p : Bytes (a .x .now) = bytes-of (a .x .now) (λ k. omega (arith, c .before .before .before .before .before .before .before .before .before .before .shared-slice-known .given k)) in
+    let last = length (a .x .now) - 8 in
+    c .before .before .put-number2 .ensures
+    ∙ rw (c .before .before .before .before .before .before .before .put-number .ensures, c .before .before .before .before .before .before .before .before .u64-at .ensures, c .before .before .before .u64-at2 .ensures, word-again (a .x .now) p 0 8 (omega arith), word-again (a .x .now) p last 8 (omega arith))
+    (both-ends (a .m .now) (a .x .now) (a .at) last 8 (omega arith) (omega arith) (omega arith))
+
+pub put-to-16-spec : {M : Type 1} → statement M
+put-to-16-spec =
+    tie.close
+    (tie.spec
+    sub-last
+    u64-at-requires
+    put-number-requires
+    add-put-number
+    u64-at-requires-2
+    put-number-requires-2
+    same-length
+    returns)
