@@ -1,7 +1,7 @@
 -- Overwrites that follow each other, and moves within a list a block at a time. Over any element; assumes nothing.
-use Prim.Native.Nat.{ℕ, _+_, _-_, _<_, _≤_}
+use Prim.Native.Nat.{ℕ, _+_, _<_, _≤_, _-_}
 use mathlib.Core.Path.{_≡_, sym, ap, _∙_}
-use mathlib.Core.List.{List, [], _∷_, _++_, append-assoc}
+use mathlib.Core.List.{List, _++_, append-assoc}
 use native.Mathlib.Nat.{add-assoc}
 use native.Mathlib.Numerals.{add-one}
 use native.Mathlib.Omega.{arith}
@@ -10,24 +10,14 @@ use lib.Seq.{take-add, take-suc, take-suc-set, drop-drop, getD-drop, length-take
 use Rattle.lists.specs.All.{Bytes, all-take, all-drop}
 use Rattle.lists.specs.LittleEndian.{encode, decode, encode-decode}
 use Rattle.lists.specs.Parts.{part, overwrite}
-use Rattle.lists.specs.PartLaws.{length-part, length-overwrite, part-before, part-after, overwrite-behind, overwrite-snoc}
+use Rattle.lists.specs.PartLaws.{length-part, length-overwrite, part-before, part-after, overwrite-behind, overwrite-snoc, parted, overwrite-next}
 
 module _ {A : Type 0} where
-  parted : (l : List A) (at : ℕ) (x : List A) → overwrite l at x ≡ (take at l ++ x) ++ drop (at + length x) l
-  unfolding overwrite
-  parted l at x = sym (append-assoc (take at l) x (drop (at + length x) l))
-
   pub part-add : (l : List A) (from i k : ℕ) → part from (i + k) l ≡ part from i l ++ part (from + i) k l
   unfolding part
   part-add l from i k = rw (take-add i k (drop from l), drop-drop i from l)
 
-  -- one that begins where another ends, and one that ends where another begins
-  pub overwrite-next : (l : List A) (at : ℕ) (x y : List A) (k : ℕ) → k ≡ at + length x → at ≤ length l → overwrite (overwrite l at x) k y ≡ overwrite l at (x ++ y)
-  overwrite-next l at x y k e h =
-      let p : length (take at l ++ x) ≡ k = length-append (take at l) x ∙ rw (length-take-le at l h) (sym e) in
-      rw (parted l at x, overwrite-behind (take at l ++ x) (drop (at + length x) l) y k p, drop-drop (length y) (at + length x) l, parted l at (x ++ y), length-append x y, ← add-assoc at (length x) (length y))
-      (simp append-assoc)
-
+  -- one that ends where another begins
   pub overwrite-last : (l : List A) (at : ℕ) (x y : List A) (k : ℕ) → k ≡ at + length x → k ≤ length l → overwrite (overwrite l k y) at x ≡ overwrite l at (x ++ y)
   overwrite-last l at x y k e h =
       let p : length (take at l) ≡ at = length-take-le at l (omega arith) in

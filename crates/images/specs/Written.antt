@@ -4,14 +4,13 @@ use Prim.Native.Nat.{ℕ, _+_, _*_, _≤_, _<_}
 use mathlib.Core.Path.{_≡_, refl, ap, ap₂, sym, _∙_}
 use mathlib.Core.List.{List, [], _∷_, _++_, append-assoc}
 use native.Mathlib.Omega.{arith}
-use native.Mathlib.Nat.{add-assoc}
 use native.Mathlib.Numerals.{add-one}
 use lib.ListN.{length, take, drop, length-append, drop-of-length-le}
-use lib.Seq.{drop-drop, drop-at, drop-cons, length-take-le, getD-take}
+use lib.Seq.{drop-cons, length-take-le, getD-take}
 use Rattle.lists.specs.LittleEndian.{encode, length-encode}
 use Rattle.lists.specs.Form.{put-all, bytes}
 use Rattle.lists.specs.Parts.{overwrite}
-use Rattle.lists.specs.PartLaws.{take-overwrite, overwrite-front, overwrite-none}
+use Rattle.lists.specs.PartLaws.{overwrite-front, overwrite-none, overwrite-next}
 use Rattle.filesystem.specs.Tables.{NODES, PAGES, Node, noNode, nodeAt, pagesFor, pageTotal}
 use Rattle.filesystem.specs.Image.{nodeForm, imageForm, print, recordsLength, imageLength}
 use Rattle.memory.specs.Layout.{memOf, memorySize}
@@ -20,33 +19,15 @@ use Rattle.images.specs.Width.{nodesIn, imageIn, recordLength, middle}
 
 -- Parts written one behind the other.
 module _ {A : Type 0} where
-  drop-overwrite : (l : List A) (at : ℕ) (x : List A) → at ≤ length l → drop (at + length x) (overwrite l at x) ≡ drop (at + length x) l
-  unfolding overwrite
-  drop-overwrite l at x h =
-      let p : length (take at l ++ x) ≡ at + length x = length-append (take at l) x ∙ rw (length-take-le at l h) in
-      rw (← append-assoc (take at l) x (drop (at + length x) l)) (drop-at (take at l ++ x) (drop (at + length x) l) (at + length x) p)
-
-  pub overwrite-append : (l : List A) (at : ℕ) (x y : List A) → at ≤ length l → overwrite (overwrite l at x) (at + length x) y ≡ overwrite l at (x ++ y)
-  unfolding overwrite
-  overwrite-append l at x y h =
-      let o = overwrite l at x in
-      let n = at + length x in
-      let d : drop (n + length y) o ≡ drop (n + length y) l = sym (drop-drop (length y) n o) ∙ ap (drop (length y)) (drop-overwrite l at x h) ∙ drop-drop (length y) n l in
-      let t : take n o ≡ take at l ++ x = take-overwrite l at x n refl h in
-      let e : n + length y ≡ at + length (x ++ y) = add-assoc at (length x) (length y) ∙ ap (λ (k : ℕ). at + k) (sym (length-append x y)) in
-      ap₂ (λ (p q : List A). p ++ (y ++ q)) t (d ∙ ap (λ (k : ℕ). drop k l) e)
-      ∙ append-assoc (take at l) x (y ++ drop (at + length (x ++ y)) l)
-      ∙ ap (λ (r : List A). take at l ++ r) (sym (append-assoc x y (drop (at + length (x ++ y)) l)))
-
   -- four parts from the front
   pub four-parts : (l a b c d : List A) (p q r : ℕ) → p ≡ length a → q ≡ p + length b → r ≡ q + length c → r ≤ length l
       → overwrite (overwrite (overwrite (overwrite l 0 a) p b) q c) r d ≡ ((a ++ b) ++ (c ++ d)) ++ drop (length ((a ++ b) ++ (c ++ d))) l
   four-parts l a b c d p q r e f g h =
       let n : length (a ++ b) ≡ q = length-append a b ∙ omega arith in
       let k : length ((a ++ b) ++ c) ≡ r = length-append (a ++ b) c ∙ omega arith in
-      let s : overwrite (overwrite l 0 a) p b ≡ overwrite l 0 (a ++ b) = ap (λ (i : ℕ). overwrite (overwrite l 0 a) i b) (e ∙ omega arith) ∙ overwrite-append l 0 a b (omega arith) in
-      let t : overwrite (overwrite l 0 (a ++ b)) q c ≡ overwrite l 0 ((a ++ b) ++ c) = ap (λ (i : ℕ). overwrite (overwrite l 0 (a ++ b)) i c) (sym n ∙ omega arith) ∙ overwrite-append l 0 (a ++ b) c (omega arith) in
-      let u : overwrite (overwrite l 0 ((a ++ b) ++ c)) r d ≡ overwrite l 0 (((a ++ b) ++ c) ++ d) = ap (λ (i : ℕ). overwrite (overwrite l 0 ((a ++ b) ++ c)) i d) (sym k ∙ omega arith) ∙ overwrite-append l 0 ((a ++ b) ++ c) d (omega arith) in
+      let s : overwrite (overwrite l 0 a) p b ≡ overwrite l 0 (a ++ b) = overwrite-next l 0 a b p (omega arith) (omega arith) in
+      let t : overwrite (overwrite l 0 (a ++ b)) q c ≡ overwrite l 0 ((a ++ b) ++ c) = overwrite-next l 0 (a ++ b) c q (omega arith) (omega arith) in
+      let u : overwrite (overwrite l 0 ((a ++ b) ++ c)) r d ≡ overwrite l 0 (((a ++ b) ++ c) ++ d) = overwrite-next l 0 ((a ++ b) ++ c) d r (omega arith) (omega arith) in
       ap (λ (o : List A). overwrite o r d) (ap (λ (o : List A). overwrite o q c) s ∙ t) ∙ u
       ∙ ap (overwrite l 0) (append-assoc (a ++ b) c d)
       ∙ overwrite-front l ((a ++ b) ++ (c ++ d))
@@ -122,14 +103,13 @@ record-written l at w n h =
     let n₂ : length (a ++ b) ≡ 2 * w = length-append a b ∙ omega arith in
     let n₃ : length ((a ++ b) ++ c) ≡ 2 * w + 7 = length-append (a ++ b) c ∙ omega arith in
     let z : at + 2 * w + 7 ≡ at + length ((a ++ b) ++ c) = omega arith in
-    let t : overwrite (overwrite l at (a ++ b)) (at + 2 * w) c ≡ overwrite l at ((a ++ b) ++ c) = ap (λ (i : ℕ). overwrite (overwrite l at (a ++ b)) (at + i) c) (sym n₂) ∙ overwrite-append l at (a ++ b) c (omega arith) in
-    let u : overwrite (overwrite l at ((a ++ b) ++ c)) (at + 2 * w + 7) (n .name) ≡ overwrite l at (((a ++ b) ++ c) ++ n .name) =
-    ap (λ (i : ℕ). overwrite (overwrite l at ((a ++ b) ++ c)) i (n .name)) z ∙ overwrite-append l at ((a ++ b) ++ c) (n .name) (omega arith) in
+    let t : overwrite (overwrite l at (a ++ b)) (at + 2 * w) c ≡ overwrite l at ((a ++ b) ++ c) = overwrite-next l at (a ++ b) c (at + 2 * w) (omega arith) (omega arith) in
+    let u : overwrite (overwrite l at ((a ++ b) ++ c)) (at + 2 * w + 7) (n .name) ≡ overwrite l at (((a ++ b) ++ c) ++ n .name) = overwrite-next l at ((a ++ b) ++ c) (n .name) (at + 2 * w + 7) z (omega arith) in
     ap (λ (o : List ℕ). overwrite o (at + 2 * w + 7) (n .name)) t ∙ u
     ∙ ap (overwrite l at) (append-assoc (a ++ b) c (n .name) ∙ append-assoc a b (c ++ n .name) ∙ sym (record-parts w n))
 
 pub ids-written : (l : List ℕ) (at w i p : ℕ) → at ≤ length l → overwrite (overwrite l at (encode w i)) (at + w) (encode w p) ≡ overwrite l at (encode w i ++ encode w p)
-ids-written l at w i p h = ap (λ (k : ℕ). overwrite (overwrite l at (encode w i)) (at + k) (encode w p)) (sym (length-encode w i)) ∙ overwrite-append l at (encode w i) (encode w p) h
+ids-written l at w i p h = overwrite-next l at (encode w i) (encode w p) (at + w) (rw (length-encode w i)) h
 
 pub made : {k k′ m m′ s s′ n n′ : ℕ} → k ≡ k′ → m ≡ m′ → s ≡ s′ → n ≡ n′ → middle k m s n ≡ middle k′ m′ s′ n′
 made e f g h = λ i. middle (e i) (f i) (g i) (h i)
@@ -162,7 +142,7 @@ module _ (m : List ℕ) (n : ℕ) (h : n ≤ NODES) (w i : ℕ) where
       let x = nodeForm w .put (nodeAt (memOf m .nodes) i) in
       let r = put-all (nodeForm w) (drop (i + 1) (nodesIn n m)) in
       ap₂ (λ (o : List ℕ) (k : ℕ). overwrite o k r) e (g ∙ ap (λ (k : ℕ). at + k) (sym (length-record w (nodeAt (memOf m .nodes) i))))
-      ∙ overwrite-append l at x r f ∙ ap (overwrite l at) (sym (put-in m n h w i b))
+      ∙ overwrite-next l at x r (at + length x) refl f ∙ ap (overwrite l at) (sym (put-in m n h w i b))
 
   pub records-done : n ≤ i → (l : List ℕ) (at : ℕ) → l ≡ overwrite l at (put-all (nodeForm w) (drop i (nodesIn n m)))
   records-done b l at = sym (ap (overwrite l at) (put-end m n h w i b) ∙ overwrite-none 0 l at)

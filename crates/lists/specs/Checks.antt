@@ -5,7 +5,7 @@ use mathlib.Core.Logic.{_↔_}
 use mathlib.Core.Bool.{Bool, true, false}
 use mathlib.Core.List.{List, [], _∷_, _++_}
 use Prim.Native.Nat.{ℕ}
-use Rattle.lists.specs.Pick.{pick, pick-false}
+use Rattle.lists.specs.Pick.{pick, pick-true, pick-false}
 use Rattle.lists.specs.All.{All, both, none}
 
 abbrev pub Check : Type 0
@@ -35,6 +35,20 @@ module _ {A : Type 0} (stop : ℕ → A) where
   unfolding decide pick
   decide-first x here = refl
   decide-first x (later f) = decide-first x f
+
+  -- the first check of a list; the only one
+  module _ (n : ℕ) (b : Bool) (cs : List Check) (x : A) where
+    pub check-stops : b ≡ true → decide stop ((n, b) ∷ cs) x ≡ stop n
+    unfolding decide
+    check-stops e = pick-true _ _ _ e
+
+    pub check-passes : b ≡ false → decide stop ((n, b) ∷ cs) x ≡ decide stop cs x
+    unfolding decide
+    check-passes e = pick-false _ _ _ e
+
+  pub check-last : (n : ℕ) (b : Bool) (x : A) → b ≡ false → decide stop ((n, b) ∷ []) x ≡ x
+  unfolding decide
+  check-last n b x e = pick-false _ _ _ e
 
   -- either every check is passed, or one is the first that is not: there is nothing else
   pub decide-ind : (F : A → Type 0) (cs : List Check) (x : A) → ((n : ℕ) → First n cs → F (stop n)) → (Passed cs → F x) → F (decide stop cs x)

@@ -104,6 +104,17 @@ module _ {A : Type 0} where
   unfolding overwrite
   overwrite-behind p l x n e = rw (← e, take-append-seam p l, drop-append-add p l (length x))
 
+  -- in its pieces, and one that begins where another ends
+  pub parted : (l : List A) (at : ℕ) (x : List A) → overwrite l at x ≡ (take at l ++ x) ++ drop (at + length x) l
+  unfolding overwrite
+  parted l at x = sym (append-assoc (take at l) x (drop (at + length x) l))
+
+  pub overwrite-next : (l : List A) (at : ℕ) (x y : List A) (k : ℕ) → k ≡ at + length x → at ≤ length l → overwrite (overwrite l at x) k y ≡ overwrite l at (x ++ y)
+  overwrite-next l at x y k e h =
+      let p : length (take at l ++ x) ≡ k = length-append (take at l) x ∙ rw (length-take-le at l h) (sym e) in
+      rw (parted l at x, overwrite-behind (take at l ++ x) (drop (at + length x) l) y k p, drop-drop (length y) (at + length x) l, parted l at (x ++ y), length-append x y, ← add-assoc at (length x) (length y))
+      (simp append-assoc)
+
   pub overwrite-one : (l : List A) (i : ℕ) (x : A) → i < length l → overwrite l i (x ∷ []) ≡ set l i x
   unfolding overwrite
   overwrite-one l i x h = rw (add-one i) (sym (set-split l i x h))

@@ -1,12 +1,12 @@
 -- `buffers::put_sixteen` meets its contract. Assumes nothing.
 use native.Mathlib.Omega.{arith}
-use mathlib.Core.Path.{_≡_, _∙_}
+use mathlib.Core.Path.{_∙_}
 use Prim.Native.Nat.{_+_}
 use Rattle.lists.specs.All.{Bytes}
 use Rattle.lists.specs.EqualLaws.{bytes-of}
 use Rattle.lists.specs.Parts.{part}
-use Rattle.lists.specs.PartLaws.{length-part}
-use Rattle.buffers.proofs.Blocks.{part-add, overwrite-next, word-again}
+use Rattle.lists.specs.PartLaws.{length-part, overwrite-next}
+use Rattle.buffers.proofs.Blocks.{part-add, word-again}
 use borrow.Author.Needs.{needs}
 use Rattle.buffers.proofs.put_sixteen.Statement.{statement}
 use Rattle.buffers.proofs.put_sixteen.Tie as tie

@@ -1,7 +1,7 @@
 -- `buffers::put_to_32` meets its contract. Assumes nothing.
 use native.Mathlib.Omega.{arith}
-use mathlib.Core.Path.{_≡_, _∙_}
 use Prim.Native.Nat.{_-_}
+use mathlib.Core.Path.{_∙_}
 use lib.ListN.{length}
 use Rattle.buffers.proofs.Blocks.{both-ends}
 use borrow.Author.Needs.{needs}
