@@ -3,22 +3,20 @@
 use mathlib.Core.Path.{_≡_, refl, ap, sym, _∙_}
 use mathlib.Core.Bool.{Bool, true, false}
 use mathlib.Core.List.{List, [], _∷_}
-use Prim.Native.Nat.{ℕ, _+_, _-_, _≤_, _<_}
+use Prim.Native.Nat.{ℕ, _+_, _≤_, _<_, _-_}
 use native.Mathlib.Omega.{arith}
 use lib.ListN.{length, take, drop, length-drop}
-use lib.Seq.{length-take-le, getD-take}
 use borrow.Author.Tests.{le-leb, lt-leb}
 use Rattle.lists.specs.Pick.{pick, pick-true, pick-false}
 use Rattle.lists.specs.Search.{place}
 use Rattle.lists.specs.Checks.{Check, decide}
-use Rattle.filesystem.specs.Tables.{NODES, Node, noNode, nodeAt, isDirectory, hasBit, findChild}
+use Rattle.filesystem.specs.Tables.{Node, nodeAt, isDirectory, hasBit, findChild}
 use Rattle.filesystem.specs.Paths.{Path, split, childAt, parentChecks, parentOf, lastOf}
-use Rattle.memory.specs.Layout.{memOf}
-use Rattle.memory.specs.MemLaws.{length-nodes}
 use Rattle.paths.specs.Parts.{isSlash, components-none, components-split, Some, some, split-some, end-passes, part-slash, part-last}
 use Rattle.paths.specs.Walks.{placedFrom, placedIn, placed, searchNumber, childStep}
 use Rattle.paths.specs.declared.Walked.the-variants.{Node as node, Refused as stopped}
 use Rattle.paths.specs.declared.Placed.the-variants.{Root, In, Refused as barred}
+use Rattle.tables.specs.RowsInUse.{node-front}
 
 -- Two checks, of which the first that holds gives its number.
 module _ {A : Type 0} (stop : ℕ → A) where
@@ -78,14 +76,6 @@ module _ (ns : List Node) (n d : ℕ) (c : List ℕ) where
   pub placed-on : (x : List ℕ) (cs : Path) → 0 ≡ searchNumber ns d → childAt ns d c < length ns → placedFrom ns n d (c ∷ x ∷ cs) ≡ placedFrom ns n (childAt ns d c) (x ∷ cs)
   unfolding placedFrom parentChecks parentOf lastOf searchNumber
   placed-on x cs e h = three-pass barred _ _ _ _ _ e (lt-leb _ _ h)
-
--- the first n of the nodes
-pub count-front : (m : List ℕ) (n : ℕ) → n ≤ NODES → length (take n (memOf m .nodes)) ≡ n
-count-front m n h = length-take-le n (memOf m .nodes) (omega (arith, length-nodes m))
-
-pub node-front : (n : ℕ) (ns : List Node) (i : ℕ) → i < n → nodeAt (take n ns) i ≡ nodeAt ns i
-unfolding nodeAt
-node-front n ns i h = getD-take n ns i noNode h
 
 -- The walk by the path's bytes, from `at` on, where the next slash stands at `end`.
 module _ (ns : List Node) (s : List ℕ) (d at end : ℕ) (reach : end ≡ at + place isSlash (drop at s)) (within : at ≤ length s) where

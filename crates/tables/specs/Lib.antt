@@ -5,3 +5,4 @@ pub mod ViewLaws
 pub mod GuardLaws
 pub mod ChangeLaws
 pub mod StageLaws
+pub mod RowsInUse

@@ -9,7 +9,7 @@ use Rattle.lists.specs.Pick.{pick}
 use Rattle.lists.specs.Parts.{part}
 use Rattle.lists.specs.Rows.{rows}
 use Rattle.lists.specs.Search.{without}
-use Rattle.filesystem.specs.Tables.{NODES, OPEN-FILES, PAGES, Node, OpenFile, nodeAt, pagesFor, pageTotal, setMode, setSize, setCursor}
+use Rattle.filesystem.specs.Tables.{NODES, OPEN-FILES, PAGES, Node, OpenFile, Tables, nodeAt, pagesFor, pageTotal, setMode, setSize, setCursor}
 use Rattle.filesystem.specs.Image.{divide}
 use Rattle.memory.specs.Layout.{Mem, memOf, digestWidth, dataSize, newDigests}
 use Rattle.rules.specs.Pages.{writing, shrinking}
@@ -51,6 +51,10 @@ viewOf n o m = record {
   opens = take o (m .opens);
   staged = m .staged;
 }
+
+-- the tables alone
+unfoldable pub tablesIn : (n o : ℕ) → Mem → Tables
+tablesIn n o m = record { nodes = take n (m .nodes); opens = take o (m .opens) }
 
 -- The pending call: its bytes, its new digests, and what it is by its kind.
 unfoldable pub stagedBytes : Guard → List ℕ → List ℕ

@@ -3,7 +3,8 @@ use native.Mathlib.Omega.{arith}
 use mathlib.Core.Path.{_≡_, sym}
 use lib.ListN.{length, take}
 use Rattle.memory.specs.Layout.{memOf}
-use Rattle.paths.specs.WalkLaws.{count-front, child-front, child-absent, child-there}
+use Rattle.paths.specs.WalkLaws.{child-front, child-absent, child-there}
+use Rattle.tables.specs.RowsInUse.{count-nodes}
 use borrow.Author.Needs.{needs}
 use Rattle.paths.proofs.last_step.Statement.{statement}
 use Rattle.paths.proofs.last_step.Tie as tie
@@ -18,7 +19,7 @@ returns : tie.Need-returns
 returns c =
     let a = c .before .before .before .before .before .args in
     let ns = take (a .n) (memOf (a .m .now) .nodes) in
-    let n : length ns ≡ a .n = count-front (a .m .now) (a .n) (omega arith) in
+    let n : length ns ≡ a .n = count-nodes (a .m .now) (a .n) (omega arith) in
     let k = child-front (a .n) (memOf (a .m .now) .nodes) (a .d) _ _ _ (omega arith) (c .before .before .node-id .ensures) (c .before .find-child .ensures) in
     sym (child-absent ns (a .d) _ _ k (omega arith))
 
@@ -26,7 +27,7 @@ returns-2 : tie.Need-returns-2
 returns-2 c =
     let a = c .before .before .before .before .before .args in
     let ns = take (a .n) (memOf (a .m .now) .nodes) in
-    let n : length ns ≡ a .n = count-front (a .m .now) (a .n) (omega arith) in
+    let n : length ns ≡ a .n = count-nodes (a .m .now) (a .n) (omega arith) in
     let k = child-front (a .n) (memOf (a .m .now) .nodes) (a .d) _ _ _ (omega arith) (c .before .before .node-id .ensures) (c .before .find-child .ensures) in
     sym (child-there ns (a .d) _ _ k (omega arith))
 

@@ -9,17 +9,17 @@ use Rattle.filesystem.specs.Tables.{NODES}
 use Rattle.memory.specs.Layout.{memOf}
 use Rattle.paths.specs.Parts.{componentsOf}
 use Rattle.paths.specs.Walks.{walked, placed, childStep}
-use Rattle.paths.specs.WalkLaws.{count-front}
 use Rattle.paths.specs.WalkAnswers.{lastStep, walked-placed, Holds, placed-in}
 use Rattle.paths.specs.declared.Placed.{Placed}
 use Rattle.paths.specs.declared.Placed.the-variants.{In}
+use Rattle.tables.specs.RowsInUse.{count-nodes}
 use borrow.Author.Needs.{needs}
 use Rattle.paths.proofs.walk.Statement.{statement}
 use Rattle.paths.proofs.walk.Tie as tie
 
 module _ (m s : List ℕ) (n : ℕ) (r : Placed) (e : r ≡ placed (take n (memOf m .nodes)) s) where
   holds : (d at : ℕ) → 0 < n → n ≤ NODES → r ≡ In d at → Holds (take n (memOf m .nodes)) s d at
-  holds d at h l q = let k = count-front m n l in placed-in (take n (memOf m .nodes)) s d at (omega arith) (sym e ∙ q)
+  holds d at h l q = let k = count-nodes m n l in placed-in (take n (memOf m .nodes)) s d at (omega arith) (sym e ∙ q)
 
   answer : (q : Placed) → r ≡ q → lastStep (take n (memOf m .nodes)) s q ≡ walked (take n (memOf m .nodes)) (componentsOf s)
   answer q p = ap (lastStep (take n (memOf m .nodes)) s) (sym p ∙ e) ∙ sym (walked-placed (take n (memOf m .nodes)) s)
@@ -51,7 +51,7 @@ last-step-requires : tie.Need-last-step-requires
 last-step-requires c κs =
     let a = c .before .before .before .before .before .before .before .args in
     let h = holds (a .m .now) (a .path .now) (a .n) _ (c .before .before .before .before .walk-parent .ensures) _ _ (omega arith) (omega arith) (c .before .before .way .given .1) .place-within in
-    let k = count-front (a .m .now) (a .n) (omega arith) in
+    let k = count-nodes (a .m .now) (a .n) (omega arith) in
     (omega arith, omega arith, omega arith)
 
 enum-known-way-2 : tie.Need-enum-known-way-2

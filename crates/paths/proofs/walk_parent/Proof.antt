@@ -11,7 +11,8 @@ use Rattle.filesystem.specs.Paths.{split}
 use Rattle.memory.specs.Layout.{memOf}
 use Rattle.paths.specs.Parts.{isSlash}
 use Rattle.paths.specs.Walks.{placed, placedFrom}
-use Rattle.paths.specs.WalkLaws.{count-front, placed-root, placed-parts, step-stop, step-absent, step-on, step-last, child-front}
+use Rattle.paths.specs.WalkLaws.{placed-root, placed-parts, step-stop, step-absent, step-on, step-last, child-front}
+use Rattle.tables.specs.RowsInUse.{count-nodes}
 use borrow.Author.Needs.{needs}
 use Rattle.paths.proofs.walk_parent.Statement.{statement}
 use Rattle.paths.proofs.walk_parent.Tie as tie
@@ -74,7 +75,7 @@ returns-3 c =
     let l = c .before .before .before .before .before .before .before .loop in
     let s = a .path .now in
     let ns = nodesIn (a .m .now) (a .n) in
-    let n : length ns ≡ a .n = count-front (a .m .now) (a .n) (omega arith) in
+    let n : length ns ≡ a .n = count-nodes (a .m .now) (a .n) (omega arith) in
     let k = child-front (a .n) (memOf (a .m .now) .nodes) (l .d) _ _ _ (omega arith) (c .before .before .before .node-id .ensures) (c .before .find-child .ensures) in
     sym (l .inv .4 ∙ step-absent ns s (l .d) (l .at) (l .end) (l .inv .3) (omega arith) (omega arith) (sym (c .before .before .before .before .if2 .left) ∙ c .before .before .before .before .before .search-number .ensures) (omega (arith, k)))
 
@@ -94,7 +95,7 @@ loop-again c =
     let s = a .path .now in
     let e = c .slash-from2 .ensures in
     let ns = nodesIn (a .m .now) (a .n) in
-    let n : length ns ≡ a .n = count-front (a .m .now) (a .n) (omega arith) in
+    let n : length ns ≡ a .n = count-nodes (a .m .now) (a .n) (omega arith) in
     let k = child-front (a .n) (memOf (a .m .now) .nodes) (l .d) _ _ _ (omega arith) (c .before .before .before .before .node-id .ensures) (c .before .before .find-child .ensures) in
     let on = step-on ns s (l .d) (l .at) (l .end) (l .inv .3) (omega arith) (omega arith) (sym (c .before .before .before .before .before .if2 .left) ∙ c .before .before .before .before .before .before .search-number .ensures) (omega (arith, k)) in
     (omega arith, e .1, e .2, e .0, l .inv .4 ∙ on ∙ ap (λ (x : ℕ). placedFrom ns (length s) x (split (drop (l .end + 1) s))) (sym k))
