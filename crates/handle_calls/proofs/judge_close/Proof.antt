@@ -1,0 +1,35 @@
+-- `handle_calls::judge_close` meets its contract. Assumes nothing.
+use native.Mathlib.Omega.{arith}
+use mathlib.Core.Path.{_≡_, sym}
+use lib.ListN.{length, take}
+use Rattle.memory.specs.Layout.{memOf}
+use Rattle.tables.specs.View.{tablesIn}
+use Rattle.handle_calls.specs.HandledLaws.{close-refused, close-handled}
+use Rattle.tables.specs.RowsInUse.{count-opens}
+use borrow.Author.Needs.{needs}
+use Rattle.handle_calls.proofs.judge_close.Statement.{statement}
+use Rattle.handle_calls.proofs.judge_close.Tie as tie
+
+find-handle-requires : tie.Need-find-handle-requires
+find-handle-requires c κs = search needs
+
+returns : tie.Need-returns
+unfolding tablesIn
+returns c =
+    let a = c .before .before .before .args in
+    let e : length (take (a .o) (memOf (a .m .now) .opens)) ≡ a .o = count-opens (a .m .now) (a .o) (omega arith) in
+    sym (close-refused (tablesIn (a .n) (a .o) (memOf (a .m .now))) (a .handle) _ (c .before .find-handle .ensures) (omega arith))
+
+find-id-requires : tie.Need-find-id-requires
+find-id-requires c κs = search needs
+
+returns-2 : tie.Need-returns-2
+unfolding tablesIn
+returns-2 c =
+    let a = c .before .before .before .before .args in
+    let e : length (take (a .o) (memOf (a .m .now) .opens)) ≡ a .o = count-opens (a .m .now) (a .o) (omega arith) in
+    sym (close-handled (tablesIn (a .n) (a .o) (memOf (a .m .now))) (a .handle) _ (c .before .before .find-handle .ensures) _ (c .find-id .ensures) (omega arith))
+
+pub judge-close-spec : {M : Type 1} → statement M
+judge-close-spec =
+    tie.close (tie.spec find-handle-requires returns find-id-requires returns-2)

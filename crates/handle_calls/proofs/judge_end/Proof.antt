@@ -1,0 +1,31 @@
+-- `handle_calls::judge_end` meets its contract. Assumes nothing.
+use native.Mathlib.Omega.{arith}
+use mathlib.Core.Path.{sym}
+use lib.ListN.{take}
+use Rattle.memory.specs.Layout.{memOf}
+use Rattle.handle_calls.specs.HandledLaws.{end-past, end-within}
+use borrow.Author.Needs.{needs}
+use Rattle.handle_calls.proofs.judge_end.Statement.{statement}
+use Rattle.handle_calls.proofs.judge_end.Tie as tie
+
+find-id-requires : tie.Need-find-id-requires
+find-id-requires c κs = search needs
+
+size-at-requires : tie.Need-size-at-requires
+size-at-requires c κs = search needs
+
+cast-if1 : tie.Need-cast-if1
+cast-if1 c = search needs
+
+returns : tie.Need-returns
+returns c =
+    let a = c .before .before .before .before .args in
+    sym (end-past (take (a .n) (memOf (a .m .now) .nodes)) (a .handle) (a .k) (a .position) _ _ (c .before .before .find-id .ensures) (c .before .size-at .ensures) (omega arith))
+
+returns-2 : tie.Need-returns-2
+returns-2 c =
+    let a = c .before .before .before .before .args in
+    sym (end-within (take (a .n) (memOf (a .m .now) .nodes)) (a .handle) (a .k) (a .position) _ _ (c .before .before .find-id .ensures) (c .before .size-at .ensures) (omega arith))
+
+pub judge-end-spec : {M : Type 1} → statement M
+judge-end-spec = tie.close (tie.spec find-id-requires size-at-requires cast-if1 returns returns-2)

@@ -1,0 +1,35 @@
+-- `handle_calls::judge_seek` meets its contract. Assumes nothing.
+use native.Mathlib.Omega.{arith}
+use mathlib.Core.Path.{_≡_, sym, _∙_}
+use lib.ListN.{length, take}
+use Rattle.memory.specs.Layout.{memOf}
+use Rattle.tables.specs.View.{tablesIn}
+use Rattle.handle_calls.specs.HandledLaws.{seek-refused, seek-handled}
+use Rattle.tables.specs.RowsInUse.{count-opens}
+use borrow.Author.Needs.{needs}
+use Rattle.handle_calls.proofs.judge_seek.Statement.{statement}
+use Rattle.handle_calls.proofs.judge_seek.Tie as tie
+
+find-handle-requires : tie.Need-find-handle-requires
+find-handle-requires c κs = search needs
+
+returns : tie.Need-returns
+unfolding tablesIn
+returns c =
+    let a = c .before .before .before .args in
+    let e : length (take (a .o) (memOf (a .m .now) .opens)) ≡ a .o = count-opens (a .m .now) (a .o) (omega arith) in
+    sym (seek-refused (tablesIn (a .n) (a .o) (memOf (a .m .now))) (a .handle) _ (c .before .find-handle .ensures) (a .position) (omega arith))
+
+judge-end-requires : tie.Need-judge-end-requires
+judge-end-requires c κs = search needs
+
+returns-2 : tie.Need-returns-2
+unfolding tablesIn
+returns-2 c =
+    let a = c .before .before .before .before .args in
+    let e : length (take (a .o) (memOf (a .m .now) .opens)) ≡ a .o = count-opens (a .m .now) (a .o) (omega arith) in
+    c .judge-end .ensures
+    ∙ sym (seek-handled (tablesIn (a .n) (a .o) (memOf (a .m .now))) (a .handle) _ (c .before .before .find-handle .ensures) (a .position) (omega arith))
+
+pub judge-seek-spec : {M : Type 1} → statement M
+judge-seek-spec = tie.close (tie.spec find-handle-requires returns judge-end-requires returns-2)

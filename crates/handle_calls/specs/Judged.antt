@@ -1,0 +1,23 @@
+-- What a call by handle is judged to be: the first of the call's numbers that holds, else the places of the open file and of its node.
+-- Assumes nothing.
+use mathlib.Core.Bool.{Bool, _||_, not}
+use mathlib.Core.List.{List, [], _∷_}
+use Prim.Native.Nat.{ℕ, _/_, _%_}
+use lib.Dec.{eqb, ltb}
+use Rattle.lists.specs.Checks.{decide}
+use Rattle.filesystem.specs.Tables.{Node, OpenFile, Tables, nodeAt, openAt, absent, findId}
+use Rattle.rules.specs.Calls.{Call}
+use Rattle.rules.specs.Rules.{openPlace, filePlace, callChecks}
+use Rattle.handle_calls.specs.declared.Handled.{Handled}
+use Rattle.handle_calls.specs.declared.Handled.the-variants.{Open, Refused}
+
+unfoldable pub handledFor : Tables → (handle : ℕ) → Call → Handled
+handledFor t h c = decide Refused (callChecks t c) (Open (openPlace t h) (filePlace t h))
+
+-- no open file with this right stands in place k
+unfoldable pub lacksRight : List OpenFile → (right k : ℕ) → Bool
+lacksRight os right k = absent os k || not (eqb (openAt os k .rights / right % 2) 1)
+
+-- what remains for the open file in place k: whether the position is past its file's end
+unfoldable pub endChecked : List Node → (handle k position : ℕ) → Handled
+endChecked ns h k p = decide Refused ((22, ltb (nodeAt ns (findId ns h) .size) p) ∷ []) (Open k (findId ns h))

@@ -1,0 +1,144 @@
+// The calls by handle judged: the numbers in document 01's order, and where none holds, the places of the open file and of its node. Nothing
+// is changed here.
+ghost use mathlib.Core.Path.{_≡_};
+ghost use Prim.Native.Nat.{ℕ, _≤_, _<_, max};
+ghost use lib.ListN.{length, take};
+ghost use Rattle.filesystem.specs.Tables.{NODES, OPEN-FILES, nodeAt};
+ghost use Rattle.memory.specs.Layout.{memOf, memorySize};
+ghost use Rattle.tables.specs.View.{tablesIn};
+ghost use Rattle.rules.specs.Calls.{close, seek, read, write, truncate};
+ghost use Rattle.rules.specs.Rules.{noRoom};
+ghost use Rattle.handle_calls.specs.Judged.{handledFor, lacksRight, endChecked};
+
+// The places of an open file and of its node, or the number that stops the call.
+pub enum Handled {
+    Open { opened: usize, node: usize },
+    Refused(u8),
+}
+
+// close: 9.
+pub fn judge_close(m: &[u8], n: usize, o: usize, handle: u64) -> Handled
+    requires { ⌜ (n ≤ NODES) × (o ≤ OPEN-FILES) × (memorySize ≤ length (now m)) ⌝ }
+    ensures { λ r. ⌜ r ≡ handledFor (tablesIn n o (memOf (now (m .entry)))) handle (close handle) ⌝ }
+{
+    let k = tables::find_handle(m, o, handle);
+    if o <= k {
+        return Handled::Refused(9);
+    }
+    let node = tables::find_id(m, n, handle);
+    Handled::Open { opened: k, node }
+}
+
+// Whether no open file with this right stands in place k.
+fn lacks_right(m: &[u8], o: usize, k: usize, right: u8) -> bool
+    requires { ⌜ (0 < right) × (o ≤ OPEN-FILES) × (memorySize ≤ length (now m)) ⌝ }
+    ensures { λ r. ⌜ r ≡ lacksRight (take o (memOf (now (m .entry)) .opens)) right k ⌝ }
+{
+    if o <= k {
+        return true;
+    }
+    memory::open_rights(m, k) / right % 2 != 1
+}
+
+// read: 9 without right 1.
+pub fn judge_read(m: &[u8], n: usize, o: usize, handle: u64) -> Handled
+    requires { ⌜ (n ≤ NODES) × (o ≤ OPEN-FILES) × (memorySize ≤ length (now m)) ⌝ }
+    ensures { λ r. ⌜ ((count : ℕ) → r ≡ handledFor (tablesIn n o (memOf (now (m .entry)))) handle (read handle count)) ⌝ }
+{
+    let k = tables::find_handle(m, o, handle);
+    if lacks_right(m, o, k, 1) {
+        return Handled::Refused(9);
+    }
+    let node = tables::find_id(m, n, handle);
+    Handled::Open { opened: k, node }
+}
+
+// The size of the node in place k; past the nodes there is none.
+fn size_at(m: &[u8], n: usize, k: usize) -> u32
+    requires { ⌜ (n ≤ NODES) × (memorySize ≤ length (now m)) ⌝ }
+    ensures { λ r. ⌜ r ≡ nodeAt (take n (memOf (now (m .entry)) .nodes)) k .size ⌝ }
+{
+    if n <= k {
+        return 0;
+    }
+    memory::node_size(m, k)
+}
+
+// 22 past the end, for the open file in place k.
+fn judge_end(m: &[u8], n: usize, handle: u64, k: usize, position: u64) -> Handled
+    requires { ⌜ (n ≤ NODES) × (memorySize ≤ length (now m)) ⌝ }
+    ensures { λ r. ⌜ r ≡ endChecked (take n (memOf (now (m .entry)) .nodes)) handle k position ⌝ }
+{
+    let node = tables::find_id(m, n, handle);
+    if (size_at(m, n, node) as u64) < position {
+        return Handled::Refused(22);
+    }
+    Handled::Open { opened: k, node }
+}
+
+// seek: 9, 22 past the end.
+pub fn judge_seek(m: &[u8], n: usize, o: usize, handle: u64, position: u64) -> Handled
+    requires { ⌜ (n ≤ NODES) × (o ≤ OPEN-FILES) × (memorySize ≤ length (now m)) ⌝ }
+    ensures { λ r. ⌜ r ≡ handledFor (tablesIn n o (memOf (now (m .entry)))) handle (seek handle position) ⌝ }
+{
+    let k = tables::find_handle(m, o, handle);
+    if o <= k {
+        return Handled::Refused(9);
+    }
+    judge_end(m, n, handle, k, position)
+}
+
+// truncate: 9 without right 2, 22 past the end.
+pub fn judge_truncate(m: &[u8], n: usize, o: usize, handle: u64, size: u64) -> Handled
+    requires { ⌜ (n ≤ NODES) × (o ≤ OPEN-FILES) × (memorySize ≤ length (now m)) ⌝ }
+    ensures { λ r. ⌜ r ≡ handledFor (tablesIn n o (memOf (now (m .entry)))) handle (truncate handle size) ⌝ }
+{
+    let k = tables::find_handle(m, o, handle);
+    if lacks_right(m, o, k, 2) {
+        return Handled::Refused(9);
+    }
+    judge_end(m, n, handle, k, size)
+}
+
+// Whether the pages would be too many if the node in place k had this size.
+fn is_full(m: &[u8], n: usize, k: usize, size: u32) -> bool
+    requires { ⌜ (n ≤ NODES) × (memorySize ≤ length (now m)) ⌝ }
+    ensures { λ r. ⌜ ((o : ℕ) → r ≡ noRoom (tablesIn n o (memOf (now (m .entry)))) k size) ⌝ }
+{
+    if n <= k {
+        return 1024 < tables::first_page(m, n);
+    }
+    1024 < tables::pages_with(m, n, k, size)
+}
+
+// The larger of two sizes.
+fn larger(a: u32, b: u32) -> u32
+    ensures { λ r. ⌜ r ≡ max a b ⌝ }
+{
+    if a < b { b } else { a }
+}
+
+// write: 9 without right 2, 27, 28.
+pub fn judge_write(m: &[u8], n: usize, o: usize, handle: u64, bytes: &[u8]) -> Handled
+    requires { ⌜ (n ≤ NODES) × (o ≤ OPEN-FILES) × (memorySize ≤ length (now m)) ⌝ }
+    ensures { λ r. ⌜ r ≡ handledFor (tablesIn n o (memOf (now (m .entry)))) handle (write handle (now (bytes .entry))) ⌝ }
+{
+    let k = tables::find_handle(m, o, handle);
+    if lacks_right(m, o, k, 2) {
+        return Handled::Refused(9);
+    }
+    // before the sum, which has to fit
+    if 65536 < bytes.len() {
+        return Handled::Refused(27);
+    }
+    let end = memory::open_cursor(m, k) as usize + bytes.len();
+    if 65536 < end {
+        return Handled::Refused(27);
+    }
+    let node = tables::find_id(m, n, handle);
+    let size = larger(size_at(m, n, node), end as u32);
+    if is_full(m, n, node, size) {
+        return Handled::Refused(28);
+    }
+    Handled::Open { opened: k, node }
+}

@@ -1,0 +1,43 @@
+-- `path_calls::judge_reach` meets its contract. Assumes nothing.
+use mathlib.Core.Path.{sym, _∙_}
+use Rattle.memory.specs.Layout.{memOf}
+use Rattle.tables.specs.View.{tablesIn}
+use Rattle.path_calls.specs.Reached.{stat-malformed, stat-long, stat-good}
+use borrow.Author.Needs.{needs}
+use Rattle.path_calls.proofs.judge_reach.Statement.{statement}
+use Rattle.path_calls.proofs.judge_reach.Tie as tie
+
+form-requires : tie.Need-form-requires
+form-requires c κs = search needs
+
+enum-told : tie.Need-enum-told
+enum-told c = search needs
+
+enum-told-2 : tie.Need-enum-told-2
+enum-told-2 c = search needs
+
+enum-told-3 : tie.Need-enum-told-3
+enum-told-3 c = search needs
+
+walk-requires : tie.Need-walk-requires
+walk-requires c κs = search needs
+
+returns : tie.Need-returns
+returns c o =
+    let a = c .before .before .before .before .before .args in
+    sym (stat-malformed (tablesIn (a .n) o (memOf (a .m .now))) (a .path .now) (sym (c .before .before .form .ensures) ∙ c .enum-told .given .1))
+
+returns-2 : tie.Need-returns-2
+returns-2 c o =
+    let a = c .before .before .before .before .before .args in
+    sym (stat-long (tablesIn (a .n) o (memOf (a .m .now))) (a .path .now) (sym (c .before .before .form .ensures) ∙ c .enum-told2 .given .1))
+
+returns-3 : tie.Need-returns-3
+unfolding tablesIn
+returns-3 c o =
+    let a = c .before .before .before .before .before .before .args in
+    c .walk .ensures ∙ sym (stat-good (tablesIn (a .n) o (memOf (a .m .now))) (a .path .now) (sym (c .before .before .before .form .ensures) ∙ c .before .enum-told3 .given .1))
+
+pub judge-reach-spec : {M : Type 1} → statement M
+judge-reach-spec =
+    tie.close (tie.spec form-requires enum-told enum-told-2 enum-told-3 walk-requires returns returns-2 returns-3)

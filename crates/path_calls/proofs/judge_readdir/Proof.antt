@@ -1,0 +1,48 @@
+-- `path_calls::judge_readdir` meets its contract. Assumes nothing.
+use native.Mathlib.Omega.{arith}
+use mathlib.Core.Path.{sym, _∙_}
+use Rattle.memory.specs.Layout.{memOf}
+use Rattle.tables.specs.View.{tablesIn}
+use Rattle.path_calls.specs.Rows.{reached-front}
+use Rattle.path_calls.specs.Own.{readdir-goes, readdir-stops}
+use borrow.Author.Needs.{needs}
+use Rattle.path_calls.proofs.judge_readdir.Statement.{statement}
+use Rattle.path_calls.proofs.judge_readdir.Tie as tie
+
+judge-reach-requires : tie.Need-judge-reach-requires
+judge-reach-requires c κs = search needs
+
+enum-known-w : tie.Need-enum-known-w
+enum-known-w c = search needs
+
+readdir-own-requires : tie.Need-readdir-own-requires
+readdir-own-requires c κs =
+    let a = c .before .before .before .before .before .before .args in
+    let h = reached-front (a .m .now) (a .n) 0 (a .path .now) (omega arith) (omega arith) _ _ (c .before .before .before .judge-reach .ensures 0) (c .before .w .given .1) .1 in
+    search needs
+
+enum-known-w-2 : tie.Need-enum-known-w-2
+enum-known-w-2 c = search needs
+
+returns : tie.Need-returns
+unfolding tablesIn
+returns c o =
+    let a = c .before .before .before .before .before .before .before .args in
+    let h = reached-front (a .m .now) (a .n) o (a .path .now) (omega arith) (omega arith) _ _ (c .before .before .before .before .judge-reach .ensures o) (c .before .before .w .given .1) .0 in
+    c .readdir-own .ensures ∙ sym (readdir-goes (tablesIn (a .n) o (memOf (a .m .now))) (a .path .now) _ h)
+
+returns-2 : tie.Need-returns-2
+returns-2 c o =
+    let a = c .before .before .before .before .before .before .args in
+    sym (readdir-stops (tablesIn (a .n) o (memOf (a .m .now))) (a .path .now) _ (sym (c .before .before .before .judge-reach .ensures o) ∙ c .before .w2 .given .1))
+
+pub judge-readdir-spec : {M : Type 1} → statement M
+judge-readdir-spec =
+    tie.close
+    (tie.spec
+    judge-reach-requires
+    enum-known-w
+    readdir-own-requires
+    enum-known-w-2
+    returns
+    returns-2)

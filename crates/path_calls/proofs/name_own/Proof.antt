@@ -1,0 +1,82 @@
+-- `path_calls::name_own` meets its contract. Assumes nothing.
+use native.Mathlib.Omega.{arith}
+use mathlib.Core.Path.{_≡_, sym, ap, _∙_}
+use mathlib.Core.Bool.{not}
+use lib.ListN.{length, take}
+use borrow.Author.Tests.{le-leb, lt-leb}
+use Rattle.lists.specs.All.{both, none}
+use Rattle.lists.specs.Checks.{decide-passed, check-passes, check-stops}
+use Rattle.filesystem.specs.Tables.{NODES}
+use Rattle.filesystem.specs.Paths.{childAt}
+use Rattle.memory.specs.Layout.{memOf}
+use Rattle.paths.specs.WalkLaws.{child-front}
+use Rattle.paths.specs.declared.Placed.the-variants.{Refused as barred}
+use Rattle.path_calls.specs.Rows.{bit, no-bit}
+use Rattle.path_calls.specs.Own.{nameOwn}
+use Rattle.tables.specs.RowsInUse.{count-nodes}
+use borrow.Author.Needs.{needs}
+use Rattle.path_calls.proofs.name_own.Statement.{statement}
+use Rattle.path_calls.proofs.name_own.Tie as tie
+
+node-id-requires : tie.Need-node-id-requires
+node-id-requires c κs = search needs
+
+find-child-requires : tie.Need-find-child-requires
+find-child-requires c κs = search needs
+
+returns : tie.Need-returns
+unfolding nameOwn
+returns c =
+    let a = c .before .before .before .before .before .args in
+    let ns = memOf (a .m .now) .nodes in
+    let n : length (take (a .n) ns) ≡ a .n = count-nodes (a .m .now) (a .n) (omega arith) in
+    let k = child-front (a .n) ns (a .d) _ _ _ (omega arith) (c .before .before .node-id .ensures) (c .before .find-child .ensures) in
+    sym (check-stops barred 17 _ _ _ (ap not (lt-leb (length (take (a .n) ns)) (childAt (take (a .n) ns) (a .d) (a .name .now)) (omega (arith, k)))))
+
+node-mode-requires : tie.Need-node-mode-requires
+node-mode-requires c κs = search needs
+
+returns-2 : tie.Need-returns-2
+unfolding nameOwn
+returns-2 c =
+    let a = c .before .before .before .before .before .before .before .args in
+    let ns = memOf (a .m .now) .nodes in
+    let n : length (take (a .n) ns) ≡ a .n = count-nodes (a .m .now) (a .n) (omega arith) in
+    let k = child-front (a .n) ns (a .d) _ _ _ (omega arith) (c .before .before .before .before .node-id .ensures) (c .before .before .before .find-child .ensures) in
+    let f = le-leb (length (take (a .n) ns)) (childAt (take (a .n) ns) (a .d) (a .name .now)) (omega (arith, k)) in
+    sym (check-passes barred 17 _ _ _ (ap not f) ∙ check-stops barred 13 _ _ _ (ap not (no-bit (a .n) ns (a .d) (omega arith) _ 2 (c .before .node-mode .ensures) (c .if2 .taken))))
+
+returns-3 : tie.Need-returns-3
+unfolding nameOwn
+returns-3 c =
+    let a = c .before .before .before .before .before .before .before .before .args in
+    let ns = memOf (a .m .now) .nodes in
+    let n : length (take (a .n) ns) ≡ a .n = count-nodes (a .m .now) (a .n) (omega arith) in
+    let k = child-front (a .n) ns (a .d) _ _ _ (omega arith) (c .before .before .before .before .before .node-id .ensures) (c .before .before .before .before .find-child .ensures) in
+    let f = le-leb (length (take (a .n) ns)) (childAt (take (a .n) ns) (a .d) (a .name .now)) (omega (arith, k)) in
+    let g = bit (a .n) ns (a .d) (omega arith) _ 2 (c .before .before .node-mode .ensures) (c .before .if2 .left) in
+    sym (check-passes barred 17 _ _ _ (ap not f) ∙ check-passes barred 13 _ _ _ (ap not g) ∙ check-stops barred 28 _ _ _ (le-leb NODES (length (take (a .n) ns)) (omega arith)))
+
+returns-4 : tie.Need-returns-4
+unfolding nameOwn
+returns-4 c =
+    let a = c .before .before .before .before .before .before .before .before .args in
+    let ns = memOf (a .m .now) .nodes in
+    let n : length (take (a .n) ns) ≡ a .n = count-nodes (a .m .now) (a .n) (omega arith) in
+    let k = child-front (a .n) ns (a .d) _ _ _ (omega arith) (c .before .before .before .before .before .node-id .ensures) (c .before .before .before .before .find-child .ensures) in
+    let f = le-leb (length (take (a .n) ns)) (childAt (take (a .n) ns) (a .d) (a .name .now)) (omega (arith, k)) in
+    let g = bit (a .n) ns (a .d) (omega arith) _ 2 (c .before .before .node-mode .ensures) (c .before .if2 .left) in
+    let h = lt-leb NODES (length (take (a .n) ns)) (omega arith) in
+    sym (decide-passed barred _ _ (both (ap not f) (both (ap not g) (both h none))))
+
+pub name-own-spec : {M : Type 1} → statement M
+name-own-spec =
+    tie.close
+    (tie.spec
+    node-id-requires
+    find-child-requires
+    returns
+    node-mode-requires
+    returns-2
+    returns-3
+    returns-4)

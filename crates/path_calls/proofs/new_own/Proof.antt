@@ -1,0 +1,81 @@
+-- `path_calls::new_own` meets its contract. Assumes nothing.
+use native.Mathlib.Omega.{arith}
+use Prim.Native.Nat.{_-_}
+use mathlib.Core.Path.{_≡_, sym, ap, _∙_}
+use lib.ListN.{length, take, drop, length-drop}
+use lib.Seq.{take-all}
+use Rattle.memory.specs.Layout.{memOf}
+use Rattle.path_calls.specs.Rows.{holds-front}
+use Rattle.path_calls.specs.Own.{nameOwn, new-stops, new-root, new-goes}
+use Rattle.tables.specs.RowsInUse.{count-nodes}
+use borrow.Author.Needs.{needs}
+use Rattle.path_calls.proofs.new_own.Statement.{statement}
+use Rattle.path_calls.proofs.new_own.Tie as tie
+
+walk-parent-requires : tie.Need-walk-parent-requires
+walk-parent-requires c κs = search needs
+
+enum-told : tie.Need-enum-told
+enum-told c = search needs
+
+enum-known-w : tie.Need-enum-known-w
+enum-known-w c = search needs
+
+sub-name-own : tie.Need-sub-name-own
+sub-name-own c =
+    let a = c .before .before .before .before .before .before .args in
+    let h = holds-front (a .m .now) (a .n) (a .path .now) (omega arith) (omega arith) _ _ _ (c .before .before .before .walk-parent .ensures) (c .before .w .given .1) .0 in
+    h .start-within
+
+part-name-own-start : tie.Need-part-name-own-start
+part-name-own-start c =
+    let a = c .before .before .before .before .before .before .args in
+    let h = holds-front (a .m .now) (a .n) (a .path .now) (omega arith) (omega arith) _ _ _ (c .before .before .before .walk-parent .ensures) (c .before .w .given .1) .0 .start-within in
+    search needs
+
+part-name-own-end : tie.Need-part-name-own-end
+part-name-own-end c = search needs
+
+name-own-requires : tie.Need-name-own-requires
+name-own-requires c κs =
+    let a = c .before .before .before .before .before .before .before .args in
+    let h = holds-front (a .m .now) (a .n) (a .path .now) (omega arith) (omega arith) _ _ _ (c .before .before .before .before .walk-parent .ensures) (c .before .before .w .given .1) .1 in
+    search needs
+
+enum-known-w-2 : tie.Need-enum-known-w-2
+enum-known-w-2 c = search needs
+
+returns : tie.Need-returns
+returns c =
+    let a = c .before .before .before .before .before .args in
+    sym (new-root (take (a .n) (memOf (a .m .now) .nodes)) (a .path .now) (omega (arith, count-nodes (a .m .now) (a .n) (omega arith))) (sym (c .before .before .walk-parent .ensures) ∙ c .enum-told .given .1))
+
+returns-2 : tie.Need-returns-2
+returns-2 c =
+    let a = c .before .before .before .before .before .before .before .before .args in
+    let s = a .path .now in
+    let w = c .before .before .before .w .given in
+    let h = holds-front (a .m .now) (a .n) (a .path .now) (omega arith) (omega arith) _ _ _ (c .before .before .before .before .before .walk-parent .ensures) (w .1) .0 in
+    let t : take (length s - w .0 .1 .0) (drop (w .0 .1 .0) s) ≡ drop (w .0 .1 .0) s = take-all (length s - w .0 .1 .0) (drop (w .0 .1 .0) s) (omega (arith, length-drop (w .0 .1 .0) s)) in
+    c .name-own .ensures ∙ ap (nameOwn (take (a .n) (memOf (a .m .now) .nodes)) (w .0 .0) (w .0 .1 .0)) t ∙ sym (new-goes (take (a .n) (memOf (a .m .now) .nodes)) s _ _ h)
+
+returns-3 : tie.Need-returns-3
+returns-3 c =
+    let a = c .before .before .before .before .before .before .args in
+    sym (new-stops (take (a .n) (memOf (a .m .now) .nodes)) (a .path .now) _ (sym (c .before .before .before .walk-parent .ensures) ∙ c .before .w2 .given .1))
+
+pub new-own-spec : {M : Type 1} → statement M
+new-own-spec =
+    tie.close
+    (tie.spec
+    walk-parent-requires
+    enum-told
+    enum-known-w
+    sub-name-own
+    part-name-own-start
+    part-name-own-end
+    name-own-requires
+    enum-known-w-2
+    returns
+    returns-2
+    returns-3)

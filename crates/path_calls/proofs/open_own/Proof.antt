@@ -1,0 +1,97 @@
+-- `path_calls::open_own` meets its contract. Assumes nothing.
+use native.Mathlib.Omega.{arith}
+use mathlib.Core.Path.{_≡_, sym, ap, _∙_}
+use mathlib.Core.Bool.{not}
+use lib.ListN.{length, take}
+use borrow.Author.Tests.{le-leb, lt-leb}
+use Rattle.lists.specs.All.{both, none}
+use Rattle.lists.specs.Checks.{decide-passed, check-passes, check-stops}
+use Rattle.filesystem.specs.Tables.{OPEN-FILES}
+use Rattle.memory.specs.Layout.{memOf}
+use Rattle.paths.specs.declared.Walked.the-variants.{Refused as stopped}
+use Rattle.tables.specs.View.{tablesIn}
+use Rattle.path_calls.specs.Rows.{covers-front, folder, no-folder, is-open, not-open}
+use Rattle.path_calls.specs.Own.{openOwn}
+use Rattle.tables.specs.RowsInUse.{count-opens}
+use borrow.Author.Needs.{needs}
+use Rattle.path_calls.proofs.open_own.Statement.{statement}
+use Rattle.path_calls.proofs.open_own.Tie as tie
+
+node-kind-requires : tie.Need-node-kind-requires
+node-kind-requires c κs = search needs
+
+returns : tie.Need-returns
+unfolding openOwn tablesIn
+returns c =
+    let a = c .before .before .before .args in
+    sym (check-stops stopped 21 _ _ _ (folder (a .n) (memOf (a .m .now) .nodes) (a .k) (omega arith) _ (c .before .node-kind .ensures) (c .if1 .taken)))
+
+node-mode-requires : tie.Need-node-mode-requires
+node-mode-requires c κs = search needs
+
+covers-requires : tie.Need-covers-requires
+covers-requires c κs = search needs
+
+returns-2 : tie.Need-returns-2
+unfolding openOwn tablesIn
+returns-2 c =
+    let a = c .before .before .before .before .before .before .args in
+    let ns = memOf (a .m .now) .nodes in
+    let f = no-folder (a .n) ns (a .k) (omega arith) _ (c .before .before .before .before .node-kind .ensures) (c .before .before .before .if1 .left) in
+    let g = ap not (sym (covers-front (a .n) ns (a .k) (omega arith) _ _ (a .rights) (c .before .before .node-mode .ensures) (c .before .covers .ensures))) ∙ c .if2 .taken in
+    sym (check-passes stopped 21 _ _ _ f ∙ check-stops stopped 13 _ _ _ g)
+
+node-id-requires : tie.Need-node-id-requires
+node-id-requires c κs = search needs
+
+find-handle-requires : tie.Need-find-handle-requires
+find-handle-requires c κs = search needs
+
+returns-3 : tie.Need-returns-3
+unfolding openOwn tablesIn
+returns-3 c =
+    let a = c .before .before .before .before .before .before .before .before .before .args in
+    let ns = memOf (a .m .now) .nodes in
+    let f = no-folder (a .n) ns (a .k) (omega arith) _ (c .before .before .before .before .before .before .before .node-kind .ensures) (c .before .before .before .before .before .before .if1 .left) in
+    let g = ap not (sym (covers-front (a .n) ns (a .k) (omega arith) _ _ (a .rights) (c .before .before .before .before .before .node-mode .ensures) (c .before .before .before .before .covers .ensures))) ∙ c .before .before .before .if2 .left in
+    let h = is-open (a .m .now) (a .n) (a .o) (a .k) (omega arith) (omega arith) _ _ (c .before .before .node-id .ensures) (c .before .find-handle .ensures) (omega arith) in
+    sym (check-passes stopped 21 _ _ _ f ∙ check-passes stopped 13 _ _ _ g ∙ check-stops stopped 16 _ _ _ h)
+
+returns-4 : tie.Need-returns-4
+unfolding openOwn tablesIn
+returns-4 c =
+    let a = c .before .before .before .before .before .before .before .before .before .before .args in
+    let ns = memOf (a .m .now) .nodes in
+    let os = take (a .o) (memOf (a .m .now) .opens) in
+    let f = no-folder (a .n) ns (a .k) (omega arith) _ (c .before .before .before .before .before .before .before .before .node-kind .ensures) (c .before .before .before .before .before .before .before .if1 .left) in
+    let g = ap not (sym (covers-front (a .n) ns (a .k) (omega arith) _ _ (a .rights) (c .before .before .before .before .before .before .node-mode .ensures) (c .before .before .before .before .before .covers .ensures))) ∙ c .before .before .before .before .if2 .left in
+    let h = not-open (a .m .now) (a .n) (a .o) (a .k) (omega arith) (omega arith) _ _ (c .before .before .before .node-id .ensures) (c .before .before .find-handle .ensures) (omega arith) in
+    let l : length os ≡ a .o = count-opens (a .m .now) (a .o) (omega arith) in
+    sym (check-passes stopped 21 _ _ _ f ∙ check-passes stopped 13 _ _ _ g ∙ check-passes stopped 16 _ _ _ h ∙ check-stops stopped 24 _ _ _ (le-leb OPEN-FILES (length os) (omega arith)))
+
+returns-5 : tie.Need-returns-5
+unfolding openOwn tablesIn
+returns-5 c =
+    let a = c .before .before .before .before .before .before .before .before .before .before .args in
+    let ns = memOf (a .m .now) .nodes in
+    let os = take (a .o) (memOf (a .m .now) .opens) in
+    let f = no-folder (a .n) ns (a .k) (omega arith) _ (c .before .before .before .before .before .before .before .before .node-kind .ensures) (c .before .before .before .before .before .before .before .if1 .left) in
+    let g = ap not (sym (covers-front (a .n) ns (a .k) (omega arith) _ _ (a .rights) (c .before .before .before .before .before .before .node-mode .ensures) (c .before .before .before .before .before .covers .ensures))) ∙ c .before .before .before .before .if2 .left in
+    let h = not-open (a .m .now) (a .n) (a .o) (a .k) (omega arith) (omega arith) _ _ (c .before .before .before .node-id .ensures) (c .before .before .find-handle .ensures) (omega arith) in
+    let l : length os ≡ a .o = count-opens (a .m .now) (a .o) (omega arith) in
+    sym (decide-passed stopped _ _ (both f (both g (both h (both (lt-leb OPEN-FILES (length os) (omega arith)) none)))))
+
+pub open-own-spec : {M : Type 1} → statement M
+open-own-spec =
+    tie.close
+    (tie.spec
+    node-kind-requires
+    returns
+    node-mode-requires
+    covers-requires
+    returns-2
+    node-id-requires
+    find-handle-requires
+    returns-3
+    returns-4
+    returns-5)

@@ -1,0 +1,73 @@
+-- `path_calls::remove_own` meets its contract. Assumes nothing.
+use native.Mathlib.Omega.{arith}
+use mathlib.Core.Path.{sym, ap, _∙_}
+use mathlib.Core.Bool.{not}
+use Rattle.lists.specs.All.{both, none}
+use Rattle.lists.specs.Checks.{decide-passed, check-passes, check-stops}
+use Rattle.memory.specs.Layout.{memOf}
+use Rattle.paths.specs.declared.Walked.the-variants.{Refused as stopped}
+use Rattle.tables.specs.View.{tablesIn}
+use Rattle.path_calls.specs.Rows.{folder, no-folder, bit, no-bit, is-open, not-open}
+use Rattle.path_calls.specs.Own.{removeOwn}
+use borrow.Author.Needs.{needs}
+use Rattle.path_calls.proofs.remove_own.Statement.{statement}
+use Rattle.path_calls.proofs.remove_own.Tie as tie
+
+node-kind-requires : tie.Need-node-kind-requires
+node-kind-requires c κs = search needs
+
+returns : tie.Need-returns
+unfolding removeOwn tablesIn
+returns c =
+    let a = c .before .before .before .args in
+    sym (check-stops stopped 21 _ _ _ (folder (a .n) (memOf (a .m .now) .nodes) (a .k) (omega arith) _ (c .before .node-kind .ensures) (c .if1 .taken)))
+
+node-mode-requires : tie.Need-node-mode-requires
+node-mode-requires c κs = search needs
+
+returns-2 : tie.Need-returns-2
+unfolding removeOwn tablesIn
+returns-2 c =
+    let a = c .before .before .before .before .before .args in
+    let ns = memOf (a .m .now) .nodes in
+    let f = no-folder (a .n) ns (a .k) (omega arith) _ (c .before .before .before .node-kind .ensures) (c .before .before .if1 .left) in
+    sym (check-passes stopped 21 _ _ _ f ∙ check-stops stopped 13 _ _ _ (ap not (no-bit (a .n) ns (a .d) (omega arith) _ 2 (c .before .node-mode .ensures) (c .if2 .taken))))
+
+node-id-requires : tie.Need-node-id-requires
+node-id-requires c κs = search needs
+
+find-handle-requires : tie.Need-find-handle-requires
+find-handle-requires c κs = search needs
+
+returns-3 : tie.Need-returns-3
+unfolding removeOwn tablesIn
+returns-3 c =
+    let a = c .before .before .before .before .before .before .before .before .args in
+    let ns = memOf (a .m .now) .nodes in
+    let f = no-folder (a .n) ns (a .k) (omega arith) _ (c .before .before .before .before .before .before .node-kind .ensures) (c .before .before .before .before .before .if1 .left) in
+    let g = bit (a .n) ns (a .d) (omega arith) _ 2 (c .before .before .before .before .node-mode .ensures) (c .before .before .before .if2 .left) in
+    let h = is-open (a .m .now) (a .n) (a .o) (a .k) (omega arith) (omega arith) _ _ (c .before .before .node-id .ensures) (c .before .find-handle .ensures) (omega arith) in
+    sym (check-passes stopped 21 _ _ _ f ∙ check-passes stopped 13 _ _ _ (ap not g) ∙ check-stops stopped 16 _ _ _ h)
+
+returns-4 : tie.Need-returns-4
+unfolding removeOwn tablesIn
+returns-4 c =
+    let a = c .before .before .before .before .before .before .before .before .args in
+    let ns = memOf (a .m .now) .nodes in
+    let f = no-folder (a .n) ns (a .k) (omega arith) _ (c .before .before .before .before .before .before .node-kind .ensures) (c .before .before .before .before .before .if1 .left) in
+    let g = bit (a .n) ns (a .d) (omega arith) _ 2 (c .before .before .before .before .node-mode .ensures) (c .before .before .before .if2 .left) in
+    let h = not-open (a .m .now) (a .n) (a .o) (a .k) (omega arith) (omega arith) _ _ (c .before .before .node-id .ensures) (c .before .find-handle .ensures) (omega arith) in
+    sym (decide-passed stopped _ _ (both f (both (ap not g) (both h none))))
+
+pub remove-own-spec : {M : Type 1} → statement M
+remove-own-spec =
+    tie.close
+    (tie.spec
+    node-kind-requires
+    returns
+    node-mode-requires
+    returns-2
+    node-id-requires
+    find-handle-requires
+    returns-3
+    returns-4)

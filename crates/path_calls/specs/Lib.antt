@@ -1,0 +1,4 @@
+pub mod Judged
+pub mod Reached
+pub mod Own
+pub mod Rows

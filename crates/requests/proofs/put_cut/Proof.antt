@@ -1,0 +1,47 @@
+-- `requests::put_cut` meets its contract. Assumes nothing.
+use mathlib.Core.Path.{sym, _∙_}
+use lib.Seq.{length-take-le}
+use Rattle.requests.specs.StoredPages.{shrunk}
+use native.Mathlib.Omega.{arith}
+use borrow.Author.Needs.{needs}
+use Rattle.requests.proofs.put_cut.Statement.{statement}
+use Rattle.requests.proofs.put_cut.Tie as tie
+
+mul-excess : tie.Need-mul-excess
+mul-excess c = search needs
+
+excess-requires : tie.Need-excess-requires
+excess-requires c κs = search needs
+
+smaller-requires : tie.Need-smaller-requires
+smaller-requires c κs = search needs
+
+slice-aggregate-put-page : tie.Need-slice-aggregate-put-page
+slice-aggregate-put-page c =
+    let e = c .before .before .smaller .ensures in
+    sym (length-take-le (c .before .before .smaller .result) (c .before .before .before .before .before .before .args .page .now) (omega arith))
+
+put-page-requires : tie.Need-put-page-requires
+put-page-requires c κs =
+    let e = c .before .before .smaller .ensures in
+    (omega arith, rw (length-take-le (c .before .before .smaller .result) (c .before .before .before .before .before .before .args .page .now) (omega arith)) (omega arith))
+
+same-length : tie.Need-same-length
+same-length c = search needs
+
+returns : tie.Need-returns
+returns c =
+    let a = c .before .before .before .before .before .before .before .before .before .args in
+    c .before .before .put-page .ensures ∙ rw (shrunk (a .page .now) (a .size) (a .i) _ (c .before .before .before .before .before .smaller .ensures ∙ rw (c .before .before .before .before .before .before .excess .ensures)))
+
+pub put-cut-spec : {M : Type 1} → statement M
+put-cut-spec =
+    tie.close
+    (tie.spec
+    mul-excess
+    excess-requires
+    smaller-requires
+    slice-aggregate-put-page
+    put-page-requires
+    same-length
+    returns)

@@ -1,0 +1,24 @@
+-- `requests::write_close` meets its contract. Assumes nothing.
+use mathlib.Core.Path.{sym, _∙_}
+use Rattle.rules.specs.Requests.{closeRequest}
+use Rattle.rules.specs.Skeleton.{requestLength}
+use Rattle.requests.specs.Heads.{at-front, length-head}
+use borrow.Author.Needs.{needs}
+use Rattle.requests.proofs.write_close.Statement.{statement}
+use Rattle.requests.proofs.write_close.Tie as tie
+
+put-head-requires : tie.Need-put-head-requires
+unfolding requestLength
+put-head-requires c κs = search needs
+
+same-length : tie.Need-same-length
+same-length c = search needs
+
+returns : tie.Need-returns
+unfolding closeRequest
+returns c =
+    let a = c .before .before .before .before .before .args in
+    (c .before .before .put-head .ensures ∙ at-front (closeRequest (a .descriptor)) (a .out .now), sym (length-head 4 (a .descriptor)))
+
+pub write-close-spec : {M : Type 1} → statement M
+write-close-spec = tie.close (tie.spec put-head-requires same-length returns)

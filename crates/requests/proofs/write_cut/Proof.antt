@@ -1,0 +1,24 @@
+-- `requests::write_cut` meets its contract. Assumes nothing.
+use mathlib.Core.Path.{sym, _∙_}
+use Rattle.rules.specs.Requests.{cutRequest}
+use Rattle.rules.specs.Skeleton.{requestLength}
+use Rattle.requests.specs.Heads.{at-front, length-longer}
+use borrow.Author.Needs.{needs}
+use Rattle.requests.proofs.write_cut.Statement.{statement}
+use Rattle.requests.proofs.write_cut.Tie as tie
+
+put-longer-requires : tie.Need-put-longer-requires
+unfolding requestLength
+put-longer-requires c κs = search needs
+
+same-length : tie.Need-same-length
+same-length c = search needs
+
+returns : tie.Need-returns
+unfolding cutRequest
+returns c =
+    let a = c .before .before .before .before .before .args in
+    (c .before .before .put-longer .ensures ∙ at-front (cutRequest (a .descriptor) (a .size)) (a .out .now), sym (length-longer 8 (a .descriptor) (a .size)))
+
+pub write-cut-spec : {M : Type 1} → statement M
+write-cut-spec = tie.close (tie.spec put-longer-requires same-length returns)

@@ -1,0 +1,24 @@
+-- `requests::write_fetch` meets its contract. Assumes nothing.
+use mathlib.Core.Path.{sym, _∙_}
+use Rattle.rules.specs.Requests.{fetchRequest}
+use Rattle.rules.specs.Skeleton.{requestLength}
+use Rattle.requests.specs.Heads.{at-front, length-longer}
+use borrow.Author.Needs.{needs}
+use Rattle.requests.proofs.write_fetch.Statement.{statement}
+use Rattle.requests.proofs.write_fetch.Tie as tie
+
+put-longer-requires : tie.Need-put-longer-requires
+unfolding requestLength
+put-longer-requires c κs = search needs
+
+same-length : tie.Need-same-length
+same-length c = search needs
+
+returns : tie.Need-returns
+unfolding fetchRequest
+returns c =
+    let a = c .before .before .before .before .before .args in
+    (c .before .before .put-longer .ensures ∙ at-front (fetchRequest (a .descriptor) (a .page)) (a .out .now), sym (length-longer 6 (a .descriptor) (a .page)))
+
+pub write-fetch-spec : {M : Type 1} → statement M
+write-fetch-spec = tie.close (tie.spec put-longer-requires same-length returns)

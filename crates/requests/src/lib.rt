@@ -1,0 +1,166 @@
+// Host requests written over the front of the caller's request buffer (document 01, 'Requests and replies'), the page of a store among them.
+ghost use mathlib.Core.Path.{_≡_};
+ghost use mathlib.Core.List.{_∷_, _++_};
+ghost use Prim.Native.Nat.{_+_, _-_, _≤_, min};
+ghost use lib.ListN.{length};
+ghost use Rattle.lists.specs.LittleEndian.{encode};
+ghost use Rattle.lists.specs.Parts.{overwrite};
+ghost use Rattle.filesystem.specs.Tables.{PAGE-BYTES};
+ghost use Rattle.rules.specs.Pages.{writing, shrinking, resized, fill};
+ghost use Rattle.rules.specs.Requests.{closeRequest, fetchRequest, storeRequest, cutRequest};
+ghost use Rattle.rules.specs.Skeleton.{atFront, requestLength};
+ghost use Rattle.requests.specs.StoredPages.{zeros};
+
+// The kind of a request and the descriptor, with which all begin.
+fn put_head(out: &mut [u8], kind: u8, descriptor: u32)
+    requires { ⌜ 5 ≤ length (now out) ⌝ }
+    ensures { λ _. ⌜ now (out .exit) ≡ overwrite (now (out .entry)) 0 (kind ∷ encode 4 descriptor) ⌝ }
+{
+    numbers::put_number(out, 1, 4, descriptor as u64);
+    out[0] = kind;
+}
+
+// The same with a number of four bytes behind.
+fn put_longer(out: &mut [u8], kind: u8, descriptor: u32, number: u64)
+    requires { ⌜ 9 ≤ length (now out) ⌝ }
+    ensures { λ _. ⌜ now (out .exit) ≡ overwrite (now (out .entry)) 0 (kind ∷ (encode 4 descriptor ++ encode 4 number)) ⌝ }
+{
+    put_head(out, kind, descriptor);
+    numbers::put_number(out, 5, 4, number);
+}
+
+// close: the descriptor.
+pub fn write_close(out: &mut [u8], descriptor: u32) -> usize
+    requires { ⌜ requestLength ≤ length (now out) ⌝ }
+    ensures { λ r. ⌜ (now (out .exit) ≡ atFront (closeRequest descriptor) (now (out .entry))) × (r ≡ length (closeRequest descriptor)) ⌝ }
+{
+    put_head(out, 4, descriptor);
+    5
+}
+
+// fetch: the descriptor and the page.
+pub fn write_fetch(out: &mut [u8], descriptor: u32, page: u32) -> usize
+    requires { ⌜ requestLength ≤ length (now out) ⌝ }
+    ensures { λ r. ⌜ (now (out .exit) ≡ atFront (fetchRequest descriptor page) (now (out .entry))) × (r ≡ length (fetchRequest descriptor page)) ⌝ }
+{
+    put_longer(out, 6, descriptor, page as u64);
+    9
+}
+
+// cut: the descriptor and the size.
+pub fn write_cut(out: &mut [u8], descriptor: u32, size: u32) -> usize
+    requires { ⌜ requestLength ≤ length (now out) ⌝ }
+    ensures { λ r. ⌜ (now (out .exit) ≡ atFront (cutRequest descriptor size) (now (out .entry))) × (r ≡ length (cutRequest descriptor size)) ⌝ }
+{
+    put_longer(out, 8, descriptor, size as u64);
+    9
+}
+
+fn smaller(a: usize, b: usize) -> usize
+    ensures { λ r. ⌜ r ≡ min a b ⌝ }
+{
+    if a < b {
+        return a;
+    }
+    b
+}
+
+// What a has over b.
+fn excess(a: usize, b: usize) -> usize
+    ensures { λ r. ⌜ r ≡ a - b ⌝ }
+{
+    if a < b {
+        return 0;
+    }
+    a - b
+}
+
+fn put_zeros(out: &mut [u8], at: usize, n: usize)
+    requires { ⌜ at + n ≤ length (now out) ⌝ }
+    ensures { λ _. ⌜ now (out .exit) ≡ overwrite (now (out .entry)) at (zeros n) ⌝ }
+{
+    let mut i = 0;
+    while i < n {
+        out[at + i] = 0;
+        i += 1;
+    }
+}
+
+// A page over a part of out: the bytes that there are, zeros behind.
+fn put_page(out: &mut [u8], at: usize, page: &[u8])
+    requires { ⌜ (at + PAGE-BYTES ≤ length (now out)) × (length (now page) ≤ PAGE-BYTES) ⌝ }
+    ensures { λ _. ⌜ now (out .exit) ≡ overwrite (now (out .entry)) at (resized (now (page .entry)) PAGE-BYTES) ⌝ }
+{
+    let n = page.len();
+    buffers::put(out, at, page);
+    put_zeros(out, at + n, 1024 - n);
+}
+
+// Page i as a write stores it, over a part of out.
+fn put_written(out: &mut [u8], at: usize, page: &[u8], position: usize, bytes: &[u8], i: usize)
+    requires { ⌜ (at + PAGE-BYTES ≤ length (now out)) × (length (now page) ≤ PAGE-BYTES) × (position ≤ 65536) × (i ≤ 64) ⌝ }
+    ensures { λ _. ⌜ now (out .exit) ≡ overwrite (now (out .entry)) at (fill (writing position (now (bytes .entry))) i (now (page .entry))) ⌝ }
+{
+    put_page(out, at, page);
+    let start = i * 1024;
+    let from = excess(start, position);
+    let to = smaller(bytes.len(), excess(start + 1024, position));
+    if to <= from {
+        return;
+    }
+    let place = at + excess(position, start);
+    buffers::put(out, place, &bytes[from..to]);
+}
+
+// Page i as a truncation stores it, over a part of out.
+fn put_cut(out: &mut [u8], at: usize, page: &[u8], size: usize, i: usize)
+    requires { ⌜ (at + PAGE-BYTES ≤ length (now out)) × (length (now page) ≤ PAGE-BYTES) × (size ≤ 65536) × (i ≤ 64) ⌝ }
+    ensures { λ _. ⌜ now (out .exit) ≡ overwrite (now (out .entry)) at (fill (shrinking size) i (now (page .entry))) ⌝ }
+{
+    let n = smaller(page.len(), excess(size, i * 1024));
+    put_page(out, at, &page[..n]);
+}
+
+// store, before its page: the descriptor, the page's number, the file's size.
+fn put_store(out: &mut [u8], descriptor: u32, i: usize, size: u32)
+    requires { ⌜ 13 ≤ length (now out) ⌝ }
+    ensures { λ _. ⌜ now (out .exit) ≡ overwrite (now (out .entry)) 0 (7 ∷ (encode 4 descriptor ++ (encode 4 i ++ encode 4 size))) ⌝ }
+{
+    put_longer(out, 7, descriptor, i as u64);
+    numbers::put_number(out, 9, 4, size as u64);
+}
+
+// store, of a write: the page is made from the one that was fetched or none.
+pub fn write_store(
+    out: &mut [u8],
+    descriptor: u32,
+    i: usize,
+    size: u32,
+    page: &[u8],
+    position: usize,
+    bytes: &[u8],
+) -> usize
+    requires { ⌜ (requestLength ≤ length (now out)) × (length (now page) ≤ PAGE-BYTES) × (position ≤ 65536) × (i ≤ 64) ⌝ }
+    ensures { λ r. ⌜ (now (out .exit) ≡ atFront (storeRequest descriptor i size (fill (writing position (now (bytes .entry))) i (now (page .entry)))) (now (out .entry))) × (r ≡ requestLength) ⌝ }
+{
+    put_store(out, descriptor, i, size);
+    put_written(out, 13, page, position, bytes, i);
+    1037
+}
+
+// store, of a truncation.
+pub fn write_store_cut(
+    out: &mut [u8],
+    descriptor: u32,
+    i: usize,
+    size: u32,
+    page: &[u8],
+    to: usize,
+) -> usize
+    requires { ⌜ (requestLength ≤ length (now out)) × (length (now page) ≤ PAGE-BYTES) × (to ≤ 65536) × (i ≤ 64) ⌝ }
+    ensures { λ r. ⌜ (now (out .exit) ≡ atFront (storeRequest descriptor i size (fill (shrinking to) i (now (page .entry)))) (now (out .entry))) × (r ≡ requestLength) ⌝ }
+{
+    put_store(out, descriptor, i, size);
+    put_cut(out, 13, page, to, i);
+    1037
+}
