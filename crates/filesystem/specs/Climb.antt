@@ -1,4 +1,4 @@
--- The climb from a node to the root, where parents stand earlier: how much fuel it needs, one step of it, and lists that climb alike.
+-- The climb from a node to the root, where parents have a smaller rank: how much fuel it needs, one step of it, and lists that climb alike.
 -- Assumes nothing.
 use mathlib.Core.Path.{_≡_, refl, ap, sym, _∙_, subst}
 use mathlib.Core.List.{List}
@@ -9,7 +9,7 @@ use lib.ListN.{length}
 use borrow.Author.Tests.{eq-eqb, eqb-true, eqb-false, ne-eqb, ltb-true, ltb-false}
 use Rattle.lists.specs.Pick.{pick, pick-true, pick-false}
 use Rattle.lists.specs.Equal.{Is, isT, isF, is}
-use Rattle.filesystem.specs.Tables.{Node, nodeAt, findId}
+use Rattle.filesystem.specs.Tables.{NODES, Node, nodeAt, findId}
 use Rattle.filesystem.specs.Image.{climb, pathLength}
 use Rattle.filesystem.specs.Sound.{ParentAt, Sound, parent-moved, findId-only, limits-at, root-parent}
 
@@ -18,10 +18,28 @@ pub record Rooted (ns : List Node) : Type 0 where
   pub no-parent : nodeAt ns 0 .parent ≡ 0
   pub some-id : (k : ℕ) → k < length ns → 0 < nodeAt ns k .id
   pub own-id : (i j : ℕ) → i < length ns → j < length ns → nodeAt ns i .id ≡ nodeAt ns j .id → i ≡ j
-  pub has-parent : (k : ℕ) → 0 < k → k < length ns → (j : ℕ) × (j < k) × ParentAt ns (nodeAt ns k) j
+  -- parents have a smaller rank
+  pub rank : ℕ → ℕ
+  pub low : (k : ℕ) → k < length ns → rank k < NODES
+  pub has-parent : (k : ℕ) → 0 < k → k < length ns → (j : ℕ) × (j < length ns) × (rank j < rank k) × ParentAt ns (nodeAt ns k) j
+
+-- a rank that rises with the place: parents stand earlier
+abbrev pub Rising : (ns : List Node) → Rooted ns → Type 0
+Rising ns r = (j k : ℕ) → j < k → r .rank j < r .rank k
 
 pub rooted : (w : ℕ) (ns : List Node) → Sound w ns → Rooted ns
-rooted w ns s = record { no-parent = root-parent w ns s; some-id = λ k h. limits-at w ns s k h .id-some; own-id = s .ids; has-parent = s .parents }
+rooted w ns s = record {
+  no-parent = root-parent w ns s;
+  some-id = λ k h. limits-at w ns s k h .id-some;
+  own-id = s .ids;
+  rank = λ k. k;
+  low = λ k h. let c = s .count in omega arith;
+  has-parent = λ k l h. let (j, b, q) = s .parents k l h in (j, omega arith, b, q);
+}
+
+pub rooted-rising : (w : ℕ) (ns : List Node) (s : Sound w ns) → Rising ns (rooted w ns s)
+unfolding rooted
+rooted-rising w ns s j k h = h
 
 climb-top : (f : ℕ) (ns : List Node) (n : Node) → n .parent ≡ 0 → climb f ns n ≡ 0
 unfolding climb
@@ -32,34 +50,35 @@ module _ (ns : List Node) (r : Rooted ns) where
   pub find-parent : (n : Node) (j : ℕ) → j < length ns → ParentAt ns n j → findId ns (n .parent) ≡ j
   find-parent n j h q = ap (findId ns) (sym (q .is-parent)) ∙ findId-only ns j h (λ i l e. r .own-id i j l h e)
 
-  -- any fuel above the place will do
-  pub climb-fuel : (f g k : ℕ) → k < length ns → k < f → k < g → climb f ns (nodeAt ns k) ≡ climb g ns (nodeAt ns k)
+  -- any fuel above the rank will do
+  pub climb-fuel : (f g k : ℕ) → k < length ns → r .rank k < f → r .rank k < g → climb f ns (nodeAt ns k) ≡ climb g ns (nodeAt ns k)
   unfolding climb
   climb-fuel zero g k h l m = absurd (omega arith)
   climb-fuel (suc f) zero k h l m = absurd (omega arith)
   climb-fuel (suc f) (suc g) zero h l m = climb-top (suc f) ns (nodeAt ns 0) (r .no-parent) ∙ sym (climb-top (suc g) ns (nodeAt ns 0) (r .no-parent))
   climb-fuel (suc f) (suc g) (suc k) h l m =
-      let (j, b, q) = r .has-parent (suc k) (omega arith) h in
+      let (j, i, b, q) = r .has-parent (suc k) (omega arith) h in
       let n = nodeAt ns (suc k) in
       ap (λ x. pick (eqb (n .parent) 0) 0 (suc (length (n .name)) + x))
-      (subst (λ p. climb f ns (nodeAt ns p) ≡ climb g ns (nodeAt ns p)) (sym (find-parent n j (omega arith) q)) (climb-fuel f g j (omega arith) (omega arith) (omega arith)))
+      (subst (λ p. climb f ns (nodeAt ns p) ≡ climb g ns (nodeAt ns p)) (sym (find-parent n j i q)) (climb-fuel f g j i (omega arith) (omega arith)))
 
   pub pathLength-root : pathLength ns (nodeAt ns 0) ≡ 0
   unfolding pathLength
-  pathLength-root = climb-top (length ns) ns (nodeAt ns 0) (r .no-parent)
+  pathLength-root = climb-top NODES ns (nodeAt ns 0) (r .no-parent)
 
   -- the bytes of a path are those of its parent's, a slash and the name
-  pub pathLength-step : (k j : ℕ) → j < k → k < length ns → ParentAt ns (nodeAt ns k) j → pathLength ns (nodeAt ns k) ≡ suc (length (nodeAt ns k .name)) + pathLength ns (nodeAt ns j)
+  pub pathLength-step : (k j : ℕ) → j < length ns → r .rank j < r .rank k → k < length ns → ParentAt ns (nodeAt ns k) j → pathLength ns (nodeAt ns k) ≡ suc (length (nodeAt ns k .name)) + pathLength ns (nodeAt ns j)
   unfolding pathLength climb
-  pathLength-step k j l h q = go (length ns) h
+  pathLength-step k j i l h q = go NODES (r .low k h)
     where
-      go : (f : ℕ) → k < f → climb f ns (nodeAt ns k) ≡ suc (length (nodeAt ns k .name)) + climb (length ns) ns (nodeAt ns j)
+      go : (f : ℕ) → r .rank k < f → climb f ns (nodeAt ns k) ≡ suc (length (nodeAt ns k .name)) + climb NODES ns (nodeAt ns j)
       go zero m = absurd (omega arith)
       go (suc f) m =
-          let z = r .some-id j (omega arith) in
+          let z = r .some-id j i in
+          let y = r .low j i in
           pick-false _ _ _ (ne-eqb (nodeAt ns k .parent) 0 (omega (arith, q .is-parent)))
           ∙ ap (λ x. suc (length (nodeAt ns k .name)) + x)
-          (ap (λ x. climb f ns (nodeAt ns x)) (find-parent (nodeAt ns k) j (omega arith) q) ∙ climb-fuel f (length ns) j (omega arith) (omega arith) (omega arith))
+          (ap (λ x. climb f ns (nodeAt ns x)) (find-parent (nodeAt ns k) j i q) ∙ climb-fuel f NODES j i (omega arith) y)
 
 -- the nodes of ms below place n are those of ns in the places φ, but for modes and sizes
 pub record Same (n m : Node) : Type 0 where
@@ -74,7 +93,7 @@ pub record Kept (ns ms : List Node) (n : ℕ) (φ : ℕ → ℕ) : Type 0 where
   pub mono : (i j : ℕ) → i < j → φ i < φ j
   pub below : (i : ℕ) → i < n → φ i < length ns
   pub same : (i : ℕ) → i < n → Same (nodeAt ms i) (nodeAt ns (φ i))
-  pub closed : (i j : ℕ) → i < n → j < φ i → ParentAt ns (nodeAt ns (φ i)) j → (h : ℕ) × (h < n) × (φ h ≡ j)
+  pub closed : (i j : ℕ) → i < n → j < length ns → ParentAt ns (nodeAt ns (φ i)) j → (h : ℕ) × (h < n) × (φ h ≡ j)
 
 module _ {ns ms : List Node} {n : ℕ} {φ : ℕ → ℕ} (p : Kept ns ms n φ) where
   pub back : (i j : ℕ) → φ i < φ j → i < j
@@ -116,9 +135,9 @@ module _ {ns ms : List Node} {n : ℕ} {φ : ℕ → ℕ} (p : Kept ns ms n φ) 
       go (isF e) ih =
           let d = eqb-false (φ i) 0 e in
           let l = p .below i h in
-          let (j, b, q) = r .has-parent (φ i) (omega arith) l in
+          let (j, b, m, q) = r .has-parent (φ i) (omega arith) l in
           let (g, c, a) = p .closed i j h b q in
-          let u : findId ns (nodeAt ns (φ i) .parent) ≡ φ g = find-parent ns r (nodeAt ns (φ i)) j (omega arith) q ∙ sym a in
+          let u : findId ns (nodeAt ns (φ i) .parent) ≡ φ g = find-parent ns r (nodeAt ns (φ i)) j b q ∙ sym a in
           let v : findId ms (nodeAt ms i .parent) ≡ g = find-parent ms t (nodeAt ms i) g (let m = p .fits in omega arith) (parent-kept i g h c (subst (ParentAt ns (nodeAt ns (φ i))) (sym a) q)) in
           let y : climb f ms (nodeAt ms (findId ms (nodeAt ms i .parent))) ≡ climb f ns (nodeAt ns (findId ns (nodeAt ns (φ i) .parent))) =
           ap (λ x. climb f ms (nodeAt ms x)) v ∙ (ih g c ∙ ap (λ x. climb f ns (nodeAt ns x)) (sym u)) in
@@ -126,8 +145,4 @@ module _ {ns ms : List Node} {n : ℕ} {φ : ℕ → ℕ} (p : Kept ns ms n φ) 
 
   pub pathLength-kept : Rooted ns → Rooted ms → (i : ℕ) → i < n → pathLength ms (nodeAt ms i) ≡ pathLength ns (nodeAt ns (φ i))
   unfolding pathLength
-  pathLength-kept r t i h =
-      let l = p .below i h in
-      let m = later i in
-      let b = p .fits in
-      climb-fuel ms t (length ms) (length ns) i (omega arith) (omega arith) (omega arith) ∙ climb-kept r t (length ns) i h
+  pathLength-kept r t i h = climb-kept r t NODES i h

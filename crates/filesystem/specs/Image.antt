@@ -45,7 +45,7 @@ climb zero ns n = 0
 climb (suc fuel) ns n = pick (eqb (n .parent) 0) 0 (suc (length (n .name)) + climb fuel ns (nodeAt ns (findId ns (n .parent))))
 
 unfoldable pub pathLength : List Node → Node → ℕ
-pathLength ns n = climb (length ns) ns n
+pathLength ns n = climb NODES ns n
 
 -- 'Root first: id 1, kind 2, parent 0, no name'
 abbrev pub isRoot : Node → Bool

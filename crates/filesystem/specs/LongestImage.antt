@@ -91,15 +91,18 @@ full-rooted = record {
   no-parent = unfold full nodeAt in refl;
   some-id = full-ind (λ k n. 0 < n .id) (omega arith) (λ k h. unfold leaf in omega arith);
   own-id = full-ids;
-  has-parent = full-parents;
+  rank = λ k. k;
+  low = λ k h. omega (arith, length-full);
+  has-parent = λ k l h. let (j, b, q) = full-parents k l h in (j, omega arith, b, q);
 }
 
 full-paths : (k : ℕ) → k < length full → pathLength full (nodeAt full k) ≤ PATH-BYTES
+unfolding full-rooted
 full-paths zero h = rw (pathLength-root full full-rooted) (omega arith)
 full-paths (suc k) h =
     let q = full-ind (λ k n. 0 < k → ParentAt full n 0) (λ l. absurd (omega arith)) (λ k h l. leaf-parent k) (suc k) h (omega arith) in
     let n : length (nodeAt full (suc k) .name) ≤ 32 = full-ind (λ k n. length (n .name) ≤ 32) (omega arith) (λ k h. leaf-short k) (suc k) h in
-    rw (pathLength-step full full-rooted (suc k) 0 (omega arith) h q, pathLength-root full full-rooted) (omega arith)
+    rw (pathLength-step full full-rooted (suc k) 0 (omega arith) (omega arith) h q, pathLength-root full full-rooted) (omega arith)
   where
     leaf-short : (k : ℕ) → length (leaf k .name) ≤ 32
     leaf-short k = unfold leaf leafName in rw length-tab (omega arith)

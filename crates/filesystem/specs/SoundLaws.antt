@@ -45,15 +45,23 @@ module _ (w : ℕ) {ns ms : List Node} {φ : ℕ → ℕ} (p : Kept ns ms (lengt
     no-parent = p .same 0 some .same-parent ∙ (ap (λ k. nodeAt ns k .parent) (p .first) ∙ root-parent w ns s);
     some-id = λ k h. to-limits w (nodeAt ms k) (limited k h) .id-some;
     own-id = λ i j h l e. apart p i j (s .ids (φ i) (φ j) (p .below i h) (p .below j l) (sym (p .same i h .same-id) ∙ (e ∙ p .same j l .same-id)));
+    rank = λ k. rooted w ns s .rank (φ k);
+    low = λ k h. rooted w ns s .low (φ k) (p .below k h);
     has-parent = λ k l h.
         let z = p .mono 0 k l in
-        let (j, b, q) = s .parents (φ k) (omega arith) (p .below k h) in
-        let (g, c, a) = p .closed k j h b q in (
-          g,
-          back p g k (omega arith),
-          parent-kept p k g h c (subst (ParentAt ns (nodeAt ns (φ k))) (sym a) q),
-        );
+        let (j, i, b, q) = rooted w ns s .has-parent (φ k) (omega arith) (p .below k h) in
+        let (g, c, a) = p .closed k j h i q in
+        (g, c, subst (λ x. rooted w ns s .rank x < rooted w ns s .rank (φ k)) (sym a) b, parent-kept p k g h c (subst (ParentAt ns (nodeAt ns (φ k))) (sym a) q));
   }
+
+  -- and they stand earlier
+  earlier-kept : (k : ℕ) → 0 < k → k < length ms → (j : ℕ) × (j < k) × ParentAt ms (nodeAt ms k) j
+  earlier-kept k l h =
+      let z = p .mono 0 k l in
+      let m = p .below k h in
+      let (j, b, q) = s .parents (φ k) (omega arith) m in
+      let (g, c, a) = p .closed k j h (omega arith) q in
+      (g, back p g k (omega arith), parent-kept p k g h c (subst (ParentAt ns (nodeAt ns (φ k))) (sym a) q))
 
   sound-kept : pageTotal ms ≤ PAGES → Sound w ms
   sound-kept pages =
@@ -69,7 +77,7 @@ module _ (w : ℕ) {ns ms : List Node} {φ : ℕ → ℕ} (p : Kept ns ms (lengt
         ids = r .own-id;
         siblings = λ i j h l e f. apart p i j (s .siblings (φ i) (φ j) (p .below i h) (p .below j l)
             (sym (p .same i h .same-parent) ∙ (e ∙ p .same j l .same-parent)) (sym (p .same i h .same-name) ∙ (f ∙ p .same j l .same-name)));
-        parents = r .has-parent;
+        parents = earlier-kept;
         paths = λ k h. rw (pathLength-kept p (rooted w ns s) r k h) (s .paths (φ k) (p .below k h));
         pages = pages;
       }
@@ -270,18 +278,23 @@ module _ (w : ℕ) (ns : List Node) (d id kind mode : ℕ) (name : List ℕ) (a 
       let e = nodeAt-append ns (new ∷ []) d (a .place) in
       record { is-parent = ap (λ n. n .id) e; is-directory = ap isDirectory e ∙ a .folder }
 
+  earlier-add : (k : ℕ) → 0 < k → k < length more → (j : ℕ) × (j < k) × ParentAt more (nodeAt more k) j
+  earlier-add k l h =
+      snoc-ind ns new (λ k m. 0 < k → (j : ℕ) × (j < k) × ParentAt more m j)
+      (λ k h l.
+      let (j, b, q) = s .parents k l h in
+      let e = nodeAt-append ns (new ∷ []) j (omega arith) in
+      (j, b, parent-moved (ap (λ n. n .id) e) (ap (λ n. n .kind) e) refl q))
+      (λ l. (d, a .place, parent-new)) k h l
+
   rooted-add : Rooted more
   rooted-add = record {
     no-parent = ap (λ n. n .parent) (nodeAt-append ns (new ∷ []) 0 (s .has-root)) ∙ root-parent w ns s;
     some-id = λ k h. to-limits w (nodeAt more k) (limits-add k h) .id-some;
     own-id = snoc-apart ns new (λ n m. n .id ≡ m .id) (s .ids) id-apart (λ i h e. id-apart i h (sym e));
-    has-parent = λ k l h.
-        snoc-ind ns new (λ k m. 0 < k → (j : ℕ) × (j < k) × ParentAt more m j)
-        (λ k h l.
-        let (j, b, q) = s .parents k l h in
-        let e = nodeAt-append ns (new ∷ []) j (omega arith) in
-        (j, b, parent-moved (ap (λ n. n .id) e) (ap (λ n. n .kind) e) refl q))
-        (λ l. (d, a .place, parent-new)) k h l;
+    rank = λ k. k;
+    low = λ k h. let r = a .room in let m = length-append ns (new ∷ []) in omega arith;
+    has-parent = λ k l h. let (j, b, q) = earlier-add k l h in (j, omega arith, b, q);
   }
 
   path-kept : (k : ℕ) → k < length ns → pathLength more (nodeAt more k) ≡ pathLength ns (nodeAt ns k)
@@ -289,11 +302,12 @@ module _ (w : ℕ) (ns : List Node) (d id kind mode : ℕ) (name : List ℕ) (a 
 
   -- the path of the new node
   path-new : pathLength more new ≡ suc (length name) + pathLength ns (nodeAt ns d)
+  unfolding rooted-add
   path-new =
       let e = nodeAt-last ns new in
       let l : length ns < length more = rw length-append (omega arith) in
       ap (pathLength more) (sym e)
-      ∙ (pathLength-step more rooted-add (length ns) d (a .place) l (subst (λ n. ParentAt more n d) (sym e) parent-new)
+      ∙ (pathLength-step more rooted-add (length ns) d (rw length-append (let z = a .place in omega arith)) (a .place) l (subst (λ n. ParentAt more n d) (sym e) parent-new)
       ∙ ap₂ (λ n t. suc (length (n .name)) + t) e (path-kept d (a .place)))
 
   sound-more : Sound w more
@@ -309,7 +323,7 @@ module _ (w : ℕ) (ns : List Node) (d id kind mode : ℕ) (name : List ℕ) (a 
         siblings = λ i j h l e f.
             snoc-apart ns new (λ n m. (n .parent ≡ m .parent) × (n .name ≡ m .name)) (λ i j h l r. s .siblings i j h l (r .0) (r .1))
             (λ i h r. child-apart i h (r .0) (r .1)) (λ i h r. child-apart i h (sym (r .0)) (sym (r .1))) i j h l (e, f);
-        parents = r .has-parent;
+        parents = earlier-add;
         paths = snoc-ind ns new (λ k m. pathLength more m ≤ PATH-BYTES)
             (λ k h. subst (λ n. pathLength more n ≤ PATH-BYTES) (nodeAt-append ns (new ∷ []) k h) (rw (path-kept k h) (s .paths k h)))
             (rw path-new (let h = a .path in omega arith));
@@ -338,13 +352,13 @@ module _ (w : ℕ) (ns : List Node) (sound : soundNodes w ns ≡ true) where
       let s = to-sound w ns sound in
       let (e, f) = child-found ns d c l in
       let (b, q) = parent-place s (childAt ns d c) l e in
-      pathLength-step ns (rooted w ns s) (childAt ns d c) d b l q ∙ ap (λ x. suc (length x) + pathLength ns (nodeAt ns d)) f
+      pathLength-step ns (rooted w ns s) (childAt ns d c) d h b l q ∙ ap (λ x. suc (length x) + pathLength ns (nodeAt ns d)) f
     where
-      parent-place : Sound w ns → (k : ℕ) → k < length ns → nodeAt ns k .parent ≡ nodeAt ns d .id → (d < k) × ParentAt ns (nodeAt ns k) d
+      parent-place : (s : Sound w ns) (k : ℕ) → k < length ns → nodeAt ns k .parent ≡ nodeAt ns d .id → (rooted w ns s .rank d < rooted w ns s .rank k) × ParentAt ns (nodeAt ns k) d
       parent-place s zero l e = absurd (omega (arith, root-parent w ns s, limits-at w ns s d h .id-some))
       parent-place s (suc k) l e =
-          let (j, b, q) = s .parents (suc k) (omega arith) l in
-          subst (λ x. (x < suc k) × ParentAt ns (nodeAt ns (suc k)) x) (s .ids j d (omega arith) h (q .is-parent ∙ e)) (b, q)
+          let (j, i, b, q) = rooted w ns s .has-parent (suc k) (omega arith) l in
+          subst (λ x. (rooted w ns s .rank x < rooted w ns s .rank (suc k)) × ParentAt ns (nodeAt ns (suc k)) x) (s .ids j d i h (q .is-parent ∙ e)) (b, q)
 
   pub walk-length : (d : ℕ) (p : Path) → d < length ns → Passed (walkChecks ns d p) → pathLength ns (nodeAt ns (walk ns d p)) ≡ pathLength ns (nodeAt ns d) + length (joined p)
   unfolding walk walkChecks joined

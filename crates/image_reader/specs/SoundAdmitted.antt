@@ -16,7 +16,7 @@ use Rattle.lists.specs.Places.{any-at, at-any, place-least}
 use Rattle.filesystem.specs.Tables.{NODES, PAGES, PATH-BYTES, Node, noNode, isDirectory, nodeAt, pageTotal}
 use Rattle.filesystem.specs.Image.{pathLength, isRoot, inLimits, isNamed, sameId, sameChild, soundNodes}
 use Rattle.filesystem.specs.Sound.{ParentAt, Sound, to-sound, of-sound, to-limits, nodeAt-append}
-use Rattle.filesystem.specs.Climb.{Rooted, rooted, pathLength-root, pathLength-step}
+use Rattle.filesystem.specs.Climb.{Rooted, Rising, rooted, rooted-rising, pathLength-root, pathLength-step}
 use Rattle.image_reader.specs.Admission.{clash, isParent, admit, admitted}
 use Rattle.image_reader.specs.AdmissionLaws.{admit-yes}
 
@@ -79,12 +79,13 @@ module _ (w : ℕ) (all before : List Node) (x : Node) (xs : List Node) (q : bef
 abbrev pub Lengths : List Node → List Node → List ℕ → Type 0
 Lengths all before lengths = (length lengths ≡ length before) × ((k : ℕ) → k < length before → getD lengths k 0 ≡ pathLength all (nodeAt all k))
 
-module _ (w : ℕ) (all before : List Node) (lengths : List ℕ) (x : Node) (xs : List Node) (q : before ++ (x ∷ xs) ≡ all) (r : Rooted all) (l : Lengths all before lengths) (p : Passed w before lengths x) where
+module _ (w : ℕ) (all before : List Node) (lengths : List ℕ) (x : Node) (xs : List Node) (q : before ++ (x ∷ xs) ≡ all) (r : Rooted all) (o : Rising all r) (l : Lengths all before lengths) (p : Passed w before lengths x) where
   pub path-of : admit w before lengths x ≡ pathLength all (nodeAt all (length before))
   path-of =
       let j = place (isParent x) before in
       let a = admit-yes w before lengths x (p .limits) (p .named) (p .apart) (p .there) in
-      let s = pathLength-step all r (length before) j (p .there) (in-all w all before x xs q) (found w all before x xs q (p .there)) in
+      let i = in-all w all before x xs q in
+      let s = pathLength-step all r (length before) j (let h = p .there in omega arith) (o j (length before) (p .there)) i (found w all before x xs q (p .there)) in
       let n = ap (λ (m : Node). length (m .name)) (here w all before x xs q) in
       omega (arith, a, s, n, l .1 j (p .there))
 
@@ -127,11 +128,11 @@ module _ (w : ℕ) (all : List Node) where
           let s = strict k (length before) h (eqb-false k (length before) t) in
           ih (and-snd (leb (admit w before lengths x) PATH-BYTES) _ e) k (omega arith) (omega arith)
 
-  pub paths : Rooted all → (before : List Node) (lengths : List ℕ) (xs : List Node) → before ++ xs ≡ all → Lengths all before lengths → admitted w before lengths xs ≡ true
+  pub paths : (r : Rooted all) → Rising all r → (before : List Node) (lengths : List ℕ) (xs : List Node) → before ++ xs ≡ all → Lengths all before lengths → admitted w before lengths xs ≡ true
       → (k : ℕ) → length before ≤ k → k < length before + length xs → pathLength all (nodeAt all k) ≤ PATH-BYTES
   unfolding admitted
-  paths r before lengths [] q n e k h l = absurd (omega arith)
-  paths r before lengths (x ∷ xs) q n e k h l = go (is (eqb k (length before))) (paths r (before ++ (x ∷ [])) (lengths ++ (admit w before lengths x ∷ [])) xs (append-snoc before x xs ∙ q))
+  paths r o before lengths [] q n e k h l = absurd (omega arith)
+  paths r o before lengths (x ∷ xs) q n e k h l = go (is (eqb k (length before))) (paths r o (before ++ (x ∷ [])) (lengths ++ (admit w before lengths x ∷ [])) xs (append-snoc before x xs ∙ q))
     where
       short : admit w before lengths x ≤ PATH-BYTES
       short = leb-true _ _ (and-fst _ _ e)
@@ -143,11 +144,11 @@ module _ (w : ℕ) (all : List Node) where
           → (Lengths all (before ++ (x ∷ [])) (lengths ++ (admit w before lengths x ∷ [])) → admitted w (before ++ (x ∷ [])) (lengths ++ (admit w before lengths x ∷ [])) xs ≡ true
           → (k : ℕ) → length (before ++ (x ∷ [])) ≤ k → k < length (before ++ (x ∷ [])) + length xs → pathLength all (nodeAt all k) ≤ PATH-BYTES)
           → pathLength all (nodeAt all k) ≤ PATH-BYTES
-      go (isT t) ih = subst (λ (i : ℕ). pathLength all (nodeAt all i) ≤ PATH-BYTES) (sym (eqb-true k (length before) t)) (subst (λ (i : ℕ). i ≤ PATH-BYTES) (path-of w all before lengths x xs q r n p) short)
+      go (isT t) ih = subst (λ (i : ℕ). pathLength all (nodeAt all i) ≤ PATH-BYTES) (sym (eqb-true k (length before) t)) (subst (λ (i : ℕ). i ≤ PATH-BYTES) (path-of w all before lengths x xs q r o n p) short)
       go (isF t) ih =
           let m = longer before x in
           let s = strict k (length before) h (eqb-false k (length before) t) in
-          ih (more-lengths w all before lengths x xs q r n p) (and-snd (leb (admit w before lengths x) PATH-BYTES) _ e) k (omega arith) (omega arith)
+          ih (more-lengths w all before lengths x xs q r o n p) (and-snd (leb (admit w before lengths x) PATH-BYTES) _ e) k (omega arith) (omega arith)
 
   -- sound nodes are admitted
   module _ (s : Sound w all) where
@@ -196,8 +197,9 @@ module _ (w : ℕ) (all : List Node) where
     complete before lengths (x ∷ xs) q h n =
         let p = passes before lengths x xs q h in
         let r = rooted w all s in
-        let a : admit w before lengths x ≤ PATH-BYTES = subst (λ (i : ℕ). i ≤ PATH-BYTES) (sym (path-of w all before lengths x xs q r n p)) (s .paths (length before) (in-all w all before x xs q)) in
-        and-both _ _ (le-leb _ _ a) (complete (before ++ (x ∷ [])) (lengths ++ (admit w before lengths x ∷ [])) xs (append-snoc before x xs ∙ q) (rw (longer before x) (omega arith)) (more-lengths w all before lengths x xs q r n p))
+        let o = rooted-rising w all s in
+        let a : admit w before lengths x ≤ PATH-BYTES = subst (λ (i : ℕ). i ≤ PATH-BYTES) (sym (path-of w all before lengths x xs q r o n p)) (s .paths (length before) (in-all w all before x xs q)) in
+        and-both _ _ (le-leb _ _ a) (complete (before ++ (x ∷ [])) (lengths ++ (admit w before lengths x ∷ [])) xs (append-snoc before x xs ∙ q) (rw (longer before x) (omega arith)) (more-lengths w all before lengths x xs q r o n p))
 
 -- The test of sound nodes.
 module _ (w : ℕ) (r : Node) (ns : List Node) (root : isRoot r ≡ true) (count : length (r ∷ ns) ≤ NODES) (limits : inLimits w r ≡ true) (pages : pageTotal (r ∷ ns) ≤ PAGES) where
@@ -236,8 +238,14 @@ module _ (w : ℕ) (r : Node) (ns : List Node) (root : isRoot r ≡ true) (count
       no-parent = eqb-true _ _ (and-fst _ _ (and-snd (eqb (r .kind) 2) _ (and-snd (eqb (r .id) 1) _ root)));
       some-id = λ k h. to-limits w (nodeAt all k) (each-limits k h) .id-some;
       own-id = own-ids;
-      has-parent = λ k h l. fact k h l .parent;
+      rank = λ k. k;
+      low = λ k h. omega (arith, count);
+      has-parent = λ k h l. let (j, b, q) = fact k h l .parent in (j, omega arith, b, q);
     }
+
+    all-rising : Rising all all-rooted
+    unfolding all-rooted
+    all-rising j k h = h
 
     all-lengths : Lengths all (r ∷ []) (0 ∷ [])
     all-lengths = (refl, λ k h. first k h)
@@ -263,7 +271,7 @@ module _ (w : ℕ) (r : Node) (ns : List Node) (root : isRoot r ≡ true) (count
       where
         each-path : (k : ℕ) → k < length all → pathLength all (nodeAt all k) ≤ PATH-BYTES
         each-path zero h = rw (pathLength-root all all-rooted) (omega arith)
-        each-path (suc k) h = paths w all all-rooted (r ∷ []) (0 ∷ []) ns refl all-lengths e (suc k) (omega arith) (omega arith)
+        each-path (suc k) h = paths w all all-rooted all-rising (r ∷ []) (0 ∷ []) ns refl all-lengths e (suc k) (omega arith) (omega arith)
 
   sound-lengths : Sound w all → Lengths all (r ∷ []) (0 ∷ [])
   sound-lengths s = (refl, λ k h. first k h)

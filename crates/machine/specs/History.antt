@@ -8,20 +8,14 @@ use lib.Dec.{eqb}
 use lib.ListN.{length, drop}
 use Rattle.lists.specs.Pick.{pick}
 use Rattle.filesystem.specs.Tables.{PAGE-BYTES}
-use Rattle.rules.specs.Requests.{Pending, idle, creating, opening, closing, removing, changing, listing, stating, reading, fetching, storing, cutting}
+use Rattle.rules.specs.Requests.{asked, Pending, idle, creating, opening, closing, removing, changing, listing, stating, reading, fetching, storing, cutting}
 use Rattle.rules.specs.Skeleton.{Config, Event, call, reply, save, load, Answer, done, ask, refused, stopped, Outcome}
 use Rattle.machine.specs.Machine.{Store, State, step}
 
 -- is a page awaited?
 unfoldable pub awaitsPage : Pending → Bool
 awaitsPage idle = Bool.false
-awaitsPage (creating p k m name) = Bool.false
-awaitsPage (opening k r) = Bool.false
-awaitsPage (closing o) = Bool.false
-awaitsPage (removing k) = Bool.false
-awaitsPage (changing k m) = Bool.false
-awaitsPage (listing k) = Bool.false
-awaitsPage (stating k) = Bool.false
+awaitsPage (asked x) = Bool.false
 awaitsPage (reading k o p n i) = Bool.true
 awaitsPage (fetching k o q i) = Bool.true
 awaitsPage (storing k o q i) = Bool.false

@@ -7,7 +7,7 @@ use lib.ListN.{getD}
 use Rattle.lists.specs.LittleEndian.{encode}
 use Rattle.filesystem.specs.Tables.{nodeAt}
 use Rattle.rules.specs.Pages.{pageOf}
-use Rattle.rules.specs.Requests.{Pending, idle, creating, opening, closing, removing, changing, listing, stating, reading, fetching, storing, cutting}
+use Rattle.rules.specs.Requests.{asked, Pending, idle, creating, opening, closing, removing, changing, listing, stating, reading, fetching, storing, cutting}
 use Rattle.rules.specs.Skeleton.{Config}
 use Rattle.rules.specs.Rules.{statBytes}
 use Rattle.rules.specs.RightReplies.{RightId, RightDescriptor, RightListing}
@@ -17,13 +17,13 @@ use Rattle.machine.specs.Tree.{tree}
 module _ (c : Config) (t : State (tree c)) (r : List ℕ) where
   unfoldable pub RightFor : Pending → Type 0
   RightFor idle = Unit {0}
-  RightFor (creating p k m name) = RightId (c .width) (t .skeleton .tables) r
-  RightFor (opening k rights) = RightDescriptor (t .skeleton .tables) r
-  RightFor (closing o) = r ≡ encode 4 0
-  RightFor (removing k) = r ≡ encode 4 0
-  RightFor (changing k m) = r ≡ encode 4 0
-  RightFor (listing k) = RightListing (c .width) (t .skeleton .tables) r k
-  RightFor (stating k) = r ≡ statBytes (c .width) (nodeAt (t .skeleton .tables .nodes) k)
+  RightFor (asked (creating p k m name)) = RightId (c .width) (t .skeleton .tables) r
+  RightFor (asked (opening k rights)) = RightDescriptor (t .skeleton .tables) r
+  RightFor (asked (closing o)) = r ≡ encode 4 0
+  RightFor (asked (removing k)) = r ≡ encode 4 0
+  RightFor (asked (changing k m)) = r ≡ encode 4 0
+  RightFor (asked (listing k)) = RightListing (c .width) (t .skeleton .tables) r k
+  RightFor (asked (stating k)) = r ≡ statBytes (c .width) (nodeAt (t .skeleton .tables .nodes) k)
   RightFor (reading k o p n i) = r ≡ pageOf (getD (t .contents) k []) i
   RightFor (fetching k o q i) = r ≡ pageOf (getD (t .contents) k []) i
   RightFor (storing k o q i) = r ≡ encode 4 1024

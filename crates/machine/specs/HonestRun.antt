@@ -15,7 +15,7 @@ use Rattle.lists.specs.Cells.{length-tab}
 use Rattle.lists.specs.Checks.{Check, First, here, later, Passed}
 use Rattle.filesystem.specs.Image.{Image, parse}
 use Rattle.rules.specs.Pages.{pageOf, Change, first, last, fetches, cuts}
-use Rattle.rules.specs.Requests.{Pending, idle, creating, opening, closing, removing, changing, listing, stating, reading, fetching, storing, cutting}
+use Rattle.rules.specs.Requests.{asked, Pending, idle, creating, opening, closing, removing, changing, listing, stating, reading, fetching, storing, cutting}
 use Rattle.rules.specs.Skeleton.{Config, Event, reply, EventBytes}
 use Rattle.rules.specs.Rules.{Move, loading, judge, replyChecks}
 use Rattle.machine.specs.Machine.{State, Result, files, readOn, finishChange, pagesStored, askStore, onPage, pagesFrom, apply, step, fresh, outcomes, final, guard}
@@ -43,13 +43,13 @@ module _ (c : Config) (fit : Fit c) where
   right-passes : (t : State (tree c)) (r : List ℕ) → Valid (c .width) (t .skeleton) → (p : Pending) → RightFor c t r p → Passed (replyChecks (c .width) (t .skeleton .tables) r p)
   unfolding RightFor
   right-passes t r v idle h = unfold replyChecks in all-none
-  right-passes t r v (creating p k m name) h = right-id (c .width) (t .skeleton .tables) r p k m name h
-  right-passes t r v (opening k rights) h = right-descriptor (c .width) (t .skeleton .tables) r k rights h
-  right-passes t r v (closing o) h = unfold replyChecks in right-status (c .width) (t .skeleton .tables) r 0 (omega arith) h
-  right-passes t r v (removing k) h = unfold replyChecks in right-status (c .width) (t .skeleton .tables) r 0 (omega arith) h
-  right-passes t r v (changing k m) h = unfold replyChecks in right-status (c .width) (t .skeleton .tables) r 0 (omega arith) h
-  right-passes t r v (listing k) h = right-listing (c .width) (t .skeleton .tables) r k (v .tables .nodes-valid) h
-  right-passes t r v (stating k) h = right-stat (c .width) (t .skeleton .tables) r k h
+  right-passes t r v (asked (creating p k m name)) h = right-id (c .width) (t .skeleton .tables) r p k m name h
+  right-passes t r v (asked (opening k rights)) h = right-descriptor (c .width) (t .skeleton .tables) r k rights h
+  right-passes t r v (asked (closing o)) h = unfold replyChecks in right-status (c .width) (t .skeleton .tables) r 0 (omega arith) h
+  right-passes t r v (asked (removing k)) h = unfold replyChecks in right-status (c .width) (t .skeleton .tables) r 0 (omega arith) h
+  right-passes t r v (asked (changing k m)) h = unfold replyChecks in right-status (c .width) (t .skeleton .tables) r 0 (omega arith) h
+  right-passes t r v (asked (listing k)) h = right-listing (c .width) (t .skeleton .tables) r k (v .tables .nodes-valid) h
+  right-passes t r v (asked (stating k)) h = right-stat (c .width) (t .skeleton .tables) r k h
   right-passes t r v (reading k o p n i) h = unfold replyChecks in page-long t k i r h
   right-passes t r v (fetching k o q i) h = unfold replyChecks in page-long t k i r h
   right-passes t r v (storing k o q i) h = unfold replyChecks in right-status (c .width) (t .skeleton .tables) r 1024 (omega arith) h

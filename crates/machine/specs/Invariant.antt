@@ -21,7 +21,7 @@ use Rattle.filesystem.specs.Tables.{Node, nodeAt, pagesFor, setSize}
 use Rattle.filesystem.specs.Image.{flatten, print}
 use Rattle.rules.specs.Pages.{pageOf, Change, first, last, fetches, cuts, bytesAfter, sizeAfter, FitsSize}
 use Rattle.rules.specs.PageLaws.{Where, low, mid, high, range, length-after, first-last, after-apart, apart-old}
-use Rattle.rules.specs.Requests.{storeRequest, Pending, idle, creating, opening, closing, removing, changing, listing, stating, reading, fetching, storing, cutting}
+use Rattle.rules.specs.Requests.{asked, storeRequest, Pending, idle, creating, opening, closing, removing, changing, listing, stating, reading, fetching, storing, cutting}
 use Rattle.rules.specs.Skeleton.{Config, Event, Answer}
 use Rattle.rules.specs.Rules.{Move}
 use Rattle.machine.specs.Machine.{Files, State, Result, files, readOn, finishChange, pagesStored, askStore, onPage, pagesFrom, apply}
@@ -58,13 +58,7 @@ module _ (c : Config) (M N : List ℕ → Type 0) where
 
   abbrev pub SoFar : List (List ℕ) → Pending → Type 0
   SoFar xs idle = Unit {0}
-  SoFar xs (creating p k m name) = Unit {0}
-  SoFar xs (opening k r) = Unit {0}
-  SoFar xs (closing o) = Unit {0}
-  SoFar xs (removing k) = Unit {0}
-  SoFar xs (changing k m) = Unit {0}
-  SoFar xs (listing k) = Unit {0}
-  SoFar xs (stating k) = Unit {0}
+  SoFar xs (asked x) = Unit {0}
   SoFar xs (reading k o p n i) = Unit {0}
   SoFar xs (fetching k o q i) = StoredTo (getD xs k []) q i
   SoFar xs (storing k o q i) = StoredTo (getD xs k []) q (suc i)
@@ -84,13 +78,7 @@ module _ (c : Config) (M N : List ℕ → Type 0) where
 
   starts-sofar : (xs : List (List ℕ)) (p : Pending) → Starts p → SoFar xs p
   starts-sofar xs idle s = absurd s
-  starts-sofar xs (creating p k m name) s = tt
-  starts-sofar xs (opening k r) s = tt
-  starts-sofar xs (closing o) s = tt
-  starts-sofar xs (removing k) s = tt
-  starts-sofar xs (changing k m) s = tt
-  starts-sofar xs (listing k) s = tt
-  starts-sofar xs (stating k) s = tt
+  starts-sofar xs (asked x) s = tt
   starts-sofar xs (reading k o p n i) s = tt
   starts-sofar xs (fetching k o q i) s = absurd s
   starts-sofar xs (storing k o q i) s = absurd s

@@ -15,7 +15,7 @@ use Rattle.filesystem.specs.Tables.{Node, noNode, nodeAt, pagesFor}
 use Rattle.filesystem.specs.Image.{divide}
 use Rattle.rules.specs.Pages.{pageAt, pageOf, part, Change, first, last, fetches, fill, cuts, bytesAfter, FitsSize}
 use Rattle.rules.specs.PageLaws.{first-last, fill-page, fill-blank, part-more}
-use Rattle.rules.specs.Requests.{Pending, idle, creating, opening, closing, removing, changing, listing, stating, reading, fetching, storing, cutting}
+use Rattle.rules.specs.Requests.{asked, Pending, idle, creating, opening, closing, removing, changing, listing, stating, reading, fetching, storing, cutting}
 use Rattle.rules.specs.Skeleton.{Config, Event}
 use Rattle.rules.specs.Rules.{Move, refuse, halt, send, finish, add, delete, readPage, begin, fillPage, stored, cutDone, saving, loading}
 use Rattle.machine.specs.Machine.{Files, State, Result, files, readOn, finishChange, pagesStored, askStore, onPage, pagesFrom, loaded, apply, guard}
@@ -74,13 +74,7 @@ module _ (c : Config) where
   starts-bare : (xs : List (List ℕ)) (p : Pending) → Starts p → progressOf c xs p ≡ record { bytes = []; digests = [] }
   unfolding progressOf part pageAt tab
   starts-bare xs idle s = absurd s
-  starts-bare xs (creating p k m name) s = refl
-  starts-bare xs (opening k r) s = refl
-  starts-bare xs (closing o) s = refl
-  starts-bare xs (removing k) s = refl
-  starts-bare xs (changing k m) s = refl
-  starts-bare xs (listing k) s = refl
-  starts-bare xs (stating k) s = refl
+  starts-bare xs (asked x) s = refl
   starts-bare xs (reading k o p n i) s = let e : max p (i * 1024) - p ≡ 0 = omega arith in rw e
   starts-bare xs (fetching k o q i) s = absurd s
   starts-bare xs (storing k o q i) s = absurd s

@@ -9,7 +9,7 @@ use Rattle.lists.specs.Equal.{equal}
 use Rattle.lists.specs.Cells.{tab}
 use Rattle.filesystem.specs.Tables.{pagesFor}
 use Rattle.rules.specs.Pages.{pageOf, part, Change, first, last, bytesAfter}
-use Rattle.rules.specs.Requests.{Pending, idle, creating, opening, closing, removing, changing, listing, stating, reading, fetching, storing, cutting}
+use Rattle.rules.specs.Requests.{asked, Pending, idle, creating, opening, closing, removing, changing, listing, stating, reading, fetching, storing, cutting}
 use Rattle.rules.specs.Skeleton.{Config}
 use Rattle.machine.specs.Machine.{Files, Store, State, Gathered, guard}
 
@@ -60,13 +60,7 @@ module _ (c : Config) where
 
   unfoldable pub progressOf : List (List ℕ) → Pending → Gathered
   progressOf xs idle = record { bytes = []; digests = [] }
-  progressOf xs (creating p k m name) = record { bytes = []; digests = [] }
-  progressOf xs (opening k r) = record { bytes = []; digests = [] }
-  progressOf xs (closing o) = record { bytes = []; digests = [] }
-  progressOf xs (removing k) = record { bytes = []; digests = [] }
-  progressOf xs (changing k m) = record { bytes = []; digests = [] }
-  progressOf xs (listing k) = record { bytes = []; digests = [] }
-  progressOf xs (stating k) = record { bytes = []; digests = [] }
+  progressOf xs (asked x) = record { bytes = []; digests = [] }
   progressOf xs (reading k o p n i) = record { bytes = readSoFar (getD xs k []) p i; digests = [] }
   progressOf xs (fetching k o q i) = record { bytes = []; digests = sentDigests (getD xs k []) q i }
   progressOf xs (storing k o q i) = record { bytes = []; digests = sentDigests (getD xs k []) q (suc i) }

@@ -16,7 +16,7 @@ use Rattle.lists.specs.Rearranged.{Rearranged, rearranged-self, rearranged-sym,
 use Rattle.filesystem.specs.Tables.{Node, OpenFile, Tables, nodeAt, children}
 use Rattle.filesystem.specs.Sound.{to-sound}
 use Rattle.rules.specs.Pages.{pageOf}
-use Rattle.rules.specs.Requests.{Pending, idle, creating, opening, closing, removing, changing, listing, stating, reading, fetching, storing, cutting}
+use Rattle.rules.specs.Requests.{asked, Pending, idle, creating, opening, closing, removing, changing, listing, stating, reading, fetching, storing, cutting}
 use Rattle.rules.specs.Skeleton.{Config, Event, EventBytes}
 use Rattle.rules.specs.Rules.{Entry, entryForm, entryOf, statBytes}
 use Rattle.rules.specs.RightReplies.{RightId, RightDescriptor}
@@ -37,13 +37,13 @@ freeDescriptor os = free (length os) 0 (map (λ o. o .descriptor) os)
 module _ (c : Config) (t : State (tree c)) where
   unfoldable pub truthfulFor : Pending → List ℕ
   truthfulFor idle = []
-  truthfulFor (creating p k m name) = encode (c .width) (freeId (t .skeleton .tables .nodes))
-  truthfulFor (opening k rights) = encode 4 (freeDescriptor (t .skeleton .tables .opens))
-  truthfulFor (closing o) = encode 4 0
-  truthfulFor (removing k) = encode 4 0
-  truthfulFor (changing k m) = encode 4 0
-  truthfulFor (listing k) = put-all (entryForm (c .width)) (map entryOf (children (t .skeleton .tables .nodes) (nodeAt (t .skeleton .tables .nodes) k .id)))
-  truthfulFor (stating k) = statBytes (c .width) (nodeAt (t .skeleton .tables .nodes) k)
+  truthfulFor (asked (creating p k m name)) = encode (c .width) (freeId (t .skeleton .tables .nodes))
+  truthfulFor (asked (opening k rights)) = encode 4 (freeDescriptor (t .skeleton .tables .opens))
+  truthfulFor (asked (closing o)) = encode 4 0
+  truthfulFor (asked (removing k)) = encode 4 0
+  truthfulFor (asked (changing k m)) = encode 4 0
+  truthfulFor (asked (listing k)) = put-all (entryForm (c .width)) (map entryOf (children (t .skeleton .tables .nodes) (nodeAt (t .skeleton .tables .nodes) k .id)))
+  truthfulFor (asked (stating k)) = statBytes (c .width) (nodeAt (t .skeleton .tables .nodes) k)
   truthfulFor (reading k o p n i) = pageOf (getD (t .contents) k []) i
   truthfulFor (fetching k o q i) = pageOf (getD (t .contents) k []) i
   truthfulFor (storing k o q i) = encode 4 1024
@@ -98,13 +98,13 @@ module _ (c : Config) (t : State (tree c)) (v : Valid (c .width) (t .skeleton)) 
   for-right : (p : Pending) → RightFor c t (truthfulFor c t p) p
   unfolding RightFor truthfulFor
   for-right idle = tt
-  for-right (creating p k m name) = id-right (c .width) (t .skeleton .tables) (v .tables) wide
-  for-right (opening k rights) = descriptor-right (c .width) (t .skeleton .tables) (v .tables)
-  for-right (closing o) = refl
-  for-right (removing k) = refl
-  for-right (changing k m) = refl
-  for-right (listing k) = record { entries = _; bytes = refl; each-once = rearranged-self _ }
-  for-right (stating k) = refl
+  for-right (asked (creating p k m name)) = id-right (c .width) (t .skeleton .tables) (v .tables) wide
+  for-right (asked (opening k rights)) = descriptor-right (c .width) (t .skeleton .tables) (v .tables)
+  for-right (asked (closing o)) = refl
+  for-right (asked (removing k)) = refl
+  for-right (asked (changing k m)) = refl
+  for-right (asked (listing k)) = record { entries = _; bytes = refl; each-once = rearranged-self _ }
+  for-right (asked (stating k)) = refl
   for-right (reading k o p n i) = refl
   for-right (fetching k o q i) = refl
   for-right (storing k o q i) = refl
@@ -124,15 +124,15 @@ module _ (c : Config) (t : State (tree c)) (r s : List ℕ) where
   abbrev pub SameBut : Pending → Type 0
   SameBut idle = Unit {0}
   -- each is one id; each is one descriptor
-  SameBut (creating p k m name) = (r ≡ encode (c .width) (decode r)) × (s ≡ encode (c .width) (decode s))
-  SameBut (opening k rights) = (r ≡ encode 4 (decode r)) × (s ≡ encode 4 (decode s))
-  SameBut (closing o) = r ≡ s
-  SameBut (removing k) = r ≡ s
-  SameBut (changing k m) = r ≡ s
+  SameBut (asked (creating p k m name)) = (r ≡ encode (c .width) (decode r)) × (s ≡ encode (c .width) (decode s))
+  SameBut (asked (opening k rights)) = (r ≡ encode 4 (decode r)) × (s ≡ encode 4 (decode s))
+  SameBut (asked (closing o)) = r ≡ s
+  SameBut (asked (removing k)) = r ≡ s
+  SameBut (asked (changing k m)) = r ≡ s
   -- the one lists the other's entries, in another order perhaps
-  SameBut (listing k) =
+  SameBut (asked (listing k)) =
       (es : List Entry) × (fs : List Entry) × (r ≡ put-all (entryForm (c .width)) es) × (s ≡ put-all (entryForm (c .width)) fs) × Rearranged es fs
-  SameBut (stating k) = r ≡ s
+  SameBut (asked (stating k)) = r ≡ s
   SameBut (reading k o p n i) = r ≡ s
   SameBut (fetching k o q i) = r ≡ s
   SameBut (storing k o q i) = r ≡ s
@@ -141,13 +141,13 @@ module _ (c : Config) (t : State (tree c)) (r s : List ℕ) where
   same-for : Bytes r → Bytes s → (p : Pending) → RightFor c t r p → RightFor c t s p → SameBut p
   unfolding RightFor
   same-for a b idle x y = tt
-  same-for a b (creating p k m name) x y = (sym (ap (λ w. encode w (decode r)) (sym (x .long)) ∙ encode-decode r a), sym (ap (λ w. encode w (decode s)) (sym (y .long)) ∙ encode-decode s b))
-  same-for a b (opening k rights) x y = (sym (ap (λ w. encode w (decode r)) (sym (x .long)) ∙ encode-decode r a), sym (ap (λ w. encode w (decode s)) (sym (y .long)) ∙ encode-decode s b))
-  same-for a b (closing o) x y = x ∙ sym y
-  same-for a b (removing k) x y = x ∙ sym y
-  same-for a b (changing k m) x y = x ∙ sym y
-  same-for a b (listing k) x y = (x .entries, y .entries, x .bytes, y .bytes, rearranged-trans (x .each-once) (rearranged-sym (y .each-once)))
-  same-for a b (stating k) x y = x ∙ sym y
+  same-for a b (asked (creating p k m name)) x y = (sym (ap (λ w. encode w (decode r)) (sym (x .long)) ∙ encode-decode r a), sym (ap (λ w. encode w (decode s)) (sym (y .long)) ∙ encode-decode s b))
+  same-for a b (asked (opening k rights)) x y = (sym (ap (λ w. encode w (decode r)) (sym (x .long)) ∙ encode-decode r a), sym (ap (λ w. encode w (decode s)) (sym (y .long)) ∙ encode-decode s b))
+  same-for a b (asked (closing o)) x y = x ∙ sym y
+  same-for a b (asked (removing k)) x y = x ∙ sym y
+  same-for a b (asked (changing k m)) x y = x ∙ sym y
+  same-for a b (asked (listing k)) x y = (x .entries, y .entries, x .bytes, y .bytes, rearranged-trans (x .each-once) (rearranged-sym (y .each-once)))
+  same-for a b (asked (stating k)) x y = x ∙ sym y
   same-for a b (reading k o p n i) x y = x ∙ sym y
   same-for a b (fetching k o q i) x y = x ∙ sym y
   same-for a b (storing k o q i) x y = x ∙ sym y

@@ -10,7 +10,7 @@ use Rattle.lists.specs.Parts.{overwrite}
 use Rattle.lists.specs.PartLaws.{take-overwrite}
 use Rattle.filesystem.specs.Tables.{NODES, OPEN-FILES}
 use Rattle.memory.specs.Layout.{memOf, dataSize, newDigests, withStaged}
-use Rattle.rules.specs.Requests.{creating, opening, closing, removing, changing, listing, stating}
+use Rattle.rules.specs.Requests.{asked, creating, opening, closing, removing, changing, listing, stating}
 use Rattle.rules.specs.Skeleton.{Config}
 use Rattle.tables.specs.declared.Guard.{Guard}
 use Rattle.tables.specs.GuardLaws.{loaded-in-limits}
@@ -32,33 +32,33 @@ resting-in-limits nodes opens stopped a b = record { nodes-fit = a; opens-fit = 
 module _ (c : Config) (m : List ℕ) where
   -- a name that was staged first
   pub creating-waits : (x : List ℕ) (parent kind mode : ℕ) (name : List ℕ) → memOf x ≡ withStaged (overwrite (memOf m .staged) 0 name) (memOf m)
-      → waitingIn c x 1 0 0 parent kind mode (length name) 0 ≡ waits c (stateOf c m) (creating parent kind mode name) gatheredNone
+      → waitingIn c x 1 0 0 parent kind mode (length name) 0 ≡ waits c (stateOf c m) (asked (creating parent kind mode name)) gatheredNone
   unfolding waitingIn stateOf stateIn viewOf pendingOf progressOf waits stagedBytes
   creating-waits x parent kind mode name e =
       let s : take (length name) (overwrite (memOf m .staged) 0 name) ≡ name = take-overwrite (memOf m .staged) 0 name (length name) (omega arith) (omega arith) in
       rw (e, s)
 
-  pub opening-waits : (k r : ℕ) → waitingIn c m 2 k 0 0 r 0 0 0 ≡ waits c (stateOf c m) (opening k r) gatheredNone
+  pub opening-waits : (k r : ℕ) → waitingIn c m 2 k 0 0 r 0 0 0 ≡ waits c (stateOf c m) (asked (opening k r)) gatheredNone
   unfolding waitingIn stateOf stateIn viewOf pendingOf progressOf waits
   opening-waits k r = refl
 
-  pub closing-waits : (o : ℕ) → waitingIn c m 3 0 o 0 0 0 0 0 ≡ waits c (stateOf c m) (closing o) gatheredNone
+  pub closing-waits : (o : ℕ) → waitingIn c m 3 0 o 0 0 0 0 0 ≡ waits c (stateOf c m) (asked (closing o)) gatheredNone
   unfolding waitingIn stateOf stateIn viewOf pendingOf progressOf waits
   closing-waits o = refl
 
-  pub removing-waits : (k : ℕ) → waitingIn c m 4 k 0 0 0 0 0 0 ≡ waits c (stateOf c m) (removing k) gatheredNone
+  pub removing-waits : (k : ℕ) → waitingIn c m 4 k 0 0 0 0 0 0 ≡ waits c (stateOf c m) (asked (removing k)) gatheredNone
   unfolding waitingIn stateOf stateIn viewOf pendingOf progressOf waits
   removing-waits k = refl
 
-  pub changing-waits : (k x : ℕ) → waitingIn c m 5 k 0 0 x 0 0 0 ≡ waits c (stateOf c m) (changing k x) gatheredNone
+  pub changing-waits : (k x : ℕ) → waitingIn c m 5 k 0 0 x 0 0 0 ≡ waits c (stateOf c m) (asked (changing k x)) gatheredNone
   unfolding waitingIn stateOf stateIn viewOf pendingOf progressOf waits
   changing-waits k x = refl
 
-  pub listing-waits : (k : ℕ) → waitingIn c m 6 k 0 0 0 0 0 0 ≡ waits c (stateOf c m) (listing k) gatheredNone
+  pub listing-waits : (k : ℕ) → waitingIn c m 6 k 0 0 0 0 0 0 ≡ waits c (stateOf c m) (asked (listing k)) gatheredNone
   unfolding waitingIn stateOf stateIn viewOf pendingOf progressOf waits
   listing-waits k = refl
 
-  pub stating-waits : (k : ℕ) → waitingIn c m 7 k 0 0 0 0 0 0 ≡ waits c (stateOf c m) (stating k) gatheredNone
+  pub stating-waits : (k : ℕ) → waitingIn c m 7 k 0 0 0 0 0 0 ≡ waits c (stateOf c m) (asked (stating k)) gatheredNone
   unfolding waitingIn stateOf stateIn viewOf pendingOf progressOf waits
   stating-waits k = refl
 

@@ -5,7 +5,7 @@ ghost use Prim.Native.Nat.{_<_, _≤_};
 ghost use lib.ListN.{length};
 ghost use Rattle.filesystem.specs.Tables.{NODES, OPEN-FILES, NAME-BYTES};
 ghost use Rattle.memory.specs.Layout.{memOf, memorySize, dataSize, newDigests};
-ghost use Rattle.rules.specs.Requests.{creating, opening, closing, removing, changing, listing, stating, reading};
+ghost use Rattle.rules.specs.Requests.{asked, creating, opening, closing, removing, changing, listing, stating, reading};
 ghost use Rattle.rules.specs.Skeleton.{Config};
 ghost use Rattle.tables.specs.View.{viewOf, stateIn, stateOf, gatheredNone, InLimits};
 ghost use Rattle.pending.specs.Waits.{waits, ends, stops, resting, waitingIn};
@@ -70,7 +70,7 @@ pub fn rest(m: &mut [u8], nodes: usize, opens: usize, stopped: bool)
 // A create or a mkdir: the parent's id, the kind, the mode, and the name, which is staged.
 pub fn wait_create(m: &mut [u8], parent: u64, kind: u8, mode: u8, name: &[u8])
     requires { ⌜ (length (now name) ≤ NAME-BYTES) × (memorySize ≤ length (now m)) ⌝ }
-    ensures { λ _. ⌜ ((c : Config) → stateOf c (now (m .exit)) ≡ waits c (stateOf c (now (m .entry))) (creating parent kind mode (now (name .entry))) gatheredNone) ⌝ }
+    ensures { λ _. ⌜ ((c : Config) → stateOf c (now (m .exit)) ≡ waits c (stateOf c (now (m .entry))) (asked (creating parent kind mode (now (name .entry)))) gatheredNone) ⌝ }
     ensures { λ _. ⌜ length (now (m .exit)) ≡ length (now (m .entry)) ⌝ }
 {
     let n = name.len();
@@ -80,7 +80,7 @@ pub fn wait_create(m: &mut [u8], parent: u64, kind: u8, mode: u8, name: &[u8])
 
 pub fn wait_open(m: &mut [u8], k: usize, rights: u8)
     requires { ⌜ (k < NODES) × (memorySize ≤ length (now m)) ⌝ }
-    ensures { λ _. ⌜ ((c : Config) → stateOf c (now (m .exit)) ≡ waits c (stateOf c (now (m .entry))) (opening k rights) gatheredNone) ⌝ }
+    ensures { λ _. ⌜ ((c : Config) → stateOf c (now (m .exit)) ≡ waits c (stateOf c (now (m .entry))) (asked (opening k rights)) gatheredNone) ⌝ }
     ensures { λ _. ⌜ length (now (m .exit)) ≡ length (now (m .entry)) ⌝ }
 {
     wait(m, 2, k, 0, 0, rights as u64, 0, 0, 0);
@@ -88,7 +88,7 @@ pub fn wait_open(m: &mut [u8], k: usize, rights: u8)
 
 pub fn wait_close(m: &mut [u8], o: usize)
     requires { ⌜ (o < OPEN-FILES) × (memorySize ≤ length (now m)) ⌝ }
-    ensures { λ _. ⌜ ((c : Config) → stateOf c (now (m .exit)) ≡ waits c (stateOf c (now (m .entry))) (closing o) gatheredNone) ⌝ }
+    ensures { λ _. ⌜ ((c : Config) → stateOf c (now (m .exit)) ≡ waits c (stateOf c (now (m .entry))) (asked (closing o)) gatheredNone) ⌝ }
     ensures { λ _. ⌜ length (now (m .exit)) ≡ length (now (m .entry)) ⌝ }
 {
     wait(m, 3, 0, o, 0, 0, 0, 0, 0);
@@ -96,7 +96,7 @@ pub fn wait_close(m: &mut [u8], o: usize)
 
 pub fn wait_remove(m: &mut [u8], k: usize)
     requires { ⌜ (k < NODES) × (memorySize ≤ length (now m)) ⌝ }
-    ensures { λ _. ⌜ ((c : Config) → stateOf c (now (m .exit)) ≡ waits c (stateOf c (now (m .entry))) (removing k) gatheredNone) ⌝ }
+    ensures { λ _. ⌜ ((c : Config) → stateOf c (now (m .exit)) ≡ waits c (stateOf c (now (m .entry))) (asked (removing k)) gatheredNone) ⌝ }
     ensures { λ _. ⌜ length (now (m .exit)) ≡ length (now (m .entry)) ⌝ }
 {
     wait(m, 4, k, 0, 0, 0, 0, 0, 0);
@@ -104,7 +104,7 @@ pub fn wait_remove(m: &mut [u8], k: usize)
 
 pub fn wait_chmod(m: &mut [u8], k: usize, mode: u8)
     requires { ⌜ (k < NODES) × (memorySize ≤ length (now m)) ⌝ }
-    ensures { λ _. ⌜ ((c : Config) → stateOf c (now (m .exit)) ≡ waits c (stateOf c (now (m .entry))) (changing k mode) gatheredNone) ⌝ }
+    ensures { λ _. ⌜ ((c : Config) → stateOf c (now (m .exit)) ≡ waits c (stateOf c (now (m .entry))) (asked (changing k mode)) gatheredNone) ⌝ }
     ensures { λ _. ⌜ length (now (m .exit)) ≡ length (now (m .entry)) ⌝ }
 {
     wait(m, 5, k, 0, 0, mode as u64, 0, 0, 0);
@@ -112,7 +112,7 @@ pub fn wait_chmod(m: &mut [u8], k: usize, mode: u8)
 
 pub fn wait_listing(m: &mut [u8], k: usize)
     requires { ⌜ (k < NODES) × (memorySize ≤ length (now m)) ⌝ }
-    ensures { λ _. ⌜ ((c : Config) → stateOf c (now (m .exit)) ≡ waits c (stateOf c (now (m .entry))) (listing k) gatheredNone) ⌝ }
+    ensures { λ _. ⌜ ((c : Config) → stateOf c (now (m .exit)) ≡ waits c (stateOf c (now (m .entry))) (asked (listing k)) gatheredNone) ⌝ }
     ensures { λ _. ⌜ length (now (m .exit)) ≡ length (now (m .entry)) ⌝ }
 {
     wait(m, 6, k, 0, 0, 0, 0, 0, 0);
@@ -120,7 +120,7 @@ pub fn wait_listing(m: &mut [u8], k: usize)
 
 pub fn wait_stat(m: &mut [u8], k: usize)
     requires { ⌜ (k < NODES) × (memorySize ≤ length (now m)) ⌝ }
-    ensures { λ _. ⌜ ((c : Config) → stateOf c (now (m .exit)) ≡ waits c (stateOf c (now (m .entry))) (stating k) gatheredNone) ⌝ }
+    ensures { λ _. ⌜ ((c : Config) → stateOf c (now (m .exit)) ≡ waits c (stateOf c (now (m .entry))) (asked (stating k)) gatheredNone) ⌝ }
     ensures { λ _. ⌜ length (now (m .exit)) ≡ length (now (m .entry)) ⌝ }
 {
     wait(m, 7, k, 0, 0, 0, 0, 0, 0);

@@ -29,7 +29,7 @@ use Rattle.filesystem.specs.SoundLaws.{root-parent-length, file-children}
 use Rattle.rules.specs.Calls.{Call, create, mkdir, openAs, close, seek, read, write, truncate, remove, rmdir, chmod, readdir, stat, callBytes, readCall}
 use Rattle.rules.specs.CallLaws.{PathFits, CallFits, call-was-written}
 use Rattle.rules.specs.Pages.{pageAt, writing, shrinking, sizeAfter}
-use Rattle.rules.specs.Requests.{closeRequest, fetchRequest, Pending, idle, creating, opening, closing, removing, changing, listing, stating, reading, fetching, storing, cutting}
+use Rattle.rules.specs.Requests.{asked, closeRequest, fetchRequest, Pending, idle, creating, opening, closing, removing, changing, listing, stating, reading, fetching, storing, cutting}
 use Rattle.rules.specs.Skeleton.{Config, Event, call, reply, save, load, EventBytes, Skeleton}
 use Rattle.rules.specs.Rules.{Move, refuse, halt, loading, target, holder, isOpen, openPlace, filePlace, opened, file, noRoom, newChecks, callChecks, readAction, callAction, signedOf, isDescriptor, replyChecks, replyAction, isIdle, callOr, imageOr, isNone, eventChecks, eventAction, judge}
 use Rattle.rules.specs.Valid.{ValidOpen, ValidTables, Valid, CreatingFits, OpeningFits, RemovingFits, Opened, ChangeFits, PendingFits, kindOf, sizes, Plain, Fits, fRefuse, fHalt, fSend, fFinish, fAdd, fDelete, fReadPage, fBegin, fFillPage, fStored, fCutDone, fSaving, fLoading}
@@ -235,7 +235,7 @@ module _ (c : Config) (sk : Skeleton) (v : ValidTables (c .width) (sk .tables)) 
       pick-ind (Fit e) (eqb n (file t h .size)) (λ _. fFinish pl v refl) (λ x. fBegin pl (shrink-fits h n (there os _ (or-fst _ _ o)) (eqb-false _ _ x) s))
   call-fits e pl (remove p) f a = let (x, y) = reach-walk p _ a in fSend (remove-fits p x y) tt (eqb-false 9 7 refl)
   call-fits e pl (rmdir p) f a = let (x, y) = reach-walk p _ a in fSend (rmdir-fits p x y) tt (eqb-false 10 7 refl)
-  call-fits e pl (chmod m p) (h, f) (both _ a) = fSend {p = changing (walk ns 0 p) m} (record { known = reached p a; modes = h }) tt (eqb-false 11 7 refl)
+  call-fits e pl (chmod m p) (h, f) (both _ a) = fSend {p = asked (changing (walk ns 0 p) m)} (record { known = reached p a; modes = h }) tt (eqb-false 11 7 refl)
   call-fits e pl (readdir p) f a = let (x, y) = reach-walk p _ a in fSend (reached p x) tt (eqb-false 12 7 refl)
   call-fits e pl (stat p) f (both _ a) = fSend (reached p a) tt (eqb-false 13 7 refl)
 
@@ -244,19 +244,19 @@ module _ (c : Config) (sk : Skeleton) (v : ValidTables (c .width) (sk .tables)) 
       → Fit (reply r a b) (replyAction w t r p)
   unfolding replyChecks replyAction isIdle
   reply-fits r a b bs idle e i f c = absurd (true≢false i)
-  reply-fits r a b bs (creating p k m name) e i f (both l (both x _)) =
+  reply-fits r a b bs (asked (creating p k m name)) e i f (both l (both x _)) =
       let z : decode r ≡ 0 → ⊥ = eqb-false _ _ (or-fst _ _ x) in
       fAdd tt refl (add-valid w t p k m name (decode r) v f (omega arith) (id-fits l) (gone ns _ (or-snd (eqb (decode r) 0) _ x)))
     where
       id-fits : not (eqb (length r) w) ≡ false → decode r < 256 ^ w
       id-fits l = subst (λ n. decode r < 256 ^ n) (eqb-true _ _ (not-false _ l)) (decode-below r bs)
-  reply-fits r a b bs (opening k rights) e i f (both l (both x _)) =
+  reply-fits r a b bs (asked (opening k rights)) e i f (both l (both x _)) =
       fFinish tt (open-valid w t k rights (decode r) v f (descriptor-low r (not-false _ (or-fst _ _ x))) (gone os _ (or-snd (not (isDescriptor (signedOf r))) _ x))) refl
-  reply-fits r a b bs (closing o) e i f c = fFinish tt (close-valid w t o v f) refl
-  reply-fits r a b bs (removing k) e i f c = fDelete tt (delete-valid w t k v f)
-  reply-fits r a b bs (changing k m) e i f c = fFinish tt (mode-valid w t k m v f) (same-sizes ns k m)
-  reply-fits r a b bs (listing k) e i f c = fFinish tt v refl
-  reply-fits r a b bs (stating k) e i f c = fFinish tt v refl
+  reply-fits r a b bs (asked (closing o)) e i f c = fFinish tt (close-valid w t o v f) refl
+  reply-fits r a b bs (asked (removing k)) e i f c = fDelete tt (delete-valid w t k v f)
+  reply-fits r a b bs (asked (changing k m)) e i f c = fFinish tt (mode-valid w t k m v f) (same-sizes ns k m)
+  reply-fits r a b bs (asked (listing k)) e i f c = fFinish tt v refl
+  reply-fits r a b bs (asked (stating k)) e i f c = fFinish tt v refl
   reply-fits r a b bs (reading k o p n j) e i f (both l _) = fReadPage refl e (eqb-true _ _ (not-false _ l)) f
   reply-fits r a b bs (fetching k o q j) e i f (both l _) = fFillPage refl e (eqb-true _ _ (not-false _ l)) f
   reply-fits r a b bs (storing k o q j) e i f c = fStored tt e f
@@ -269,13 +269,7 @@ none-open os e = none-left os (ltb-false _ _ e)
 is-idle : (p : Pending) → isIdle p ≡ true → p ≡ idle
 unfolding isIdle
 is-idle idle e = refl
-is-idle (creating p k m name) e = absurd (false≢true e)
-is-idle (opening k r) e = absurd (false≢true e)
-is-idle (closing o) e = absurd (false≢true e)
-is-idle (removing k) e = absurd (false≢true e)
-is-idle (changing k m) e = absurd (false≢true e)
-is-idle (listing k) e = absurd (false≢true e)
-is-idle (stating k) e = absurd (false≢true e)
+is-idle (asked x) e = absurd (false≢true e)
 is-idle (reading k o p n i) e = absurd (false≢true e)
 is-idle (fetching k o q i) e = absurd (false≢true e)
 is-idle (storing k o q i) e = absurd (false≢true e)

@@ -27,7 +27,7 @@ use Rattle.filesystem.specs.Sound.{Sound, to-sound, limits-at, root-parent, nam
 use Rattle.rules.specs.Calls.{MOST-BYTES, Call, create, mkdir, openAs, close, seek, read, write, truncate, remove, rmdir, chmod, readdir, stat, callBytes, readCall}
 use Rattle.rules.specs.CallLaws.{CallFits, call-was-written}
 use Rattle.rules.specs.Pages.{pageAt, part, pagePart, overlay, Change, writing, shrinking, fill}
-use Rattle.rules.specs.Requests.{closeRequest, fetchRequest, storeRequest, Pending, idle, creating, opening, closing, removing, changing, listing, stating, reading, fetching, storing, cutting}
+use Rattle.rules.specs.Requests.{asked, closeRequest, fetchRequest, storeRequest, Pending, idle, creating, opening, closing, removing, changing, listing, stating, reading, fetching, storing, cutting}
 use Rattle.rules.specs.Skeleton.{Config, Event, call, reply, save, load, EventBytes, answerLength, requestLength, Skeleton}
 use Rattle.rules.specs.Rules.{Move, refuse, halt, send, finish, add, delete, readPage, begin, fillPage, stored, cutDone, saving, loading, openPlace, filePlace, opened, file, Entry, entryForm, entryOf, callChecks, readAction, callAction, replyChecks, replyAction, callOr, isNone, eventChecks, eventAction, judge}
 use Rattle.rules.specs.RightReplies.{RightListing}
@@ -91,13 +91,7 @@ longest-listing =
 -- Of a read that is pending: it was asked at most 4,096 bytes, and has gathered those of the pages before i.
 abbrev pub Gathers : Pending → List ℕ → Type 0
 Gathers idle b = Unit {0}
-Gathers (creating p k m name) b = Unit {0}
-Gathers (opening k rights) b = Unit {0}
-Gathers (closing o) b = Unit {0}
-Gathers (removing k) b = Unit {0}
-Gathers (changing k m) b = Unit {0}
-Gathers (listing k) b = Unit {0}
-Gathers (stating k) b = Unit {0}
+Gathers (asked x) b = Unit {0}
 Gathers (reading k o p n i) b = (n ≤ MOST-BYTES) × (length b ≡ max p (i * 1024) - p)
 Gathers (fetching k o q i) b = Unit {0}
 Gathers (storing k o q i) b = Unit {0}
@@ -160,13 +154,13 @@ module _ (c : Config) (t : Tables) where
       → Modest c (replyAction (c .width) t r p)
   unfolding replyChecks replyAction answerLength
   reply-modest r b v idle f a = tt
-  reply-modest r b v (creating p k m name) f a = tt
-  reply-modest r b v (opening k rights) f a = omega arith
-  reply-modest r b v (closing o) f a = omega arith
-  reply-modest r b v (removing k) f a = tt
-  reply-modest r b v (changing k m) f a = omega arith
-  reply-modest r b v (listing k) f a = listing-length (c .width) t r k v f (listing-right (c .width) t r k b a)
-  reply-modest r b v (stating k) f (both l _) = let z : length r ≡ c .width + 6 = eqb-true _ _ (not-false _ l) in omega arith
+  reply-modest r b v (asked (creating p k m name)) f a = tt
+  reply-modest r b v (asked (opening k rights)) f a = omega arith
+  reply-modest r b v (asked (closing o)) f a = omega arith
+  reply-modest r b v (asked (removing k)) f a = tt
+  reply-modest r b v (asked (changing k m)) f a = omega arith
+  reply-modest r b v (asked (listing k)) f a = listing-length (c .width) t r k v f (listing-right (c .width) t r k b a)
+  reply-modest r b v (asked (stating k)) f (both l _) = let z : length r ≡ c .width + 6 = eqb-true _ _ (not-false _ l) in omega arith
   reply-modest r b v (reading k o p n i) f a = tt
   reply-modest r b v (fetching k o q i) f a = tt
   reply-modest r b v (storing k o q i) f a = tt

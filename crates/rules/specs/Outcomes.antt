@@ -18,7 +18,7 @@ use Rattle.filesystem.specs.Tables.{NODES, OPEN-FILES, NAME-BYTES, PATH-BYTES, 
 use Rattle.filesystem.specs.Paths.{Path, joined, pathBytes, tooLong, childAt, walk, walkChecks, parentChecks, parentOf}
 use Rattle.rules.specs.Calls.{Call, create, mkdir, openAs, close, seek, read, write, truncate, remove, rmdir, chmod, readdir, stat, callBytes, readCall}
 use Rattle.rules.specs.CallLaws.{CallFits, call-read-back}
-use Rattle.rules.specs.Requests.{Pending, idle, creating, opening, closing, removing, changing, listing, stating, reading, fetching, storing, cutting}
+use Rattle.rules.specs.Requests.{asked, Pending, idle, creating, opening, closing, removing, changing, listing, stating, reading, fetching, storing, cutting}
 use Rattle.rules.specs.Skeleton.{Config, Event, call, reply, save, load, stopped, answerLength, requestLength, Skeleton}
 use Rattle.rules.specs.Rules.{Move, refuse, halt, send, finish, add, delete, readPage, begin, fillPage, stored, cutDone, saving, loading, callChecks, readAction, callAction, replyChecks, replyAction, isIdle, callOr, isNone, eventChecks, eventAction, judge}
 
@@ -126,13 +126,13 @@ module _ (w : ℕ) (t : Tables) (r : List ℕ) where
   reply-reasons : (p : Pending) → All Reason (replyChecks w t r p)
   unfolding replyChecks isReason
   reply-reasons idle = all-none
-  reply-reasons (creating p k m name) = both refl (both refl all-none)
-  reply-reasons (opening k rights) = both refl (both refl all-none)
-  reply-reasons (closing o) = both refl (both refl all-none)
-  reply-reasons (removing k) = both refl (both refl all-none)
-  reply-reasons (changing k m) = both refl (both refl all-none)
-  reply-reasons (listing k) = both refl all-none
-  reply-reasons (stating k) = both refl (both refl all-none)
+  reply-reasons (asked (creating p k m name)) = both refl (both refl all-none)
+  reply-reasons (asked (opening k rights)) = both refl (both refl all-none)
+  reply-reasons (asked (closing o)) = both refl (both refl all-none)
+  reply-reasons (asked (removing k)) = both refl (both refl all-none)
+  reply-reasons (asked (changing k m)) = both refl (both refl all-none)
+  reply-reasons (asked (listing k)) = both refl all-none
+  reply-reasons (asked (stating k)) = both refl (both refl all-none)
   reply-reasons (reading k o p n i) = both refl all-none
   reply-reasons (fetching k o q i) = both refl all-none
   reply-reasons (storing k o q i) = both refl (both refl all-none)
@@ -141,13 +141,13 @@ module _ (w : ℕ) (t : Tables) (r : List ℕ) where
   reply-acts : (p : Pending) → isIdle p ≡ false → Acts (replyAction w t r p)
   unfolding replyAction isIdle
   reply-acts idle e = absurd (true≢false e)
-  reply-acts (creating p k m name) e = tt
-  reply-acts (opening k rights) e = tt
-  reply-acts (closing o) e = tt
-  reply-acts (removing k) e = tt
-  reply-acts (changing k m) e = tt
-  reply-acts (listing k) e = tt
-  reply-acts (stating k) e = tt
+  reply-acts (asked (creating p k m name)) e = tt
+  reply-acts (asked (opening k rights)) e = tt
+  reply-acts (asked (closing o)) e = tt
+  reply-acts (asked (removing k)) e = tt
+  reply-acts (asked (changing k m)) e = tt
+  reply-acts (asked (listing k)) e = tt
+  reply-acts (asked (stating k)) e = tt
   reply-acts (reading k o p n i) e = tt
   reply-acts (fetching k o q i) e = tt
   reply-acts (storing k o q i) e = tt

@@ -24,7 +24,7 @@ use Rattle.lists.specs.Checks.{Passed}
 use Rattle.filesystem.specs.Tables.{Node, Tables, noNode, noOpenFile, hasId, hasDescriptor, hasParent, nodeAt, present, findId, findDescriptor, children}
 use Rattle.filesystem.specs.Image.{sameId}
 use Rattle.filesystem.specs.Sound.{Sound, to-sound, limits-at, name-short, by-kind}
-use Rattle.rules.specs.Requests.{creating, opening, listing, stating}
+use Rattle.rules.specs.Requests.{asked, creating, opening, listing, stating}
 use Rattle.rules.specs.Rules.{signedOf, isNumber, isDescriptor, Entry, entryForm, entryOf, sameEntry, isListing, statBytes, statusChecks, replyChecks}
 use Rattle.rules.specs.Valid.{ValidNodes}
 use Rattle.rules.specs.RightReplies.{RightId, RightDescriptor, RightListing}
@@ -70,7 +70,7 @@ module _ (w : ℕ) (t : Tables) (r : List ℕ) where
       both (ap not (eq-eqb _ _ (ap length e ∙ length-encode 4 n))) (both (ap not (ap (isNumber n) (is-signed r n d h) ∙ eq-eqb n n refl)) all-none)
 
   -- An id.
-  pub id-right : (p k m : ℕ) (name : List ℕ) → Passed (replyChecks w t r (creating p k m name)) → RightId w t r
+  pub id-right : (p k m : ℕ) (name : List ℕ) → Passed (replyChecks w t r (asked (creating p k m name))) → RightId w t r
   unfolding replyChecks findId
   id-right p k m name (both l (both x _)) = record {
     long = eqb-true _ _ (not-false _ l);
@@ -79,7 +79,7 @@ module _ (w : ℕ) (t : Tables) (r : List ℕ) where
         (none-place (hasId (decode r)) noNode (t .nodes) i (gone (t .nodes) _ (or-snd (eqb (decode r) 0) _ x)) h));
   }
 
-  pub right-id : (p k m : ℕ) (name : List ℕ) → RightId w t r → Passed (replyChecks w t r (creating p k m name))
+  pub right-id : (p k m : ℕ) (name : List ℕ) → RightId w t r → Passed (replyChecks w t r (asked (creating p k m name)))
   unfolding replyChecks findId
   right-id p k m name i =
       both (ap not (eq-eqb _ _ (i .long)))
@@ -88,7 +88,7 @@ module _ (w : ℕ) (t : Tables) (r : List ℕ) where
       all-none)
 
   -- A descriptor.
-  pub descriptor-right : (k rights : ℕ) → Passed (replyChecks w t r (opening k rights)) → RightDescriptor t r
+  pub descriptor-right : (k rights : ℕ) → Passed (replyChecks w t r (asked (opening k rights))) → RightDescriptor t r
   unfolding replyChecks findDescriptor
   descriptor-right k rights (both l (both x _)) =
       let (s, m) = is-descriptor r (not-false _ (or-fst _ _ x)) in
@@ -101,7 +101,7 @@ module _ (w : ℕ) (t : Tables) (r : List ℕ) where
             (none-place (hasDescriptor (decode r)) noOpenFile (t .opens) i (gone (t .opens) _ (or-snd (not (isDescriptor (signedOf r))) _ x)) h));
       }
 
-  pub right-descriptor : (k rights : ℕ) → RightDescriptor t r → Passed (replyChecks w t r (opening k rights))
+  pub right-descriptor : (k rights : ℕ) → RightDescriptor t r → Passed (replyChecks w t r (asked (opening k rights)))
   unfolding replyChecks findDescriptor
   right-descriptor k rights d =
       let e : decode r ≡ d .descriptor = signed-is r (d .descriptor) (d .is) in
@@ -118,11 +118,11 @@ module _ (w : ℕ) (t : Tables) (r : List ℕ) where
   unfolding statBytes encode
   length-stat n = length-append (encode w (n .id)) _ ∙ rw (length-encode w (n .id))
 
-  pub stat-right : (k : ℕ) → Passed (replyChecks w t r (stating k)) → r ≡ statBytes w (nodeAt (t .nodes) k)
+  pub stat-right : (k : ℕ) → Passed (replyChecks w t r (asked (stating k))) → r ≡ statBytes w (nodeAt (t .nodes) k)
   unfolding replyChecks
   stat-right k (both l (both s _)) = equal-true _ _ (not-false _ s)
 
-  pub right-stat : (k : ℕ) → r ≡ statBytes w (nodeAt (t .nodes) k) → Passed (replyChecks w t r (stating k))
+  pub right-stat : (k : ℕ) → r ≡ statBytes w (nodeAt (t .nodes) k) → Passed (replyChecks w t r (asked (stating k)))
   unfolding replyChecks
   right-stat k e = both (ap not (eq-eqb _ _ (ap length e ∙ length-stat (nodeAt (t .nodes) k)))) (both (ap not (equal-yes _ _ e)) all-none)
 
@@ -157,7 +157,7 @@ module _ (w : ℕ) (t : Tables) (r : List ℕ) (k : ℕ) where
   abbrev kids : List Node
   kids = children (t .nodes) (nodeAt (t .nodes) k .id)
 
-  pub listing-right : Bytes r → Passed (replyChecks w t r (listing k)) → RightListing w t r k
+  pub listing-right : Bytes r → Passed (replyChecks w t r (asked (listing k))) → RightListing w t r k
   unfolding replyChecks isListing
   listing-right b (both e _) = go (whole (times (entryForm w) (length kids)) r) refl (not-false _ e)
     where
@@ -187,7 +187,7 @@ module _ (w : ℕ) (t : Tables) (r : List ℕ) (k : ℕ) where
       (unique-select sameId (hasParent (nodeAt (t .nodes) k .id)) (t .nodes)
       (same-unique sameId noNode (t .nodes) (λ i j h l e. unfold nodeAt in s .ids i j h l (eqb-true (getD (t .nodes) i noNode .id) (getD (t .nodes) j noNode .id) e))))
 
-  pub right-listing : ValidNodes w (t .nodes) → RightListing w t r k → Passed (replyChecks w t r (listing k))
+  pub right-listing : ValidNodes w (t .nodes) → RightListing w t r k → Passed (replyChecks w t r (asked (listing k)))
   unfolding replyChecks
   right-listing v l = both (ap not accepted) all-none
     where

@@ -18,16 +18,20 @@ storeRequest d i size bytes = 7 ∷ (encode 4 d ++ (encode 4 i ++ (encode 4 size
 unfoldable pub cutRequest : (descriptor size : ℕ) → List ℕ
 cutRequest d size = 8 ∷ (encode 4 d ++ encode 4 size)
 
--- 'the standing call and how far it has come': k is a node's place, o an open file's, i the page that was asked last
+-- a call that asks the host once and touches no page; k is a node's place, o an open file's
+pub data Question : Type 0 where
+  creating : (parent kind mode : ℕ) (name : List ℕ) → Question
+  opening : (k rights : ℕ) → Question
+  closing : (o : ℕ) → Question
+  removing : (k : ℕ) → Question
+  changing : (k mode : ℕ) → Question
+  listing : (k : ℕ) → Question
+  stating : (k : ℕ) → Question
+
+-- 'the standing call and how far it has come': i is the page that was asked last
 pub data Pending : Type 0 where
   idle : Pending
-  creating : (parent kind mode : ℕ) (name : List ℕ) → Pending
-  opening : (k rights : ℕ) → Pending
-  closing : (o : ℕ) → Pending
-  removing : (k : ℕ) → Pending
-  changing : (k mode : ℕ) → Pending
-  listing : (k : ℕ) → Pending
-  stating : (k : ℕ) → Pending
+  asked : Question → Pending
   reading : (k o position n i : ℕ) → Pending
   fetching storing : (k o : ℕ) (change : Change) (i : ℕ) → Pending
   cutting : (k o : ℕ) (change : Change) → Pending

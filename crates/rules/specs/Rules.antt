@@ -22,7 +22,7 @@ use Rattle.filesystem.specs.Paths.{Path, tooLong, walk, walkChecks, parentCheck
 use Rattle.filesystem.specs.Image.{Image, imageLength, parse}
 use Rattle.rules.specs.Calls.{Call, create, mkdir, openAs, close, seek, read, write, truncate, remove, rmdir, chmod, readdir, stat, callBytes, readCall}
 use Rattle.rules.specs.Pages.{pageAt, Change, writing, shrinking}
-use Rattle.rules.specs.Requests.{closeRequest, fetchRequest, Pending, idle, creating, opening, closing, removing, changing, listing, stating, reading, fetching, storing, cutting}
+use Rattle.rules.specs.Requests.{asked, closeRequest, fetchRequest, Pending, idle, creating, opening, closing, removing, changing, listing, stating, reading, fetching, storing, cutting}
 use Rattle.rules.specs.Skeleton.{Config, Event, call, reply, save, load, answerLength, requestLength, Skeleton}
 
 -- What an event leads to.
@@ -135,19 +135,19 @@ module _ (t : Tables) where
         (fetchRequest (opened h .descriptor) (pageAt (opened h .cursor))))
 
     unfoldable pub callAction : Call → Move
-    callAction (create m p) = send (creating (holder p .id) 1 m (lastOf p)) (callBytes w (create m p))
-    callAction (mkdir m p) = send (creating (holder p .id) 2 m (lastOf p)) (callBytes w (mkdir m p))
-    callAction (openAs r p) = send (opening (walk (t .nodes) 0 p) r) (callBytes w (openAs r p))
-    callAction (close h) = send (closing (openPlace h)) (closeRequest (opened h .descriptor))
+    callAction (create m p) = send (asked (creating (holder p .id) 1 m (lastOf p))) (callBytes w (create m p))
+    callAction (mkdir m p) = send (asked (creating (holder p .id) 2 m (lastOf p))) (callBytes w (mkdir m p))
+    callAction (openAs r p) = send (asked (opening (walk (t .nodes) 0 p) r)) (callBytes w (openAs r p))
+    callAction (close h) = send (asked (closing (openPlace h))) (closeRequest (opened h .descriptor))
     callAction (seek h n) = finish (record { nodes = t .nodes; opens = setCursor (t .opens) (openPlace h) n }) n []
     callAction (read h n) = readAction h (min n (file h .size - opened h .cursor))
     callAction (write h d) = pick (eqb (length d) 0) (finish t 0 []) (begin (filePlace h) (openPlace h) (writing (opened h .cursor) d))
     callAction (truncate h n) = pick (eqb n (file h .size)) (finish t 0 []) (begin (filePlace h) (openPlace h) (shrinking n))
-    callAction (remove p) = send (removing (walk (t .nodes) 0 p)) (callBytes w (remove p))
-    callAction (rmdir p) = send (removing (walk (t .nodes) 0 p)) (callBytes w (rmdir p))
-    callAction (chmod m p) = send (changing (walk (t .nodes) 0 p) m) (callBytes w (chmod m p))
-    callAction (readdir p) = send (listing (walk (t .nodes) 0 p)) (callBytes w (readdir p))
-    callAction (stat p) = send (stating (walk (t .nodes) 0 p)) (callBytes w (stat p))
+    callAction (remove p) = send (asked (removing (walk (t .nodes) 0 p))) (callBytes w (remove p))
+    callAction (rmdir p) = send (asked (removing (walk (t .nodes) 0 p))) (callBytes w (rmdir p))
+    callAction (chmod m p) = send (asked (changing (walk (t .nodes) 0 p) m)) (callBytes w (chmod m p))
+    callAction (readdir p) = send (asked (listing (walk (t .nodes) 0 p))) (callBytes w (readdir p))
+    callAction (stat p) = send (asked (stating (walk (t .nodes) 0 p))) (callBytes w (stat p))
 
 -- Replies.
 
@@ -195,14 +195,14 @@ module _ (w : ℕ) (t : Tables) (r : List ℕ) where
   -- the stop reasons of a reply, in their order; a page's digest (5) is looked at by the machine
   unfoldable pub replyChecks : Pending → List Check
   replyChecks idle = []
-  replyChecks (creating p k m name) = lengthCheck w ∷ (3, eqb (decode r) 0 || present (t .nodes) (findId (t .nodes) (decode r))) ∷ []
-  replyChecks (opening k rights) =
+  replyChecks (asked (creating p k m name)) = lengthCheck w ∷ (3, eqb (decode r) 0 || present (t .nodes) (findId (t .nodes) (decode r))) ∷ []
+  replyChecks (asked (opening k rights)) =
       lengthCheck 4 ∷ (4, not (isDescriptor (signedOf r)) || present (t .opens) (findDescriptor (t .opens) (decode r))) ∷ []
-  replyChecks (closing o) = statusChecks 0
-  replyChecks (removing k) = statusChecks 0
-  replyChecks (changing k m) = statusChecks 0
-  replyChecks (listing k) = (7, not (isListing w (children (t .nodes) (nodeAt (t .nodes) k .id)) r)) ∷ []
-  replyChecks (stating k) = lengthCheck (w + 6) ∷ (6, not (equal r (statBytes w (nodeAt (t .nodes) k)))) ∷ []
+  replyChecks (asked (closing o)) = statusChecks 0
+  replyChecks (asked (removing k)) = statusChecks 0
+  replyChecks (asked (changing k m)) = statusChecks 0
+  replyChecks (asked (listing k)) = (7, not (isListing w (children (t .nodes) (nodeAt (t .nodes) k .id)) r)) ∷ []
+  replyChecks (asked (stating k)) = lengthCheck (w + 6) ∷ (6, not (equal r (statBytes w (nodeAt (t .nodes) k)))) ∷ []
   replyChecks (reading k o p n i) = lengthCheck PAGE-BYTES ∷ []
   replyChecks (fetching k o q i) = lengthCheck PAGE-BYTES ∷ []
   replyChecks (storing k o q i) = statusChecks 1024
@@ -211,14 +211,14 @@ module _ (w : ℕ) (t : Tables) (r : List ℕ) where
   -- and what is done with one that none of them stops
   unfoldable pub replyAction : Pending → Move
   replyAction idle = refuse 61
-  replyAction (creating p k m name) = add (newNode (decode r) p k m name)
-  replyAction (opening k rights) =
+  replyAction (asked (creating p k m name)) = add (newNode (decode r) p k m name)
+  replyAction (asked (opening k rights)) =
       finish (record { nodes = t .nodes; opens = t .opens ++ (newOpenFile (nodeAt (t .nodes) k .id) (decode r) rights ∷ []) }) (nodeAt (t .nodes) k .id) []
-  replyAction (closing o) = finish (record { nodes = t .nodes; opens = without o (t .opens) }) 0 []
-  replyAction (removing k) = delete k
-  replyAction (changing k m) = finish (record { nodes = setMode (t .nodes) k m; opens = t .opens }) 0 []
-  replyAction (listing k) = finish t (length (children (t .nodes) (nodeAt (t .nodes) k .id))) r
-  replyAction (stating k) = finish t (nodeAt (t .nodes) k .size) r
+  replyAction (asked (closing o)) = finish (record { nodes = t .nodes; opens = without o (t .opens) }) 0 []
+  replyAction (asked (removing k)) = delete k
+  replyAction (asked (changing k m)) = finish (record { nodes = setMode (t .nodes) k m; opens = t .opens }) 0 []
+  replyAction (asked (listing k)) = finish t (length (children (t .nodes) (nodeAt (t .nodes) k .id))) r
+  replyAction (asked (stating k)) = finish t (nodeAt (t .nodes) k .size) r
   replyAction (reading k o p n i) = readPage k o p n i r
   replyAction (fetching k o q i) = fillPage k o q i r
   replyAction (storing k o q i) = stored k o q i
@@ -227,13 +227,7 @@ module _ (w : ℕ) (t : Tables) (r : List ℕ) where
 -- Every event: the one list of its numbers, and what it leads to.
 unfoldable pub isIdle : Pending → Bool
 isIdle idle = true
-isIdle (creating p k m name) = false
-isIdle (opening k rights) = false
-isIdle (closing o) = false
-isIdle (removing k) = false
-isIdle (changing k m) = false
-isIdle (listing k) = false
-isIdle (stating k) = false
+isIdle (asked x) = false
 isIdle (reading k o p n i) = false
 isIdle (fetching k o q i) = false
 isIdle (storing k o q i) = false

@@ -16,7 +16,7 @@ use Rattle.filesystem.specs.Tables.{NODES, OPEN-FILES, PAGES, PAGE-BYTES, FILE-
 use Rattle.filesystem.specs.Paths.{componentForm}
 use Rattle.filesystem.specs.Image.{Image, soundNodes, pathLength, parse}
 use Rattle.rules.specs.Pages.{pageAt, Change, first, last, sizeAfter, FitsSize}
-use Rattle.rules.specs.Requests.{Pending, idle, creating, opening, closing, removing, changing, listing, stating, reading, fetching, storing, cutting}
+use Rattle.rules.specs.Requests.{asked, Pending, idle, creating, opening, closing, removing, changing, listing, stating, reading, fetching, storing, cutting}
 use Rattle.rules.specs.Skeleton.{Config, Event, call, reply, save, load, Skeleton}
 use Rattle.rules.specs.Rules.{Move, refuse, halt, send, finish, add, delete, readPage, begin, fillPage, stored, cutDone, saving, loading, replyChecks}
 
@@ -110,13 +110,13 @@ module _ (ns : List Node) (os : List OpenFile) where
 
   abbrev pub PendingFits : Pending → Type 0
   PendingFits idle = Unit {0}
-  PendingFits (creating p k m name) = CreatingFits p k m name
-  PendingFits (opening k rights) = OpeningFits k rights
-  PendingFits (closing o) = o < length os
-  PendingFits (removing k) = RemovingFits k
-  PendingFits (changing k m) = ChangingFits k m
-  PendingFits (listing k) = k < length ns
-  PendingFits (stating k) = k < length ns
+  PendingFits (asked (creating p k m name)) = CreatingFits p k m name
+  PendingFits (asked (opening k rights)) = OpeningFits k rights
+  PendingFits (asked (closing o)) = o < length os
+  PendingFits (asked (removing k)) = RemovingFits k
+  PendingFits (asked (changing k m)) = ChangingFits k m
+  PendingFits (asked (listing k)) = k < length ns
+  PendingFits (asked (stating k)) = k < length ns
   PendingFits (reading k o p n i) = ReadingFits k o p n i
   PendingFits (fetching k o q i) = FetchFits k o q i
   PendingFits (storing k o q i) = PageFits k o q i
@@ -129,13 +129,7 @@ pub record Valid (w : ℕ) (sk : Skeleton) : Type 0 where
 -- a request that starts a call: nothing is gathered before it
 abbrev pub Starts : Pending → Type 0
 Starts idle = ⊥
-Starts (creating p k m name) = Unit {0}
-Starts (opening k rights) = Unit {0}
-Starts (closing o) = Unit {0}
-Starts (removing k) = Unit {0}
-Starts (changing k m) = Unit {0}
-Starts (listing k) = Unit {0}
-Starts (stating k) = Unit {0}
+Starts (asked x) = Unit {0}
 Starts (reading k o p n i) = i ≡ pageAt p
 Starts (fetching k o q i) = ⊥
 Starts (storing k o q i) = ⊥

@@ -13,7 +13,7 @@ use Rattle.filesystem.specs.Tables.{NODES, OPEN-FILES, PAGES, Node, OpenFile, T
 use Rattle.filesystem.specs.Image.{divide}
 use Rattle.memory.specs.Layout.{Mem, memOf, digestWidth, dataSize, newDigests}
 use Rattle.rules.specs.Pages.{writing, shrinking}
-use Rattle.rules.specs.Requests.{Pending, idle, creating, opening, closing, removing, changing, listing, stating, reading, fetching, storing, cutting}
+use Rattle.rules.specs.Requests.{asked, Pending, idle, creating, opening, closing, removing, changing, listing, stating, reading, fetching, storing, cutting}
 use Rattle.rules.specs.Skeleton.{Config}
 use Rattle.machine.specs.Machine.{State, Gathered, replaced, guard as digestStore}
 use Rattle.tables.specs.declared.Guard.{Guard}
@@ -68,13 +68,13 @@ unfoldable pub pendingOf : Guard → List ℕ → Pending
 pendingOf g s =
     getD
     (idle
-    ∷ creating (g .first) (g .second) (g .page) (stagedBytes g s)
-    ∷ opening (g .node) (g .second)
-    ∷ closing (g .opened)
-    ∷ removing (g .node)
-    ∷ changing (g .node) (g .second)
-    ∷ listing (g .node)
-    ∷ stating (g .node)
+    ∷ asked (creating (g .first) (g .second) (g .page) (stagedBytes g s))
+    ∷ asked (opening (g .node) (g .second))
+    ∷ asked (closing (g .opened))
+    ∷ asked (removing (g .node))
+    ∷ asked (changing (g .node) (g .second))
+    ∷ asked (listing (g .node))
+    ∷ asked (stating (g .node))
     ∷ reading (g .node) (g .opened) (g .first) (g .second) (g .page)
     ∷ fetching (g .node) (g .opened) (writing (g .first) (stagedBytes g s)) (g .page)
     ∷ storing (g .node) (g .opened) (writing (g .first) (stagedBytes g s)) (g .page)
