@@ -11,7 +11,7 @@ use Rattle.lists.specs.Pick.{pick}
 use Rattle.lists.specs.Equal.{equal}
 use Rattle.lists.specs.Search.{every, unique}
 use Rattle.lists.specs.Form.{Form, num, bytes, then, as-form, counted, text, bind, whole}
-use Rattle.filesystem.specs.Tables.{NODES, PAGES, FILE-BYTES, NAME-BYTES, PATH-BYTES, Node, isFile, isDirectory, nodeAt, findId, pagesFor, pageTotal}
+use Rattle.filesystem.specs.Tables.{NODES, PAGES, DIGEST-BYTES, FILE-BYTES, NAME-BYTES, PATH-BYTES, Node, isFile, isDirectory, nodeAt, findId, pagesFor, pageTotal}
 use Rattle.filesystem.specs.Paths.{componentForm}
 
 -- 'id, parent, kind (1), mode (1), size (4), name length (1), name'
@@ -28,7 +28,7 @@ abbrev pub Image : Type 0
 Image = List Node × List (List ℕ)
 
 unfoldable pub imageForm : ℕ → Form Image
-imageForm w = then (counted 4 (nodeForm w)) (λ _. counted 4 (bytes 32))
+imageForm w = then (counted 4 (nodeForm w)) (λ _. counted 4 (bytes DIGEST-BYTES))
 
 -- digests 'by node, then by page'
 unfoldable pub flatten : List (List (List ℕ)) → List (List ℕ)
@@ -98,7 +98,7 @@ recordsLength w [] = 0
 recordsLength w (n ∷ ns) = 2 * w + 7 + length (n .name) + recordsLength w ns
 
 unfoldable pub imageLength : ℕ → List Node → ℕ
-imageLength w ns = 8 + recordsLength w ns + 32 * pageTotal ns
+imageLength w ns = 8 + recordsLength w ns + DIGEST-BYTES * pageTotal ns
 
 -- 'nothing follows'; nothing where the image is not sound (84)
 unfoldable pub parse : ℕ → List ℕ → Option Image

@@ -2,7 +2,7 @@
 -- Assumes nothing.
 use mathlib.Core.Bool.{Bool, _&&_, not}
 use mathlib.Core.List.{List, [], _∷_}
-use Prim.Native.Nat.{ℕ, _+_, _/_, _%_}
+use Prim.Native.Nat.{ℕ, _+_, _-_, _/_, _%_}
 use lib.Dec.{eqb, leb}
 use lib.ListN.{length, getD, set}
 use Rattle.lists.specs.Equal.{equal}
@@ -21,6 +21,9 @@ PAGES = 1024
 abbrev pub PAGE-BYTES : ℕ
 PAGE-BYTES = 1024
 
+abbrev pub DIGEST-BYTES : ℕ
+DIGEST-BYTES = 32
+
 abbrev pub FILE-BYTES : ℕ
 FILE-BYTES = 65536
 
@@ -29,6 +32,10 @@ NAME-BYTES = 32
 
 abbrev pub PATH-BYTES : ℕ
 PATH-BYTES = 255
+
+-- descriptors are below
+abbrev pub DESCRIPTORS : ℕ
+DESCRIPTORS = 1024
 
 -- kind 1 is a file, 2 a directory; mode 0 to 7; the parent is an id, the root's is 0
 pub record Node : Type 0 where
@@ -63,7 +70,7 @@ hasBit b n = eqb (n .mode / b % 2) 1
 
 -- 'just the pages its size needs'
 unfoldable pub pagesFor : ℕ → ℕ
-pagesFor size = (size + 1023) / 1024
+pagesFor size = (size + (PAGE-BYTES - 1)) / PAGE-BYTES
 
 unfoldable pub pageTotal : List Node → ℕ
 pageTotal [] = 0

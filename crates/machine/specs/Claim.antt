@@ -8,6 +8,7 @@ use Prim.Native.Nat.{ℕ, _≤_}
 use lib.ListN.{length}
 use Rattle.lists.specs.All.{All, Bytes}
 use Rattle.lists.specs.Or.{Or}
+use Rattle.filesystem.specs.Tables.{DIGEST-BYTES}
 use Rattle.filesystem.specs.Image.{flatten, print}
 use Rattle.rules.specs.Skeleton.{Config, Event, call, reply, save, load, Answer, done, ask, refused, stopped, Outcome, EventBytes}
 use Rattle.machine.specs.Machine.{State, step, fresh, outcomes, final, files, guard}
@@ -17,7 +18,7 @@ use Rattle.machine.specs.Honest.{Right}
 
 -- what is assumed of the digest: 32 bytes, whatever it digests; and of the width: one byte at least
 pub record Fit (c : Config) : Type 0 where
-  pub long : (s : List ℕ) → length (c .digest s) ≡ 32
+  pub long : (s : List ℕ) → length (c .digest s) ≡ DIGEST-BYTES
   pub bytes : (s : List ℕ) → Bytes (c .digest s)
   pub wide : 1 ≤ c .width
 

@@ -5,7 +5,7 @@ use mathlib.Core.List.{List, []}
 use Prim.Native.Nat.{ℕ}
 use lib.ListN.{getD}
 use Rattle.lists.specs.LittleEndian.{encode}
-use Rattle.filesystem.specs.Tables.{nodeAt}
+use Rattle.filesystem.specs.Tables.{PAGE-BYTES, nodeAt}
 use Rattle.rules.specs.Pages.{pageOf}
 use Rattle.rules.specs.Requests.{asked, Pending, idle, creating, opening, closing, removing, changing, listing, stating, reading, fetching, storing, cutting}
 use Rattle.rules.specs.Skeleton.{Config}
@@ -26,7 +26,7 @@ module _ (c : Config) (t : State (tree c)) (r : List ℕ) where
   RightFor (asked (stating k)) = r ≡ statBytes (c .width) (nodeAt (t .skeleton .tables .nodes) k)
   RightFor (reading k o p n i) = r ≡ pageOf (getD (t .contents) k []) i
   RightFor (fetching k o q i) = r ≡ pageOf (getD (t .contents) k []) i
-  RightFor (storing k o q i) = r ≡ encode 4 1024
+  RightFor (storing k o q i) = r ≡ encode 4 PAGE-BYTES
   RightFor (cutting k o q) = r ≡ encode 4 0
 
   -- nothing is asked of a reply where no request stands

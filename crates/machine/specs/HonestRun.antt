@@ -18,7 +18,7 @@ use Rattle.rules.specs.Pages.{pageOf, Change, first, last, fetches, cuts}
 use Rattle.rules.specs.Requests.{asked, Pending, idle, creating, opening, closing, removing, changing, listing, stating, reading, fetching, storing, cutting}
 use Rattle.rules.specs.Skeleton.{Config, Event, reply, EventBytes}
 use Rattle.rules.specs.Rules.{Move, loading, judge, replyChecks}
-use Rattle.machine.specs.Machine.{State, Result, files, readOn, finishChange, pagesStored, askStore, onPage, pagesFrom, apply, step, fresh, outcomes, final, guard}
+use Rattle.machine.specs.Machine.{State, Result, files, readOn, finishChange, pagesStored, askStore, onPage, pagesFrom, cleared, apply, step, fresh, outcomes, final, guard}
 use Rattle.rules.specs.Valid.{Valid, Fits, fRefuse, fHalt, fSend, fFinish, fAdd, fDelete, fReadPage, fBegin, fFillPage, fStored, fCutDone, fSaving, fLoading}
 use Rattle.rules.specs.FitLaws.{judge-fits}
 use Rattle.rules.specs.ReplyLaws.{right-id, right-descriptor, right-status, right-stat, right-listing}
@@ -92,7 +92,7 @@ module _ (c : Config) (fit : Fit c) where
   calm g t v {e = e} (fReadPage {k = k} {o = o} {p = p} {n = n} {i = i} {r = r} {a = a} {q = q} he w l h) ho =
       pick-ind Calm _ (λ _. pick-ind Calm (leb (p + n) (i * 1024 + 1024)) (λ _. refl) (λ _. refl))
       (λ x. absurd (true≢false (sym (page-right t (reading k o p n i) r k i (right-reply g t e r a q ho he) w (λ y. unfold RightFor in y)) ∙ x)))
-  calm g t v (fBegin {k = k} {o = o} {q = q} pl h) ho = calm-pages (record { skeleton = t .skeleton; contents = t .contents; progress = tt; saves = t .saves }) k o q (first q)
+  calm g t v (fBegin {k = k} {o = o} {q = q} pl h) ho = calm-pages (cleared c (tree c) t) k o q (first q)
   calm g t v {e = e} (fFillPage {k = k} {o = o} {q = q} {i = i} {r = r} {a = a} {b = b} he w l h) ho =
       pick-ind Calm _ (λ _. refl)
       (λ x. absurd (true≢false (sym (page-right t (fetching k o q i) r k i (right-reply g t e r a b ho he) w (λ y. unfold RightFor in y)) ∙ x)))

@@ -24,7 +24,7 @@ use Rattle.rules.specs.PageLaws.{Where, low, mid, high, range, length-after, fi
 use Rattle.rules.specs.Requests.{asked, storeRequest, Pending, idle, creating, opening, closing, removing, changing, listing, stating, reading, fetching, storing, cutting}
 use Rattle.rules.specs.Skeleton.{Config, Event, Answer}
 use Rattle.rules.specs.Rules.{Move}
-use Rattle.machine.specs.Machine.{Files, State, Result, files, readOn, finishChange, pagesStored, askStore, onPage, pagesFrom, apply}
+use Rattle.machine.specs.Machine.{Files, State, Result, files, readOn, finishChange, pagesStored, askStore, onPage, pagesFrom, cleared, apply}
 use Rattle.rules.specs.Valid.{ValidNodes, Starts, Fits, fRefuse, fHalt, fSend, fFinish, fAdd, fDelete, fReadPage, fBegin, fFillPage, fStored, fCutDone, fSaving, fLoading}
 use Rattle.machine.specs.Tree.{Saved, lookup, goBack, digestsOf, tree}
 use Rattle.machine.specs.History.{storedPage, pageOut, imageGiven, imageOut}
@@ -197,7 +197,7 @@ module _ (c : Config) (M N : List ℕ → Type 0) where
       (λ e₂ s. record { good = v .good; sofar = tt; saves = v .saves }))
       (λ e s. record { good = v .good; sofar = tt; saves = v .saves }) s
   keeps t v h (fBegin {k = k} {o = o} {q = q} pl x) n s =
-      pages-kept (record { skeleton = t .skeleton; contents = t .contents; progress = tt; saves = t .saves }) (record { good = v .good; sofar = v .sofar; saves = v .saves })
+      pages-kept (cleared c (tree c) t) (record { good = v .good; sofar = v .sofar; saves = v .saves })
       k o q (first q) (x .fits) (first-last q _ (x .fits)) (λ j a b. absurd (omega arith)) s
   keeps t v h (fFillPage {k = k} {o = o} {q = q} {i = i} {r = r} he w l x) n s =
       pick-ind Keeps (equal r (pageOf (getD (t .contents) k []) i))

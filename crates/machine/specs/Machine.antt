@@ -9,11 +9,11 @@ use Rattle.lists.specs.Pick.{pick}
 use Rattle.lists.specs.Equal.{equal}
 use Rattle.lists.specs.Cells.{tab}
 use Rattle.lists.specs.Search.{without}
-use Rattle.filesystem.specs.Tables.{Node, Tables, pagesFor, nodeAt, openAt, setSize, setCursor}
+use Rattle.filesystem.specs.Tables.{PAGE-BYTES, Node, Tables, pagesFor, nodeAt, openAt, setSize, setCursor}
 use Rattle.filesystem.specs.Image.{Image, flatten, divide, print}
 use Rattle.rules.specs.Pages.{pageOf, inside, pagePart, Change, first, last, fetches, fill, sizeSent, cuts, sizeAfter, cursorAfter, numberOf}
 use Rattle.rules.specs.Requests.{fetchRequest, storeRequest, cutRequest, Pending, idle, reading, fetching, storing, cutting}
-use Rattle.rules.specs.Skeleton.{Config, Event, Answer, done, ask, refused, stopped, Outcome, plain, Skeleton, freshSkeleton}
+use Rattle.rules.specs.Skeleton.{Config, Event, Answer, done, ask, refused, stopped, Outcome, plain, Skeleton, waiting, resting, halted, freshSkeleton}
 use Rattle.rules.specs.Rules.{Move, refuse, halt, send, finish, add, delete, readPage, begin, fillPage, stored, cutDone, saving, loading, judge}
 
 -- nodes, and what is kept of each one's pages; a directory has none
@@ -72,27 +72,27 @@ module _ (c : Config) (S : Store) where
   abbrev pub asking : State S → List ℕ → Pending → S .Progress → Result S
   asking s q p a = record {
     outcome = plain (ask q);
-    state = record { skeleton = record { tables = s .skeleton .tables; pending = p; stopped = false }; contents = s .contents; progress = a; saves = s .saves };
+    state = record { skeleton = waiting (s .skeleton) p; contents = s .contents; progress = a; saves = s .saves };
   }
 
   -- the call is done
   abbrev pub ending : State S → Answer → Tables → List (S .Content) → Result S
   ending s a t x = record {
     outcome = plain a;
-    state = record { skeleton = record { tables = t; pending = idle; stopped = false }; contents = x; progress = S .nothing; saves = s .saves };
+    state = record { skeleton = resting (s .skeleton) t; contents = x; progress = S .nothing; saves = s .saves };
   }
 
   -- a stop is for good; the tables are those of before the call
   abbrev pub stopping : State S → ℕ → Result S
   stopping s n = record {
     outcome = plain (stopped n);
-    state = record { skeleton = record { tables = s .skeleton .tables; pending = idle; stopped = true }; contents = s .contents; progress = S .nothing; saves = s .saves };
+    state = record { skeleton = halted (s .skeleton); contents = s .contents; progress = S .nothing; saves = s .saves };
   }
 
   -- a read is done, or the next page is fetched
   unfoldable pub readOn : State S → (k o position n i : ℕ) → S .Progress → Result S
   readOn s k o p n i a =
-      pick (leb (p + n) (i * 1024 + 1024))
+      pick (leb (p + n) (i * PAGE-BYTES + PAGE-BYTES))
       (ending s (done n (S .gathered (contentAt s k) p n a))
       (record { nodes = s .skeleton .tables .nodes; opens = setCursor (s .skeleton .tables .opens) o (p + n) }) (s .contents))
       (asking s (fetchRequest (descriptorAt s o) (suc i)) (reading k o p n (suc i)) a)
@@ -138,7 +138,7 @@ module _ (c : Config) (S : Store) where
   abbrev pub saved : State S → List ℕ → Result S
   saved s image = record {
     outcome = record { answer = done (length image) image; digest = c .digest image };
-    state = record { skeleton = record { tables = s .skeleton .tables; pending = idle; stopped = false }; contents = s .contents; progress = S .nothing; saves = S .keep (s .saves) (c .digest image) (files s) };
+    state = record { skeleton = resting (s .skeleton) (s .skeleton .tables); contents = s .contents; progress = S .nothing; saves = S .keep (s .saves) (c .digest image) (files s) };
   }
 
   abbrev pub loaded : State S → Files (S .Content) → Result S

@@ -22,7 +22,7 @@ use Rattle.rules.specs.Pages.{pageOf, Change, first, last, fetches, cuts}
 use Rattle.rules.specs.Requests.{Pending}
 use Rattle.rules.specs.Skeleton.{Config, Event, call, reply, save, load, EventBytes, ask, refused, Outcome}
 use Rattle.rules.specs.Rules.{Move, loading, judge}
-use Rattle.machine.specs.Machine.{Files, State, Result, files, readOn, finishChange, pagesStored, askStore, onPage, pagesFrom, apply, step, fresh, outcomes, final, guard}
+use Rattle.machine.specs.Machine.{Files, State, Result, files, readOn, finishChange, pagesStored, askStore, onPage, pagesFrom, cleared, apply, step, fresh, outcomes, final, guard}
 use Rattle.rules.specs.Valid.{ValidNodes, Valid, Plain, sizes, Fits, fRefuse, fHalt, fSend, fFinish, fAdd, fDelete, fReadPage, fBegin, fFillPage, fStored, fCutDone, fSaving, fLoading}
 use Rattle.rules.specs.TableLaws.{fresh-valid}
 use Rattle.rules.specs.FitLaws.{judge-fits}
@@ -188,7 +188,7 @@ module _ (c : Config) (fit : Fit c) (M N : List ℕ → Type 0) where
   remembers t {e = e} (fReadPage {p = p} {n = n} {i = i} {r = r} {a = a} {q = q} he w l h) =
       same-saves t e (is-plain e r a q he) _ _ (pick-ind (Quiet t) _ (λ _. pick-ind (Quiet t) (leb (p + n) (i * 1024 + 1024)) (λ _. refl) (λ _. refl)) (λ _. refl))
   remembers t {e = e} (fBegin {k = k} {o = o} {q = q} pl h) =
-      same-saves t e pl _ _ (pages-quiet (record { skeleton = t .skeleton; contents = t .contents; progress = tt; saves = t .saves }) k o q (first q))
+      same-saves t e pl _ _ (pages-quiet (cleared c (tree c) t) k o q (first q))
   remembers t {e = e} (fFillPage {r = r} {a = a} {b = b} he w l h) =
       same-saves t e (is-plain e r a b he) _ _ (pick-ind (Quiet t) _ (λ _. refl) (λ _. refl))
   remembers t {e = e} (fStored {k = k} {o = o} {q = q} {i = i} pl w h) = same-saves t e pl _ _ (pages-quiet t k o q (suc i))

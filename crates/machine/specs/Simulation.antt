@@ -20,7 +20,7 @@ use Rattle.rules.specs.Skeleton.{Config, Event}
 use Rattle.rules.specs.Rules.{Move, refuse, halt, send, finish, add, delete, readPage, begin, fillPage, stored, cutDone, saving, loading}
 use Rattle.machine.specs.Machine.{Files, State, Result, files, readOn, finishChange, pagesStored, askStore, onPage, pagesFrom, loaded, apply, guard}
 use Rattle.rules.specs.Valid.{ReadingFits, FetchFits, Starts, sizes, Fits, fRefuse, fHalt, fSend, fFinish, fAdd, fDelete, fReadPage, fBegin, fFillPage, fStored, fCutDone, fSaving, fLoading}
-use Rattle.machine.specs.Tree.{lookup, goBack, digestsOf, tree, sentDigests, progressOf, guardOf}
+use Rattle.machine.specs.Tree.{guardWith, lookup, goBack, digestsOf, tree, sentDigests, progressOf, guardOf}
 use Rattle.machine.specs.DigestLaws.{digests-blank, digest-at, digests-at, replaced-digests}
 
 module _ (c : Config) where
@@ -66,7 +66,7 @@ module _ (c : Config) where
 
   -- the guard beside a tree, with this gathered
   abbrev beside : State (tree c) → List ℕ → List (List ℕ) → State (guard c)
-  beside t b ds = record { skeleton = t .skeleton; contents = map (digestsOf c) (t .contents); progress = record { bytes = b; digests = ds }; saves = tt }
+  beside t b ds = guardWith c t (record { bytes = b; digests = ds })
 
   abbrev bytesOf : State (tree c) → ℕ → List ℕ
   bytesOf t k = getD (t .contents) k []
@@ -82,9 +82,9 @@ module _ (c : Config) where
 
   -- the guard of a tree whose call is pending so
   guard-is : (t : State (tree c)) {p : Pending} → t .skeleton .pending ≡ p
-      → guardOf c t ≡ record { skeleton = t .skeleton; contents = map (digestsOf c) (t .contents); progress = progressOf c (t .contents) p; saves = tt }
+      → guardOf c t ≡ guardWith c t (progressOf c (t .contents) p)
   unfolding guardOf
-  guard-is t e = ap (λ p. record { skeleton = t .skeleton; contents = map (digestsOf c) (t .contents); progress = progressOf c (t .contents) p; saves = tt }) e
+  guard-is t e = ap (λ p. guardWith c t (progressOf c (t .contents) p)) e
 
   -- a change is done
   finish-same : (t : State (tree c)) (k o : ℕ) (q : Change) → Aligned (t .skeleton .tables .nodes) (t .contents) → FitsSize q (nodeAt (t .skeleton .tables .nodes) k .size)

@@ -22,7 +22,7 @@ use Rattle.filesystem.specs.Tables.{Node, OpenFile, pagesFor, setSize}
 use Rattle.filesystem.specs.Image.{Image, flatten, divide, soundNodes, sound, print, parse}
 use Rattle.filesystem.specs.ImageLaws.{Divided, Digest, Shaped, length-flatten, divide-flatten, divided, all-flatten, parse-print, parse-was-printed}
 use Rattle.rules.specs.Pages.{inside, Change, first, last, fetches, cuts}
-use Rattle.rules.specs.Skeleton.{Config, Event, load, EventBytes, done, plain, Skeleton}
+use Rattle.rules.specs.Skeleton.{resting-same, Config, Event, load, EventBytes, done, plain, Skeleton}
 use Rattle.rules.specs.Requests.{idle}
 use Rattle.rules.specs.Rules.{Move, refuse, loading, isIdle, isNone, imageOr, eventChecks, eventAction, judge}
 use Rattle.machine.specs.Machine.{State, Result, readOn, finishChange, pagesStored, askStore, onPage, pagesFrom, cleared, imageOf, apply, step, fresh, final, zeroDigest, replaced, guard}
@@ -105,7 +105,7 @@ module _ (c : Config) where
         ∙ (λ x. record {
           outcome = plain (done 0 []);
           state = record {
-            skeleton = record { tables = g .skeleton .tables; pending = sym quiet x; stopped = sym running x };
+            skeleton = resting-same (g .skeleton) quiet running x;
             contents = divide-flatten (g .skeleton .tables .nodes) (g .contents) (h .pages .counted) x;
             progress = guard c .nothing;
             saves = tt;

@@ -16,7 +16,7 @@ use Rattle.filesystem.specs.Tables.{PAGE-BYTES}
 use Rattle.filesystem.specs.ImageLaws.{Digest}
 use Rattle.rules.specs.Calls.{MOST-BYTES}
 use Rattle.rules.specs.Pages.{pageAt, pagePart, Change, writing, first, last, fetches, sizeSent, cuts, numberOf}
-use Rattle.rules.specs.Requests.{cutRequest, reading}
+use Rattle.rules.specs.Requests.{storeLength, cutRequest, reading}
 use Rattle.rules.specs.Skeleton.{Config, Event, reply, EventBytes, done, answerBytes, requestBytes, answerLength, requestLength}
 use Rattle.rules.specs.Rules.{Move, refuse, halt, send, finish, add, delete, readPage, begin, fillPage, stored, cutDone, saving, loading, replyChecks, replyAction, eventChecks, eventAction, judge}
 use Rattle.machine.specs.Machine.{Store, State, Result, Gathered, contentAt, sizeAt, descriptorAt, readOn, finishChange, pagesStored, askStore, onPage, pagesFrom, cleared, apply, step, fresh, final, guard}
@@ -28,23 +28,23 @@ use Rattle.rules.specs.Lengths.{Gathers, Modest, fetch-short, store-length, jud
 -- Requests, whatever is kept of pages, where the pages that go out have their length.
 module _ (c : Config) (S : Store) (long : (x : S .Content) (q : Change) (i : ℕ) (r : List ℕ) → length (S .pageFor x q i r) ≡ PAGE-BYTES) where
   abbrev Short : Result S → Type 0
-  Short r = length (requestBytes (r .outcome .answer)) ≤ requestLength
+  Short r = length (requestBytes (r .outcome .answer)) ≤ requestLength c
 
   store-short : (s : State S) (k o : ℕ) (q : Change) (i : ℕ) (r : List ℕ) → Short (askStore c S s k o q i r)
-  unfolding askStore requestBytes
+  unfolding askStore requestBytes requestLength
   store-short s k o q i r =
       let x = contentAt c S s k in
       let z = store-length (descriptorAt c S s o) i (sizeSent q (sizeAt c S s k) i) (S .pageFor x q i r) (long x q i r) in
       omega arith
 
   pages-short : (s : State S) (k o : ℕ) (q : Change) (i : ℕ) → Short (pagesFrom c S s k o q i)
-  unfolding pagesFrom onPage pagesStored finishChange requestBytes requestLength
+  unfolding pagesFrom onPage pagesStored finishChange requestBytes requestLength storeLength
   pages-short s k o q i =
-      pick-ind Short (ltb i (last q)) (λ _. pick-ind Short (fetches q (sizeAt c S s k) i) (λ _. fetch-short _ i) (λ _. store-short s k o q i []))
+      pick-ind Short (ltb i (last q)) (λ _. pick-ind Short (fetches q (sizeAt c S s k) i) (λ _. fetch-short c _ i) (λ _. store-short s k o q i []))
       (λ _. pick-ind Short (cuts q) (λ _. unfold cutRequest encode in omega arith) (λ _. omega arith))
 
   move-short : (s : State S) (m : Move) → Modest c m → Short (apply c S s m)
-  unfolding apply readOn finishChange requestBytes requestLength
+  unfolding apply readOn finishChange requestBytes requestLength storeLength
   move-short s (refuse n) h = omega arith
   move-short s (halt n) h = omega arith
   move-short s (send p q) h = h .0
@@ -53,7 +53,7 @@ module _ (c : Config) (S : Store) (long : (x : S .Content) (q : Change) (i : ℕ
   move-short s (delete k) h = omega arith
   move-short s (readPage k o p n i r) h =
       pick-ind Short (S .isPage (contentAt c S s k) i r)
-      (λ _. pick-ind Short (leb (p + n) (i * 1024 + 1024)) (λ _. omega arith) (λ _. fetch-short _ (suc i))) (λ _. omega arith)
+      (λ _. pick-ind Short (leb (p + n) (i * 1024 + 1024)) (λ _. omega arith) (λ _. fetch-short c _ (suc i))) (λ _. omega arith)
   move-short s (begin k o q) h = pages-short (cleared c S s) k o q (first q)
   move-short s (fillPage k o q i r) h = pick-ind Short (S .isPage (contentAt c S s k) i r) (λ _. store-short s k o q i r) (λ _. omega arith)
   move-short s (stored k o q i) h = pages-short s k o q (suc i)
@@ -62,12 +62,12 @@ module _ (c : Config) (S : Store) (long : (x : S .Content) (q : Change) (i : ℕ
   move-short s (loading i d) h = omega arith
 
   -- at most 1,037 bytes, at any width
-  pub request-fits : (s : State S) → Valid (c .width) (s .skeleton) → (e : Event) → EventBytes e → length (requestBytes (step c S s e .outcome .answer)) ≤ requestLength
+  pub request-fits : (s : State S) → Valid (c .width) (s .skeleton) → (e : Event) → EventBytes e → length (requestBytes (step c S s e .outcome .answer)) ≤ requestLength c
   unfolding step
   request-fits s v e b = move-short s (judge c (s .skeleton) e) (judge-modest c (s .skeleton) v e b)
 
 pub guard-request-fits : (c : Config) (g : State (guard c)) → Valid (c .width) (g .skeleton) → (e : Event) → EventBytes e
-    → length (requestBytes (step c (guard c) g e .outcome .answer)) ≤ requestLength
+    → length (requestBytes (step c (guard c) g e .outcome .answer)) ≤ requestLength c
 guard-request-fits c = request-fits c (guard c) (λ x q i r. page-long q i r)
 
 -- Answers of the guard.
@@ -176,7 +176,7 @@ module _ (c : Config) (digest-fits : (s : List ℕ) → Digest (c .digest s)) wh
 
     -- buffers of the least lengths suffice
     pub always-fits : (e : Event) → EventBytes e → Plain e
-        → (length (answerBytes (step c (guard c) here e .outcome .answer)) ≤ answerLength c) × (length (requestBytes (step c (guard c) here e .outcome .answer)) ≤ requestLength)
+        → (length (answerBytes (step c (guard c) here e .outcome .answer)) ≤ answerLength c) × (length (requestBytes (step c (guard c) here e .outcome .answer)) ≤ requestLength c)
     always-fits e b pl =
         let v = always-valid c digest-fits wide es a in
         (answer-fits c here v always-gathers e b pl, guard-request-fits c here v e b)

@@ -7,7 +7,7 @@ use lib.ListN.{length, getD}
 use Rattle.lists.specs.Pick.{pick}
 use Rattle.lists.specs.Equal.{equal}
 use Rattle.lists.specs.Cells.{tab}
-use Rattle.filesystem.specs.Tables.{pagesFor}
+use Rattle.filesystem.specs.Tables.{PAGE-BYTES, pagesFor}
 use Rattle.rules.specs.Pages.{pageOf, part, Change, first, last, bytesAfter}
 use Rattle.rules.specs.Requests.{asked, Pending, idle, creating, opening, closing, removing, changing, listing, stating, reading, fetching, storing, cutting}
 use Rattle.rules.specs.Skeleton.{Config}
@@ -56,7 +56,7 @@ module _ (c : Config) where
   sentDigests b q end = tab (end - first q) (λ j. c .digest (pageOf (bytesAfter q b) (first q + j)))
 
   abbrev pub readSoFar : List ℕ → (position i : ℕ) → List ℕ
-  readSoFar b p i = part b p (max p (i * 1024) - p)
+  readSoFar b p i = part b p (max p (i * PAGE-BYTES) - p)
 
   unfoldable pub progressOf : List (List ℕ) → Pending → Gathered
   progressOf xs idle = record { bytes = []; digests = [] }
@@ -66,10 +66,8 @@ module _ (c : Config) where
   progressOf xs (storing k o q i) = record { bytes = []; digests = sentDigests (getD xs k []) q (suc i) }
   progressOf xs (cutting k o q) = record { bytes = []; digests = sentDigests (getD xs k []) q (last q) }
 
+  abbrev pub guardWith : State tree → Gathered → State (guard c)
+  guardWith t a = record { skeleton = t .skeleton; contents = map digestsOf (t .contents); progress = a; saves = tt }
+
   unfoldable pub guardOf : State tree → State (guard c)
-  guardOf t = record {
-    skeleton = t .skeleton;
-    contents = map digestsOf (t .contents);
-    progress = progressOf (t .contents) (t .skeleton .pending);
-    saves = tt;
-  }
+  guardOf t = guardWith t (progressOf (t .contents) (t .skeleton .pending))

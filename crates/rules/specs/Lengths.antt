@@ -27,7 +27,7 @@ use Rattle.filesystem.specs.Sound.{Sound, to-sound, limits-at, root-parent, nam
 use Rattle.rules.specs.Calls.{MOST-BYTES, Call, create, mkdir, openAs, close, seek, read, write, truncate, remove, rmdir, chmod, readdir, stat, callBytes, readCall}
 use Rattle.rules.specs.CallLaws.{CallFits, call-was-written}
 use Rattle.rules.specs.Pages.{pageAt, part, pagePart, overlay, Change, writing, shrinking, fill}
-use Rattle.rules.specs.Requests.{asked, closeRequest, fetchRequest, storeRequest, Pending, idle, creating, opening, closing, removing, changing, listing, stating, reading, fetching, storing, cutting}
+use Rattle.rules.specs.Requests.{storeLength, asked, closeRequest, fetchRequest, storeRequest, Pending, idle, creating, opening, closing, removing, changing, listing, stating, reading, fetching, storing, cutting}
 use Rattle.rules.specs.Skeleton.{Config, Event, call, reply, save, load, EventBytes, answerLength, requestLength, Skeleton}
 use Rattle.rules.specs.Rules.{Move, refuse, halt, send, finish, add, delete, readPage, begin, fillPage, stored, cutDone, saving, loading, openPlace, filePlace, opened, file, Entry, entryForm, entryOf, callChecks, readAction, callAction, replyChecks, replyAction, callOr, isNone, eventChecks, eventAction, judge}
 use Rattle.rules.specs.RightReplies.{RightListing}
@@ -101,7 +101,7 @@ Gathers (cutting k o q) b = Unit {0}
 abbrev pub Modest : Config → Move → Type 0
 Modest c (refuse n) = Unit {0}
 Modest c (halt n) = Unit {0}
-Modest c (send p q) = (length q ≤ requestLength) × Gathers p []
+Modest c (send p q) = (length q ≤ requestLength c) × Gathers p []
 Modest c (finish t n b) = length b ≤ answerLength c
 Modest c (add n) = Unit {0}
 Modest c (delete k) = Unit {0}
@@ -118,13 +118,13 @@ unfolding tooLong
 path-short p e = ltb-false _ _ (or-snd (any (λ c. ltb NAME-BYTES (length c)) p) _ e)
 
 -- a store is the longest request
-pub store-length : (d i size : ℕ) (p : List ℕ) → length p ≡ PAGE-BYTES → length (storeRequest d i size p) ≡ requestLength
-unfolding storeRequest requestLength encode
+pub store-length : (d i size : ℕ) (p : List ℕ) → length p ≡ PAGE-BYTES → length (storeRequest d i size p) ≡ storeLength
+unfolding storeRequest storeLength encode
 store-length d i size p h = omega arith
 
-pub fetch-short : (d i : ℕ) → length (fetchRequest d i) ≤ requestLength
-unfolding fetchRequest requestLength encode
-fetch-short d i = omega arith
+pub fetch-short : (c : Config) (d i : ℕ) → length (fetchRequest d i) ≤ requestLength c
+unfolding fetchRequest requestLength storeLength encode
+fetch-short c d i = omega arith
 
 module _ (c : Config) (t : Tables) where
   no-bytes : 0 ≤ answerLength c
@@ -132,10 +132,10 @@ module _ (c : Config) (t : Tables) where
 
   reading-modest : (h n : ℕ) → n ≤ MOST-BYTES → Modest c (readAction t (c .width) h n)
   unfolding readAction pageAt
-  reading-modest h n l = pick-ind (Modest c) (eqb n 0) (λ _. no-bytes) (λ _. (fetch-short _ _, (l, omega arith)))
+  reading-modest h n l = pick-ind (Modest c) (eqb n 0) (λ _. no-bytes) (λ _. (fetch-short c _ _, (l, omega arith)))
 
   call-modest : (q : Call) → CallFits (c .width) q → Passed (callChecks t q) → Modest c (callAction t (c .width) q)
-  unfolding callChecks callAction callBytes closeRequest encode requestLength
+  unfolding callChecks callAction callBytes closeRequest encode requestLength storeLength
   call-modest (create m p) f (both e _) = let z = path-short p e in (omega arith, tt)
   call-modest (mkdir m p) f (both e _) = let z = path-short p e in (omega arith, tt)
   call-modest (openAs r p) f (both e _) = let z = path-short p e in (omega arith, tt)

@@ -211,7 +211,7 @@ module _ (t : Tables) where
       (both (λ q. absurd (omega arith)) (both (λ q. absurd (omega arith)) (both (λ q. absurd (omega arith)) (both (λ _ b. leb-true _ _ b) all-none)))))) f refl refl
 
 -- A call in range, with long enough buffers, while nothing stands: its own checks decide.
-pub judge-call : (c : Config) (sk : Skeleton) (q : Call) (a b : ℕ) → CallFits (c .width) q → sk .stopped ≡ false → sk .pending ≡ idle → answerLength c ≤ a → requestLength ≤ b
+pub judge-call : (c : Config) (sk : Skeleton) (q : Call) (a b : ℕ) → CallFits (c .width) q → sk .stopped ≡ false → sk .pending ≡ idle → answerLength c ≤ a → requestLength c ≤ b
     → judge c sk (call (callBytes (c .width) q) a b) ≡ decide refuse (callChecks (sk .tables) q) (callAction (sk .tables) (c .width) q)
 unfolding judge eventChecks eventAction decide isIdle isNone callOr
 judge-call c sk q a b f running quiet h l =

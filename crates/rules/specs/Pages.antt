@@ -11,11 +11,11 @@ use Rattle.filesystem.specs.Tables.{PAGE-BYTES, pagesFor}
 
 -- the page that a position lies in
 unfoldable pub pageAt : ℕ → ℕ
-pageAt position = position / 1024
+pageAt position = position / PAGE-BYTES
 
 -- page i of a file's bytes
 unfoldable pub pageOf : List ℕ → ℕ → List ℕ
-pageOf b i = tab PAGE-BYTES (λ j. getD b (i * 1024 + j) 0)
+pageOf b i = tab PAGE-BYTES (λ j. getD b (i * PAGE-BYTES + j) 0)
 
 -- n bytes from a position on
 unfoldable pub part : List ℕ → (position n : ℕ) → List ℕ
@@ -36,12 +36,12 @@ splice b position d =
 -- the same on page i alone
 unfoldable pub overlay : (page : List ℕ) (position : ℕ) (d : List ℕ) (i : ℕ) → List ℕ
 overlay page position d i =
-    tab PAGE-BYTES (λ j. pick (inside position (length d) (i * 1024 + j)) (getD d (i * 1024 + j - position) 0) (getD page j 0))
+    tab PAGE-BYTES (λ j. pick (inside position (length d) (i * PAGE-BYTES + j)) (getD d (i * PAGE-BYTES + j - position) 0) (getD page j 0))
 
 -- of a page i that came, the bytes that lie in n bytes from a position on
 unfoldable pub pagePart : (page : List ℕ) (position n i : ℕ) → List ℕ
 pagePart page position n i =
-    part page (max position (i * 1024) - i * 1024) (min (position + n) (i * 1024 + 1024) - max position (i * 1024))
+    part page (max position (i * PAGE-BYTES) - i * PAGE-BYTES) (min (position + n) (i * PAGE-BYTES + PAGE-BYTES) - max position (i * PAGE-BYTES))
 
 -- A call that changes a file's bytes: a write at the cursor, or a truncation to fewer bytes.
 pub data Change : Type 0 where
@@ -59,17 +59,17 @@ last (shrinking n) = pagesFor n
 
 -- 'A write fetches a page if a byte of it below the old end isn't overwritten'; 'a shorter truncation inside a page fetches it'
 unfoldable pub fetches : Change → (size i : ℕ) → Bool
-fetches (writing p d) size i = ltb (i * 1024) size && (ltb (i * 1024) p || ltb (p + length d) (min size (i * 1024 + 1024)))
+fetches (writing p d) size i = ltb (i * PAGE-BYTES) size && (ltb (i * PAGE-BYTES) p || ltb (p + length d) (min size (i * PAGE-BYTES + PAGE-BYTES)))
 fetches (shrinking n) size i = true
 
 -- page i as it is stored, from the page that was fetched
 unfoldable pub fill : Change → ℕ → List ℕ → List ℕ
 fill (writing p d) i page = overlay page p d i
-fill (shrinking n) i page = tab PAGE-BYTES (λ j. pick (ltb (i * 1024 + j) n) (getD page j 0) 0)
+fill (shrinking n) i page = tab PAGE-BYTES (λ j. pick (ltb (i * PAGE-BYTES + j) n) (getD page j 0) 0)
 
 -- the size sent with page i: 'the larger of the old size and the end of the bytes written so far'; 'the old size'
 unfoldable pub sizeSent : Change → (size i : ℕ) → ℕ
-sizeSent (writing p d) size i = max size (min (p + length d) (i * 1024 + 1024))
+sizeSent (writing p d) size i = max size (min (p + length d) (i * PAGE-BYTES + PAGE-BYTES))
 sizeSent (shrinking n) size i = size
 
 -- 'then cuts'

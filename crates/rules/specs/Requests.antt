@@ -1,8 +1,9 @@
 -- Host requests and what a pending call waits for (document 01, 'Requests and replies').
 -- Assumes nothing.
 use mathlib.Core.List.{List, _∷_, _++_}
-use Prim.Native.Nat.{ℕ}
+use Prim.Native.Nat.{ℕ, _+_}
 use Rattle.lists.specs.LittleEndian.{encode}
+use Rattle.filesystem.specs.Tables.{PAGE-BYTES}
 use Rattle.rules.specs.Pages.{Change}
 
 -- descriptors, pages and sizes have 4 bytes
@@ -14,6 +15,10 @@ fetchRequest d i = 6 ∷ (encode 4 d ++ encode 4 i)
 
 unfoldable pub storeRequest : (descriptor page size : ℕ) → List ℕ → List ℕ
 storeRequest d i size bytes = 7 ∷ (encode 4 d ++ (encode 4 i ++ (encode 4 size ++ bytes)))
+
+-- how long a store is
+unfoldable pub storeLength : ℕ
+storeLength = 13 + PAGE-BYTES
 
 unfoldable pub cutRequest : (descriptor size : ℕ) → List ℕ
 cutRequest d size = 8 ∷ (encode 4 d ++ encode 4 size)

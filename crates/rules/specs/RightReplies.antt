@@ -9,7 +9,7 @@ use Rattle.lists.specs.All.{All}
 use Rattle.lists.specs.LittleEndian.{decode}
 use Rattle.lists.specs.Form.{put-all}
 use Rattle.lists.specs.Rearranged.{Rearranged}
-use Rattle.filesystem.specs.Tables.{Node, OpenFile, Tables, nodeAt, children}
+use Rattle.filesystem.specs.Tables.{DESCRIPTORS, Node, OpenFile, Tables, nodeAt, children}
 use Rattle.rules.specs.Rules.{signedOf, Entry, entryForm, entryOf}
 
 -- 'a 4-byte id, not 0, held by no node'
@@ -23,7 +23,7 @@ pub record RightDescriptor (t : Tables) (r : List ℕ) : Type 0 where
   pub descriptor : ℕ
   pub long : length r ≡ 4
   pub is : signedOf r ≡ pos descriptor
-  pub low : descriptor < 1024
+  pub low : descriptor < DESCRIPTORS
   pub not-held : All (λ (o : OpenFile). o .descriptor ≡ descriptor → ⊥) (t .opens)
 
 -- 'entries of id, kind, name length and name, each child once, any order': of the directory in place k

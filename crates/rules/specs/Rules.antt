@@ -16,7 +16,7 @@ use Rattle.lists.specs.LittleEndian.{encode, decode}
 use Rattle.lists.specs.Signed.{signed}
 use Rattle.lists.specs.Form.{Form, num, then, text, times, whole}
 use Rattle.lists.specs.Checks.{Check, decide}
-use Rattle.filesystem.specs.Tables.{NODES, OPEN-FILES, PAGES, PAGE-BYTES, FILE-BYTES, Node, OpenFile, Tables, isDirectory, hasBit, pageTotal, nodeAt, openAt, absent, present, findId, findHandle, findDescriptor, children, newNode, newOpenFile, setMode, setSize, setCursor}
+use Rattle.filesystem.specs.Tables.{NODES, OPEN-FILES, PAGES, PAGE-BYTES, FILE-BYTES, DESCRIPTORS, Node, OpenFile, Tables, isDirectory, hasBit, pageTotal, nodeAt, openAt, absent, present, findId, findHandle, findDescriptor, children, newNode, newOpenFile, setMode, setSize, setCursor}
 use Rattle.filesystem.specs.Rights.{covers}
 use Rattle.filesystem.specs.Paths.{Path, tooLong, walk, walkChecks, parentChecks, parentOf, lastOf}
 use Rattle.filesystem.specs.Image.{Image, imageLength, parse}
@@ -161,7 +161,7 @@ isNumber n (negsuc m) = false
 
 -- 'a descriptor 0 to 1,023'
 unfoldable pub isDescriptor : ℤ → Bool
-isDescriptor (pos m) = ltb m 1024
+isDescriptor (pos m) = ltb m DESCRIPTORS
 isDescriptor (negsuc m) = false
 
 -- a listing's entry: 'id (4), kind (1), name length (1) and name'
@@ -205,7 +205,7 @@ module _ (w : ℕ) (t : Tables) (r : List ℕ) where
   replyChecks (asked (stating k)) = lengthCheck (w + 6) ∷ (6, not (equal r (statBytes w (nodeAt (t .nodes) k)))) ∷ []
   replyChecks (reading k o p n i) = lengthCheck PAGE-BYTES ∷ []
   replyChecks (fetching k o q i) = lengthCheck PAGE-BYTES ∷ []
-  replyChecks (storing k o q i) = statusChecks 1024
+  replyChecks (storing k o q i) = statusChecks PAGE-BYTES
   replyChecks (cutting k o q) = statusChecks 0
 
   -- and what is done with one that none of them stops
@@ -254,7 +254,7 @@ module _ (c : Config) (sk : Skeleton) where
   busyCheck = (114, not (isIdle (sk .pending)))
 
   abbrev pub shortCheck : (answer request : ℕ) → Check
-  shortCheck answer request = (34, ltb answer (answerLength c) || ltb request requestLength)
+  shortCheck answer request = (34, ltb answer (answerLength c) || ltb request (requestLength c))
 
   abbrev pub inUseCheck : Check
   inUseCheck = (16, ltb 0 (length (sk .tables .opens)))

@@ -1,12 +1,13 @@
 -- What the guard and the reference tree share: what is fed to them, what comes back, and what they hold beside pages.
 -- Assumes nothing.
-use mathlib.Core.Bool.{Bool, false}
+use mathlib.Core.Path.{_≡_, sym}
+use mathlib.Core.Bool.{Bool, true, false}
 use mathlib.Core.List.{List, [], _++_}
-use Prim.Native.Nat.{ℕ, _+_, _*_}
+use Prim.Native.Nat.{ℕ, _+_, _-_, _*_}
 use lib.ListN.{length, drop}
 use Rattle.lists.specs.All.{Bytes}
-use Rattle.filesystem.specs.Tables.{Tables, freshTables}
-use Rattle.rules.specs.Requests.{Pending, idle}
+use Rattle.filesystem.specs.Tables.{NODES, NAME-BYTES, Tables, freshTables}
+use Rattle.rules.specs.Requests.{storeLength, Pending, idle}
 
 -- what may vary: the digest, and the width of ids in bytes
 pub record Config : Type 0 where
@@ -60,15 +61,28 @@ atFront bytes buffer = bytes ++ drop (length bytes) buffer
 
 -- the least lengths of the two buffers: the longest listing, the longest request
 unfoldable pub answerLength : Config → ℕ
-answerLength c = 255 * (c .width + 34)
+answerLength c = (NODES - 1) * (c .width + (2 + NAME-BYTES))
 
-unfoldable pub requestLength : ℕ
-requestLength = 1037
+unfoldable pub requestLength : Config → ℕ
+requestLength c = storeLength
 
 pub record Skeleton : Type 0 where
   pub tables : Tables
   pub pending : Pending
   pub stopped : Bool
+
+-- a call waits for its reply; none does, with these tables; a stop
+abbrev pub waiting : Skeleton → Pending → Skeleton
+waiting sk p = record { tables = sk .tables; pending = p; stopped = false }
+
+abbrev pub resting : Skeleton → Tables → Skeleton
+resting sk t = record { tables = t; pending = idle; stopped = false }
+
+abbrev pub halted : Skeleton → Skeleton
+halted sk = record { tables = sk .tables; pending = idle; stopped = true }
+
+pub resting-same : (sk : Skeleton) → sk .pending ≡ idle → sk .stopped ≡ false → resting sk (sk .tables) ≡ sk
+resting-same sk quiet running = λ x. record { tables = sk .tables; pending = sym quiet x; stopped = sym running x }
 
 abbrev pub freshSkeleton : Skeleton
 freshSkeleton = record { tables = freshTables; pending = idle; stopped = false }

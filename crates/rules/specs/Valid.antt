@@ -12,7 +12,7 @@ use lib.ListN.{length}
 use Rattle.lists.specs.All.{All, Bytes}
 use Rattle.lists.specs.Search.{unique, without}
 use Rattle.lists.specs.Checks.{First}
-use Rattle.filesystem.specs.Tables.{NODES, OPEN-FILES, PAGES, PAGE-BYTES, FILE-BYTES, NAME-BYTES, PATH-BYTES, Node, OpenFile, Tables, isFile, isDirectory, pageTotal, nodeAt, openAt, findId, findChild, findHandle, children, setSize}
+use Rattle.filesystem.specs.Tables.{NODES, OPEN-FILES, PAGES, PAGE-BYTES, FILE-BYTES, NAME-BYTES, PATH-BYTES, DESCRIPTORS, Node, OpenFile, Tables, isFile, isDirectory, pageTotal, nodeAt, openAt, findId, findChild, findHandle, children, setSize}
 use Rattle.filesystem.specs.Paths.{componentForm}
 use Rattle.filesystem.specs.Image.{Image, soundNodes, pathLength, parse}
 use Rattle.rules.specs.Pages.{pageAt, Change, first, last, sizeAfter, FitsSize}
@@ -25,7 +25,7 @@ pub record ValidOpen (ns : List Node) (o : OpenFile) : Type 0 where
   pub known : findId ns (o .handle) < length ns
   pub is-file : isFile (nodeAt ns (findId ns (o .handle))) ≡ true
   pub cursor-inside : o .cursor ≤ nodeAt ns (findId ns (o .handle)) .size
-  pub low : o .descriptor < 1024
+  pub low : o .descriptor < DESCRIPTORS
 
 abbrev pub sameHandle : OpenFile → OpenFile → Bool
 sameHandle a b = eqb (a .handle) (b .handle)
@@ -89,7 +89,7 @@ module _ (ns : List Node) (os : List OpenFile) where
     pub opened : Opened k o
     pub within : position + n ≤ nodeAt ns k .size
     pub from : pageAt position ≤ i
-    pub to : i * 1024 < position + n
+    pub to : i * PAGE-BYTES < position + n
 
   pub record ChangeFits (k o : ℕ) (q : Change) : Type 0 where
     pub opened : Opened k o
@@ -106,7 +106,7 @@ module _ (ns : List Node) (os : List OpenFile) where
   -- and one that the file has
   pub record FetchFits (k o : ℕ) (q : Change) (i : ℕ) : Type 0 where
     pub page : PageFits k o q i
-    pub old : i * 1024 < nodeAt ns k .size
+    pub old : i * PAGE-BYTES < nodeAt ns k .size
 
   abbrev pub PendingFits : Pending → Type 0
   PendingFits idle = Unit {0}
