@@ -33,7 +33,13 @@ NAME-BYTES = 32
 abbrev pub PATH-BYTES : ℕ
 PATH-BYTES = 255
 
--- descriptors are below
+-- an id's bytes; the most bytes of one read or write; descriptors are below
+abbrev pub ID-BYTES : ℕ
+ID-BYTES = 4
+
+abbrev pub DATA-BYTES : ℕ
+DATA-BYTES = 4096
+
 abbrev pub DESCRIPTORS : ℕ
 DESCRIPTORS = 1024
 

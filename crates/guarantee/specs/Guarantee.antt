@@ -1,6 +1,7 @@
 -- Demand 3 at the digest and the width that are delivered.
 -- Assumes nothing.
 use native.Mathlib.Omega.{arith}
+use Rattle.filesystem.specs.Tables.{ID-BYTES}
 use Rattle.rules.specs.Skeleton.{Config}
 use Rattle.digest.specs.Sha256.{sha256}
 use Rattle.digest.specs.Laws.{length-sha256, bytes-sha256}
@@ -9,7 +10,7 @@ use Rattle.machine.specs.Run.{first-half}
 use Rattle.machine.specs.HonestRun.{second-half}
 
 unfoldable pub delivered : Config
-delivered = record { digest = sha256; width = 4 }
+delivered = record { digest = sha256; width = ID-BYTES }
 
 delivered-fit : Fit delivered
 unfolding delivered

@@ -12,9 +12,9 @@ use Rattle.lists.specs.Equal.{equal}
 use Rattle.lists.specs.All.{All, both, none as all-none}
 use Rattle.lists.specs.LittleEndian.{encode}
 use Rattle.lists.specs.Checks.{decide-ind}
-use Rattle.filesystem.specs.Tables.{PAGE-BYTES}
+use Rattle.filesystem.specs.Tables.{DATA-BYTES, PAGE-BYTES}
 use Rattle.filesystem.specs.ImageLaws.{Digest}
-use Rattle.rules.specs.Calls.{MOST-BYTES}
+
 use Rattle.rules.specs.Pages.{pageAt, pagePart, Change, writing, first, last, fetches, sizeSent, cuts, numberOf}
 use Rattle.rules.specs.Requests.{storeLength, cutRequest, reading}
 use Rattle.rules.specs.Skeleton.{Config, Event, reply, EventBytes, done, answerBytes, requestBytes, answerLength, requestLength}
@@ -90,7 +90,7 @@ module _ (c : Config) where
         pick-ind (Gives e) (ltb i (last q)) (λ _. pick-ind (Gives e) (fetches q (sizeAt c (guard c) g k) i) (λ _. silent tt refl) (λ _. silent tt refl))
         (λ _. pick-ind (Gives e) (cuts q) (λ _. silent tt refl) (λ _. silent tt refl))
 
-    read-gives : (g : State (guard c)) (k o p n i : ℕ) (a : Gathered) → n ≤ MOST-BYTES → length (a .bytes) ≡ min (p + n) (i * 1024 + 1024) - p → pageAt p ≤ i
+    read-gives : (g : State (guard c)) (k o p n i : ℕ) (a : Gathered) → n ≤ DATA-BYTES → length (a .bytes) ≡ min (p + n) (i * 1024 + 1024) - p → pageAt p ≤ i
         → Gives e (readOn c (guard c) g k o p n i a)
     unfolding readOn answerBytes answerLength pageAt
     read-gives g k o p n i a most l from =

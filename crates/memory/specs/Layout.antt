@@ -6,19 +6,23 @@ use lib.ListN.{getD}
 use Rattle.lists.specs.LittleEndian.{decode}
 use Rattle.lists.specs.Areas.{total, areas}
 use Rattle.lists.specs.Rows.{table}
-use Rattle.filesystem.specs.Tables.{Node, OpenFile, NODES, OPEN-FILES, PAGES}
+use Rattle.filesystem.specs.Tables.{Node, OpenFile, NODES, PAGES, DIGEST-BYTES, DATA-BYTES}
 use Rattle.memory.specs.Records.{nodeOf, nodeWidth, openOf, openWidth}
 
--- the header: numbers of 8 bytes
+-- the header: numbers of 8 bytes; more than are in use
 abbrev pub headNumbers : ℕ
-headNumbers = 16
+headNumbers = 32
+
+-- rows for open files: more than the limit, so that a later one moves nothing
+abbrev pub openRows : ℕ
+openRows = 40
 
 abbrev pub digestWidth : ℕ
-digestWidth = 32
+digestWidth = DIGEST-BYTES
 
 -- the staging area: a pending call's data, then new digests
 abbrev pub dataSize : ℕ
-dataSize = 4096
+dataSize = DATA-BYTES
 
 abbrev pub newDigests : ℕ
 newDigests = 8
@@ -28,7 +32,7 @@ stagingSize = dataSize + newDigests * digestWidth
 
 -- header, nodes, open files, digests, staging area, one behind the other
 abbrev pub areaSizes : List ℕ
-areaSizes = headNumbers * 8 ∷ NODES * nodeWidth ∷ OPEN-FILES * openWidth ∷ PAGES * digestWidth ∷ stagingSize ∷ []
+areaSizes = headNumbers * 8 ∷ NODES * nodeWidth ∷ openRows * openWidth ∷ PAGES * digestWidth ∷ stagingSize ∷ []
 
 -- the least length of the slice that is the guard
 abbrev pub memorySize : ℕ
@@ -42,7 +46,7 @@ abbrev pub opensAt : ℕ
 opensAt = nodesAt + NODES * nodeWidth
 
 abbrev pub digestsAt : ℕ
-digestsAt = opensAt + OPEN-FILES * openWidth
+digestsAt = opensAt + openRows * openWidth
 
 abbrev pub stagingAt : ℕ
 stagingAt = digestsAt + PAGES * digestWidth
@@ -58,7 +62,7 @@ unfoldable pub memFrom : List (List ℕ) → Mem
 memFrom a = record {
   head = table decode 8 headNumbers (getD a 0 []);
   nodes = table nodeOf nodeWidth NODES (getD a 1 []);
-  opens = table openOf openWidth OPEN-FILES (getD a 2 []);
+  opens = table openOf openWidth openRows (getD a 2 []);
   digests = table (λ r. r) digestWidth PAGES (getD a 3 []);
   staged = getD a 4 [];
 }

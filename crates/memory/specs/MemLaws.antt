@@ -14,10 +14,10 @@ use Rattle.lists.specs.TableLaws.{length-table, table-overwrite, table-set, tab
 use Rattle.lists.specs.MapParts.{map-same}
 use Rattle.lists.specs.Areas.{total, areas}
 use Rattle.lists.specs.AreaLaws.{areas-overwrite}
-use Rattle.filesystem.specs.Tables.{Node, OpenFile, NODES, OPEN-FILES, PAGES, NAME-BYTES, noNode, noOpenFile, nodeAt, openAt, withMode, withSize, withCursor, setMode, setSize, setCursor}
+use Rattle.filesystem.specs.Tables.{Node, OpenFile, NODES, PAGES, NAME-BYTES, noNode, noOpenFile, nodeAt, openAt, withMode, withSize, withCursor, setMode, setSize, setCursor}
 use Rattle.memory.specs.Records.{field, setField, rowName, nodeOf, nodeWidth, openOf, openWidth}
 use Rattle.memory.specs.RecordLaws.{field-part, field-byte, node-with-mode, node-with-size, open-with-cursor}
-use Rattle.memory.specs.Layout.{memOf, memFrom, memorySize, areaSizes, headNumbers, digestWidth, stagingSize, dataSize, newDigests, nodesAt, opensAt, digestsAt, stagingAt, withHead, withNodes, withOpens, withDigests, withStaged}
+use Rattle.memory.specs.Layout.{memOf, memFrom, memorySize, areaSizes, headNumbers, openRows, digestWidth, stagingSize, dataSize, newDigests, nodesAt, opensAt, digestsAt, stagingAt, withHead, withNodes, withOpens, withDigests, withStaged}
 
 -- One law for each area: a write of x at b of the area changes that field of the view as it changes the area, and leaves the others.
 module _ (m x : List ℕ) (fits : memorySize ≤ length m) (b : ℕ) where
@@ -33,7 +33,7 @@ module _ (m x : List ℕ) (fits : memorySize ≤ length m) (b : ℕ) where
   unfolding memOf memFrom
   in-nodes y h e = written (nodesAt + b) 1 (omega arith) (omega arith) h ∙ ap (λ (r : List Node). withNodes r (memOf m)) e
 
-  in-opens : (y : List OpenFile) → b + length x ≤ OPEN-FILES * openWidth → table openOf openWidth OPEN-FILES (overwrite (part opensAt (OPEN-FILES * openWidth) m) b x) ≡ y → memOf (overwrite m (opensAt + b) x) ≡ withOpens y (memOf m)
+  in-opens : (y : List OpenFile) → b + length x ≤ openRows * openWidth → table openOf openWidth openRows (overwrite (part opensAt (openRows * openWidth) m) b x) ≡ y → memOf (overwrite m (opensAt + b) x) ≡ withOpens y (memOf m)
   unfolding memOf memFrom
   in-opens y h e = written (opensAt + b) 2 (omega arith) (omega arith) h ∙ ap (λ (r : List OpenFile). withOpens r (memOf m)) e
 
@@ -66,17 +66,17 @@ module _ (m x : List ℕ) (fits : memorySize ≤ length m) (i : ℕ) where
       (table-within nodeOf nodeWidth NODES (part nodesAt (NODES * nodeWidth) m) i k x e h (whole nodesAt (NODES * nodeWidth) (omega arith))
       ∙ ap (λ (r : List ℕ). set (memOf m .nodes) i (nodeOf (overwrite r k x))) (part-part nodesAt (NODES * nodeWidth) (i * nodeWidth) nodeWidth m (omega arith)))
 
-  pub mem-open : length x ≡ openWidth → i < OPEN-FILES → memOf (overwrite m (opensAt + i * openWidth) x) ≡ withOpens (set (memOf m .opens) i (openOf x)) (memOf m)
+  pub mem-open : length x ≡ openWidth → i < openRows → memOf (overwrite m (opensAt + i * openWidth) x) ≡ withOpens (set (memOf m .opens) i (openOf x)) (memOf m)
   unfolding memOf memFrom
-  mem-open e h = in-opens m x fits (i * openWidth) _ (omega arith) (table-set openOf openWidth OPEN-FILES (part opensAt (OPEN-FILES * openWidth) m) i x e h (whole opensAt (OPEN-FILES * openWidth) (omega arith)))
+  mem-open e h = in-opens m x fits (i * openWidth) _ (omega arith) (table-set openOf openWidth openRows (part opensAt (openRows * openWidth) m) i x e h (whole opensAt (openRows * openWidth) (omega arith)))
 
-  pub mem-open-field : (k : ℕ) → k + length x ≤ openWidth → i < OPEN-FILES → memOf (overwrite m (opensAt + i * openWidth + k) x) ≡ withOpens (set (memOf m .opens) i (openOf (overwrite (part (opensAt + i * openWidth) openWidth m) k x))) (memOf m)
+  pub mem-open-field : (k : ℕ) → k + length x ≤ openWidth → i < openRows → memOf (overwrite m (opensAt + i * openWidth + k) x) ≡ withOpens (set (memOf m .opens) i (openOf (overwrite (part (opensAt + i * openWidth) openWidth m) k x))) (memOf m)
   unfolding memOf memFrom
   mem-open-field k e h =
       ap (λ (a : ℕ). memOf (overwrite m a x)) (add-assoc opensAt (i * openWidth) k)
       ∙ in-opens m x fits (i * openWidth + k) _ (omega arith)
-      (table-within openOf openWidth OPEN-FILES (part opensAt (OPEN-FILES * openWidth) m) i k x e h (whole opensAt (OPEN-FILES * openWidth) (omega arith))
-      ∙ ap (λ (r : List ℕ). set (memOf m .opens) i (openOf (overwrite r k x))) (part-part opensAt (OPEN-FILES * openWidth) (i * openWidth) openWidth m (omega arith)))
+      (table-within openOf openWidth openRows (part opensAt (openRows * openWidth) m) i k x e h (whole opensAt (openRows * openWidth) (omega arith))
+      ∙ ap (λ (r : List ℕ). set (memOf m .opens) i (openOf (overwrite r k x))) (part-part opensAt (openRows * openWidth) (i * openWidth) openWidth m (omega arith)))
 
   pub mem-digest : length x ≡ digestWidth → i < PAGES → memOf (overwrite m (digestsAt + i * digestWidth) x) ≡ withDigests (set (memOf m .digests) i x) (memOf m)
   unfolding memOf memFrom
@@ -95,11 +95,11 @@ module _ (m : List ℕ) (fits : memorySize ≤ length m) (from to n : ℕ) where
       let e = size nodesAt nodeWidth NODES h (omega arith) in
       in-nodes m (part (nodesAt + from * nodeWidth) (n * nodeWidth) m) fits (to * nodeWidth) _ (omega arith) (table-move nodeOf nodeWidth NODES nodesAt m from to n h g (omega arith))
 
-  pub mem-opens-move : from + n ≤ OPEN-FILES → to + n ≤ OPEN-FILES → memOf (overwrite m (opensAt + to * openWidth) (part (opensAt + from * openWidth) (n * openWidth) m)) ≡ withOpens (overwrite (memOf m .opens) to (part from n (memOf m .opens))) (memOf m)
+  pub mem-opens-move : from + n ≤ openRows → to + n ≤ openRows → memOf (overwrite m (opensAt + to * openWidth) (part (opensAt + from * openWidth) (n * openWidth) m)) ≡ withOpens (overwrite (memOf m .opens) to (part from n (memOf m .opens))) (memOf m)
   unfolding memOf memFrom
   mem-opens-move h g =
-      let e = size opensAt openWidth OPEN-FILES h (omega arith) in
-      in-opens m (part (opensAt + from * openWidth) (n * openWidth) m) fits (to * openWidth) _ (omega arith) (table-move openOf openWidth OPEN-FILES opensAt m from to n h g (omega arith))
+      let e = size opensAt openWidth openRows h (omega arith) in
+      in-opens m (part (opensAt + from * openWidth) (n * openWidth) m) fits (to * openWidth) _ (omega arith) (table-move openOf openWidth openRows opensAt m from to n h g (omega arith))
 
   pub mem-digests-move : from + n ≤ PAGES → to + n ≤ PAGES → memOf (overwrite m (digestsAt + to * digestWidth) (part (digestsAt + from * digestWidth) (n * digestWidth) m)) ≡ withDigests (overwrite (memOf m .digests) to (part from n (memOf m .digests))) (memOf m)
   unfolding memOf memFrom
@@ -147,9 +147,9 @@ module _ (m : List ℕ) (i : ℕ) where
       ∙ part-part a nodeWidth 23 (field 22 1 (part a nodeWidth m) % 33) m (omega arith)
       ∙ ap (λ (k : ℕ). part (a + 23) (k % 33) m) e
 
-  pub open-at : i < OPEN-FILES → openAt (memOf m .opens) i ≡ openOf (part (opensAt + i * openWidth) openWidth m)
+  pub open-at : i < openRows → openAt (memOf m .opens) i ≡ openOf (part (opensAt + i * openWidth) openWidth m)
   unfolding memOf memFrom openAt
-  open-at h = ap (getD (memOf m .opens) i) (sym no-open) ∙ table-at openOf openWidth OPEN-FILES opensAt m i h
+  open-at h = ap (getD (memOf m .opens) i) (sym no-open) ∙ table-at openOf openWidth openRows opensAt m i h
 
   pub digest-at : i < PAGES → getD (memOf m .digests) i [] ≡ part (digestsAt + i * digestWidth) digestWidth m
   unfolding memOf memFrom
@@ -179,7 +179,7 @@ module _ (m : List ℕ) (fits : memorySize ≤ length m) (i x : ℕ) where
       mem-node-field m (encode 4 x) fits i 18 (omega arith) h
       ∙ ap (λ (y : Node). withNodes (set (memOf m .nodes) i y) (memOf m)) (node-with-size x r (omega arith) f ∙ ap (withSize x) (sym (node-at m i h)))
 
-  pub mem-cursor : i < OPEN-FILES → x < 256 ^ 4 → memOf (overwrite m (opensAt + i * openWidth + 16) (encode 4 x)) ≡ withOpens (setCursor (memOf m .opens) i x) (memOf m)
+  pub mem-cursor : i < openRows → x < 256 ^ 4 → memOf (overwrite m (opensAt + i * openWidth + 16) (encode 4 x)) ≡ withOpens (setCursor (memOf m .opens) i x) (memOf m)
   unfolding setCursor setField
   mem-cursor h f =
       let r = part (opensAt + i * openWidth) openWidth m in
@@ -198,9 +198,9 @@ module _ (m : List ℕ) where
   unfolding memOf memFrom
   length-nodes = length-table nodeOf nodeWidth NODES (part nodesAt (NODES * nodeWidth) m)
 
-  pub length-opens : length (memOf m .opens) ≡ OPEN-FILES
+  pub length-opens : length (memOf m .opens) ≡ openRows
   unfolding memOf memFrom
-  length-opens = length-table openOf openWidth OPEN-FILES (part opensAt (OPEN-FILES * openWidth) m)
+  length-opens = length-table openOf openWidth openRows (part opensAt (openRows * openWidth) m)
 
   pub length-digests : length (memOf m .digests) ≡ PAGES
   unfolding memOf memFrom

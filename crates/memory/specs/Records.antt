@@ -1,11 +1,11 @@
 -- A row of bytes as a record: where each field of a node and of an open file stands.
 -- Assumes nothing.
-use Prim.Native.Nat.{ℕ, _-_, _%_}
+use Prim.Native.Nat.{ℕ, _+_, _-_, _%_}
 use mathlib.Core.List.{List, [], _∷_, _++_}
 use lib.ListN.{length, replicate}
 use Rattle.lists.specs.LittleEndian.{encode, decode}
 use Rattle.lists.specs.Parts.{part, overwrite}
-use Rattle.filesystem.specs.Tables.{Node, OpenFile}
+use Rattle.filesystem.specs.Tables.{NAME-BYTES, Node, OpenFile}
 
 -- the number in w bytes from `at`
 unfoldable pub field : ℕ → ℕ → List ℕ → ℕ
@@ -19,9 +19,9 @@ setField at w x r = overwrite r at (encode w x)
 abbrev pub nodeWidth : ℕ
 nodeWidth = 56
 
--- a name has at most 32 bytes, whatever its length byte holds
+-- a name keeps its limit, whatever its length byte holds
 unfoldable pub rowName : List ℕ → List ℕ
-rowName r = part 23 (field 22 1 r % 33) r
+rowName r = part 23 (field 22 1 r % (NAME-BYTES + 1)) r
 
 unfoldable pub nodeOf : List ℕ → Node
 nodeOf r = record { id = field 0 8 r; parent = field 8 8 r; kind = field 16 1 r; mode = field 17 1 r; size = field 18 4 r; name = rowName r }
@@ -31,7 +31,7 @@ unfoldable pub nodeFront : (id parent kind mode size n : ℕ) → List ℕ
 nodeFront id parent kind mode size n = encode 8 id ++ (encode 8 parent ++ (kind ∷ mode ∷ (encode 4 size ++ (n ∷ []))))
 
 unfoldable pub nodeRow : Node → List ℕ
-nodeRow n = nodeFront (n .id) (n .parent) (n .kind) (n .mode) (n .size) (length (n .name)) ++ (n .name ++ replicate (33 - length (n .name)) 0)
+nodeRow n = nodeFront (n .id) (n .parent) (n .kind) (n .mode) (n .size) (length (n .name)) ++ (n .name ++ replicate (NAME-BYTES + 1 - length (n .name)) 0)
 
 -- Open files: rows of 24 bytes, 13 to 15 and the last four spare.
 abbrev pub openWidth : ℕ

@@ -7,28 +7,37 @@ ghost use lib.ListN.{length, getD, take, set};
 ghost use Rattle.lists.specs.Parts.{part, overwrite};
 ghost use Rattle.lists.specs.Rows.{rows};
 ghost use Rattle.lists.specs.Form.{put-all, bytes};
-ghost use Rattle.filesystem.specs.Tables.{NODES, OPEN-FILES, PAGES, nodeAt, openAt, isChild, newNode, newOpenFile, withSize, withCursor, setMode, setSize, setCursor};
+ghost use Rattle.filesystem.specs.Tables.{NODES, PAGES, NAME-BYTES, DIGEST-BYTES, nodeAt, openAt, isChild, newNode, newOpenFile, withSize, withCursor, setMode, setSize, setCursor};
 ghost use Rattle.memory.specs.Records.{nodeFront, nodeOf, openOf};
-ghost use Rattle.memory.specs.Layout.{Mem, memOf, memorySize, headNumbers, digestWidth, dataSize, newDigests, stagingSize, withHead, withNodes, withOpens, withDigests, withStaged};
+ghost use Rattle.memory.specs.Layout.{Mem, memOf, memorySize, headNumbers, openRows, digestWidth, dataSize, newDigests, stagingSize, withHead, withNodes, withOpens, withDigests, withStaged};
 
 // The length that the slice needs; `least_length` says that contracts mean the same by `memorySize`.
-pub const SIZE: usize = 52352;
+pub const SIZE: usize = STAGING_AT + DATA_SIZE + NEW_DIGESTS * DIGEST_WIDTH;
 
-const NODES_AT: usize = 128;
+// The header's numbers, 8 bytes each; more than are in use, so that a later table moves nothing.
+pub const HEAD_NUMBERS: usize = 32;
 
-const NODE_WIDTH: usize = 56;
+// Rows for open files: more than document 01's limit, so that a later limit moves nothing.
+pub const OPEN_ROWS: usize = 40;
 
-const OPENS_AT: usize = 14464;
+// Room for the digests of the pages that one call changes.
+pub const NEW_DIGESTS: usize = 8;
 
-const OPEN_WIDTH: usize = 24;
+pub const NODE_WIDTH: usize = 56;
 
-const DIGESTS_AT: usize = 15232;
+pub const OPEN_WIDTH: usize = 24;
 
-const DIGEST_WIDTH: usize = 32;
+const DIGEST_WIDTH: usize = limits::DIGEST_BYTES;
 
-const STAGING_AT: usize = 48000;
+const DATA_SIZE: usize = limits::DATA_BYTES;
 
-const DATA_SIZE: usize = 4096;
+const NODES_AT: usize = HEAD_NUMBERS * 8;
+
+const OPENS_AT: usize = NODES_AT + limits::NODES * NODE_WIDTH;
+
+const DIGESTS_AT: usize = OPENS_AT + OPEN_ROWS * OPEN_WIDTH;
+
+const STAGING_AT: usize = DIGESTS_AT + limits::PAGES * DIGEST_WIDTH;
 
 pub fn least_length() -> usize
     ensures { λ r. ⌜ r ≡ memorySize ⌝ }
@@ -92,19 +101,19 @@ pub fn node_size(m: &[u8], i: usize) -> u32
     numbers::u32_at(m, NODES_AT + i * NODE_WIDTH + 18)
 }
 
-// A length byte as a length: at most 32, whatever the byte holds.
+// A length byte as a length: within a name's limit, whatever the byte holds.
 fn name_length(b: u8) -> usize
-    ensures { λ r. ⌜ r ≡ b % 33 ⌝ }
+    ensures { λ r. ⌜ r ≡ b % (NAME-BYTES + 1) ⌝ }
 {
-    if b < 33 {
+    if (b as usize) <= limits::NAME_BYTES {
         return b as usize;
     }
-    (b % 33) as usize
+    b as usize % (limits::NAME_BYTES + 1)
 }
 
 pub fn node_name(m: &[u8], i: usize) -> &[u8]
     requires { ⌜ (i < NODES) × (memorySize ≤ length (now m)) ⌝ }
-    ensures { λ r. ⌜ (now r ≡ nodeAt (memOf (now (m .entry)) .nodes) i .name) × (length (now r) ≤ 32) ⌝ }
+    ensures { λ r. ⌜ (now r ≡ nodeAt (memOf (now (m .entry)) .nodes) i .name) × (length (now r) ≤ NAME-BYTES) ⌝ }
 {
     let at = NODES_AT + i * NODE_WIDTH;
     let n = name_length(m[at + 22]);
@@ -159,18 +168,18 @@ fn node_front(id: u64, parent: u64, kind: u8, mode: u8, size: u32, n: u8) -> [u8
 }
 
 // A node's row.
-pub fn node_row(id: u64, parent: u64, kind: u8, mode: u8, size: u32, name: &[u8]) -> [u8; 56]
-    requires { ⌜ length (now name) ≤ 32 ⌝ }
+pub fn node_row(id: u64, parent: u64, kind: u8, mode: u8, size: u32, name: &[u8]) -> [u8; NODE_WIDTH]
+    requires { ⌜ length (now name) ≤ NAME-BYTES ⌝ }
     ensures { λ r. ⌜ nodeOf r ≡ withSize size (newNode id parent kind mode (now (name .entry))) ⌝ }
 {
     let front = node_front(id, parent, kind, mode, size, name.len() as u8);
-    let mut r = [0u8; 56];
+    let mut r = [0u8; NODE_WIDTH];
     buffers::put_bytes(&mut r, 0, &front);
     buffers::put(&mut r, 23, name);
     r
 }
 
-pub fn put_node(m: &mut [u8], i: usize, row: [u8; 56])
+pub fn put_node(m: &mut [u8], i: usize, row: [u8; NODE_WIDTH])
     requires { ⌜ (i < NODES) × (memorySize ≤ length (now m)) ⌝ }
     ensures { λ _. ⌜ memOf (now (m .exit)) ≡ withNodes (set (memOf (now (m .entry)) .nodes) i (nodeOf row)) (memOf (now (m .entry))) ⌝ }
     ensures { λ _. ⌜ length (now (m .exit)) ≡ length (now (m .entry)) ⌝ }
@@ -211,35 +220,35 @@ pub fn move_nodes(m: &mut [u8], from: usize, to: usize, n: usize)
 // ---- open files
 
 pub fn open_handle(m: &[u8], i: usize) -> u64
-    requires { ⌜ (i < OPEN-FILES) × (memorySize ≤ length (now m)) ⌝ }
+    requires { ⌜ (i < openRows) × (memorySize ≤ length (now m)) ⌝ }
     ensures { λ r. ⌜ r ≡ openAt (memOf (now (m .entry)) .opens) i .handle ⌝ }
 {
     numbers::u64_at(m, OPENS_AT + i * OPEN_WIDTH)
 }
 
 pub fn open_descriptor(m: &[u8], i: usize) -> u32
-    requires { ⌜ (i < OPEN-FILES) × (memorySize ≤ length (now m)) ⌝ }
+    requires { ⌜ (i < openRows) × (memorySize ≤ length (now m)) ⌝ }
     ensures { λ r. ⌜ r ≡ openAt (memOf (now (m .entry)) .opens) i .descriptor ⌝ }
 {
     numbers::u32_at(m, OPENS_AT + i * OPEN_WIDTH + 8)
 }
 
 pub fn open_rights(m: &[u8], i: usize) -> u8
-    requires { ⌜ (i < OPEN-FILES) × (memorySize ≤ length (now m)) ⌝ }
+    requires { ⌜ (i < openRows) × (memorySize ≤ length (now m)) ⌝ }
     ensures { λ r. ⌜ r ≡ openAt (memOf (now (m .entry)) .opens) i .rights ⌝ }
 {
     m[OPENS_AT + i * OPEN_WIDTH + 12]
 }
 
 pub fn open_cursor(m: &[u8], i: usize) -> u32
-    requires { ⌜ (i < OPEN-FILES) × (memorySize ≤ length (now m)) ⌝ }
+    requires { ⌜ (i < openRows) × (memorySize ≤ length (now m)) ⌝ }
     ensures { λ r. ⌜ r ≡ openAt (memOf (now (m .entry)) .opens) i .cursor ⌝ }
 {
     numbers::u32_at(m, OPENS_AT + i * OPEN_WIDTH + 16)
 }
 
 // An open file's row.
-pub fn open_row(handle: u64, descriptor: u32, rights: u8, cursor: u32) -> [u8; 24]
+pub fn open_row(handle: u64, descriptor: u32, rights: u8, cursor: u32) -> [u8; OPEN_WIDTH]
     ensures { λ r. ⌜ openOf r ≡ withCursor cursor (newOpenFile handle descriptor rights) ⌝ }
 {
     let h = numbers::bytes8(handle);
@@ -273,8 +282,8 @@ pub fn open_row(handle: u64, descriptor: u32, rights: u8, cursor: u32) -> [u8; 2
     ]
 }
 
-pub fn put_open(m: &mut [u8], i: usize, row: [u8; 24])
-    requires { ⌜ (i < OPEN-FILES) × (memorySize ≤ length (now m)) ⌝ }
+pub fn put_open(m: &mut [u8], i: usize, row: [u8; OPEN_WIDTH])
+    requires { ⌜ (i < openRows) × (memorySize ≤ length (now m)) ⌝ }
     ensures { λ _. ⌜ memOf (now (m .exit)) ≡ withOpens (set (memOf (now (m .entry)) .opens) i (openOf row)) (memOf (now (m .entry))) ⌝ }
     ensures { λ _. ⌜ length (now (m .exit)) ≡ length (now (m .entry)) ⌝ }
 {
@@ -282,7 +291,7 @@ pub fn put_open(m: &mut [u8], i: usize, row: [u8; 24])
 }
 
 pub fn set_cursor(m: &mut [u8], i: usize, cursor: u32)
-    requires { ⌜ (i < OPEN-FILES) × (memorySize ≤ length (now m)) ⌝ }
+    requires { ⌜ (i < openRows) × (memorySize ≤ length (now m)) ⌝ }
     ensures { λ _. ⌜ memOf (now (m .exit)) ≡ withOpens (setCursor (memOf (now (m .entry)) .opens) i cursor) (memOf (now (m .entry))) ⌝ }
     ensures { λ _. ⌜ length (now (m .exit)) ≡ length (now (m .entry)) ⌝ }
 {
@@ -291,7 +300,7 @@ pub fn set_cursor(m: &mut [u8], i: usize, cursor: u32)
 }
 
 pub fn move_opens(m: &mut [u8], from: usize, to: usize, n: usize)
-    requires { ⌜ (from + n ≤ OPEN-FILES) × (to + n ≤ OPEN-FILES) × (memorySize ≤ length (now m)) ⌝ }
+    requires { ⌜ (from + n ≤ openRows) × (to + n ≤ openRows) × (memorySize ≤ length (now m)) ⌝ }
     ensures { λ _. ⌜ memOf (now (m .exit)) ≡ withOpens (overwrite (memOf (now (m .entry)) .opens) to (part from n (memOf (now (m .entry)) .opens))) (memOf (now (m .entry))) ⌝ }
     ensures { λ _. ⌜ length (now (m .exit)) ≡ length (now (m .entry)) ⌝ }
 {
@@ -307,14 +316,14 @@ pub fn move_opens(m: &mut [u8], from: usize, to: usize, n: usize)
 
 pub fn digest(m: &[u8], k: usize) -> &[u8]
     requires { ⌜ (k < PAGES) × (memorySize ≤ length (now m)) ⌝ }
-    ensures { λ r. ⌜ (now r ≡ getD (memOf (now (m .entry)) .digests) k []) × (length (now r) ≡ 32) ⌝ }
+    ensures { λ r. ⌜ (now r ≡ getD (memOf (now (m .entry)) .digests) k []) × (length (now r) ≡ DIGEST-BYTES) ⌝ }
 {
     let at = DIGESTS_AT + k * DIGEST_WIDTH;
     let end = at + DIGEST_WIDTH;
     &m[at..end]
 }
 
-pub fn put_digest(m: &mut [u8], k: usize, x: [u8; 32])
+pub fn put_digest(m: &mut [u8], k: usize, x: [u8; DIGEST_WIDTH])
     requires { ⌜ (k < PAGES) × (memorySize ≤ length (now m)) ⌝ }
     ensures { λ _. ⌜ memOf (now (m .exit)) ≡ withDigests (set (memOf (now (m .entry)) .digests) k x) (memOf (now (m .entry))) ⌝ }
     ensures { λ _. ⌜ length (now (m .exit)) ≡ length (now (m .entry)) ⌝ }
@@ -374,7 +383,7 @@ pub fn stage(m: &mut [u8], at: usize, x: &[u8])
 }
 
 // Digest k of the new ones in the staging area.
-pub fn stage_digest(m: &mut [u8], k: usize, x: [u8; 32])
+pub fn stage_digest(m: &mut [u8], k: usize, x: [u8; DIGEST_WIDTH])
     requires { ⌜ (k < newDigests) × (memorySize ≤ length (now m)) ⌝ }
     ensures { λ _. ⌜ memOf (now (m .exit)) ≡ withStaged (overwrite (memOf (now (m .entry)) .staged) (dataSize + k * digestWidth) x) (memOf (now (m .entry))) ⌝ }
     ensures { λ _. ⌜ length (now (m .exit)) ≡ length (now (m .entry)) ⌝ }

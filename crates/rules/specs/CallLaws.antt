@@ -15,9 +15,10 @@ use Rattle.lists.specs.All.{All, both, none as all-none, Bytes, all-tail, all-l
 use Rattle.lists.specs.Search.{every}
 use Rattle.lists.specs.LittleEndian.{encode}
 use Rattle.lists.specs.Form.{num, then, bind, bind-some, pick-some, some≢none, whole-read-back, whole-was-written}
+use Rattle.filesystem.specs.Tables.{DATA-BYTES}
 use Rattle.filesystem.specs.Paths.{Path, joined, pathBytes, componentForm}
 use Rattle.filesystem.specs.PathLaws.{readPath-pathBytes, readPath-was-bytes}
-use Rattle.rules.specs.Calls.{MOST-BYTES, Call, create, mkdir, openAs, close, seek, read, write, truncate, remove, rmdir, chmod, readdir, stat, callBytes, byPath, byNumberAndPath, byHandle, byHandleAndNumber, byHandleAndBytes, readFields, readCall}
+use Rattle.rules.specs.Calls.{Call, create, mkdir, openAs, close, seek, read, write, truncate, remove, rmdir, chmod, readdir, stat, callBytes, byPath, byNumberAndPath, byHandle, byHandleAndNumber, byHandleAndBytes, readFields, readCall}
 
 pub record PathFits (p : Path) : Type 0 where
   pub form : every componentForm p ≡ true
@@ -30,8 +31,8 @@ CallFits w (mkdir m p) = (m ≤ 7) × PathFits p
 CallFits w (openAs r p) = ((1 ≤ r) × (r ≤ 3)) × PathFits p
 CallFits w (close h) = h < 256 ^ w
 CallFits w (seek h n) = (h < 256 ^ w) × (n < 256 ^ 8)
-CallFits w (read h n) = (h < 256 ^ w) × (n ≤ MOST-BYTES)
-CallFits w (write h d) = (h < 256 ^ w) × ((length d ≤ MOST-BYTES) × Bytes d)
+CallFits w (read h n) = (h < 256 ^ w) × (n ≤ DATA-BYTES)
+CallFits w (write h d) = (h < 256 ^ w) × ((length d ≤ DATA-BYTES) × Bytes d)
 CallFits w (truncate h n) = (h < 256 ^ w) × (n < 256 ^ 8)
 CallFits w (remove p) = PathFits p
 CallFits w (rmdir p) = PathFits p
@@ -88,12 +89,12 @@ module _ (w : ℕ) where
       (p .0, p .1, z, q, o .0, o .1, t)
 
   handle-bytes-written : (make : ℕ → List ℕ → Call) (s : List ℕ) (c : Call) → Bytes s → byHandleAndBytes w make s ≡ some c
-      → (h : ℕ) × (d : List ℕ) × (make h d ≡ c) × (s ≡ encode w h ++ d) × (h < 256 ^ w) × (length d ≤ MOST-BYTES) × Bytes d
+      → (h : ℕ) × (d : List ℕ) × (make h d ≡ c) × (s ≡ encode w h ++ d) × (h < 256 ^ w) × (length d ≤ DATA-BYTES) × Bytes d
   unfolding byHandleAndBytes
   handle-bytes-written make s c b e =
       let (p, ep, e₂) = bind-some _ _ _ e in
       let (o, q, r) = num w .was-written s (p .0) (p .1) b ep in
-      let (t, z) = pick-some (leb (length (p .1)) MOST-BYTES) (make (p .0) (p .1)) c e₂ in
+      let (t, z) = pick-some (leb (length (p .1)) DATA-BYTES) (make (p .0) (p .1)) c e₂ in
       (p .0, p .1, z, q, o, leb-true _ _ t, r)
 
   -- one arm of the list of kinds, and the arms after it
@@ -128,7 +129,7 @@ module _ (w : ℕ) where
       (arm kind 3 s c _ _ (with-number-path 3 1 3 openAs s c b (λ n p. refl) (λ n p h f. (h, f)))
       (arm kind 4 s c _ _ (λ e. let (h, z, q, x) = handle-written close s c b e in subst (λ c. Written (4 ∷ s) c) z (ap (λ l. 4 ∷ l) q, x))
       (arm kind 5 s c _ _ (with-handle-number 5 8 (λ n. true) seek s c b (λ h n. refl) (λ h n x y t. (x, y)))
-      (arm kind 6 s c _ _ (with-handle-number 6 4 (λ n. leb n MOST-BYTES) read s c b (λ h n. refl) (λ h n x y t. (x, leb-true _ _ t)))
+      (arm kind 6 s c _ _ (with-handle-number 6 4 (λ n. leb n DATA-BYTES) read s c b (λ h n. refl) (λ h n x y t. (x, leb-true _ _ t)))
       (arm kind 7 s c _ _ (λ e. let (h, d, z, q, x, y, r) = handle-bytes-written write s c b e in subst (λ c. Written (7 ∷ s) c) z (ap (λ l. 7 ∷ l) q, (x, (y, r))))
       (arm kind 8 s c _ _ (with-handle-number 8 8 (λ n. true) truncate s c b (λ h n. refl) (λ h n x y t. (x, y)))
       (arm kind 9 s c _ _ (with-path 9 remove s c b (λ p. refl) (λ p f. f))
@@ -161,7 +162,7 @@ module _ (w : ℕ) where
   unfolding byHandleAndNumber bind
   handle-number-read v f make h n x y t = rw (whole-read-back (then (num w) (λ _. num v)) (h, n) (x, y)) (pick-true _ _ _ t)
 
-  handle-bytes-read : (make : ℕ → List ℕ → Call) (h : ℕ) (d : List ℕ) → h < 256 ^ w → length d ≤ MOST-BYTES → byHandleAndBytes w make (encode w h ++ d) ≡ some (make h d)
+  handle-bytes-read : (make : ℕ → List ℕ → Call) (h : ℕ) (d : List ℕ) → h < 256 ^ w → length d ≤ DATA-BYTES → byHandleAndBytes w make (encode w h ++ d) ≡ some (make h d)
   unfolding byHandleAndBytes bind
   handle-bytes-read make h d x y = rw (num w .read-back h d x) (pick-true _ _ _ (le-leb _ _ y))
 
@@ -172,7 +173,7 @@ module _ (w : ℕ) where
   call-read-back (openAs r p) (h, f) = number-path-read 1 3 openAs r p h f
   call-read-back (close h) x = handle-read close h x
   call-read-back (seek h n) (x, y) = handle-number-read 8 (λ n. true) seek h n x y refl
-  call-read-back (read h n) (x, y) = handle-number-read 4 (λ n. leb n MOST-BYTES) read h n x (omega arith) (le-leb _ _ y)
+  call-read-back (read h n) (x, y) = handle-number-read 4 (λ n. leb n DATA-BYTES) read h n x (omega arith) (le-leb _ _ y)
   call-read-back (write h d) (x, (y, b)) = handle-bytes-read write h d x y
   call-read-back (truncate h n) (x, y) = handle-number-read 8 (λ n. true) truncate h n x y refl
   call-read-back (remove p) f = path-read remove p f

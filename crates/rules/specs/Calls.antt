@@ -9,10 +9,8 @@ use lib.ListN.{length}
 use Rattle.lists.specs.Pick.{pick}
 use Rattle.lists.specs.LittleEndian.{encode}
 use Rattle.lists.specs.Form.{num, then, bind, whole}
+use Rattle.filesystem.specs.Tables.{DATA-BYTES}
 use Rattle.filesystem.specs.Paths.{Path, pathBytes, readPath}
-
-abbrev pub MOST-BYTES : ℕ
-MOST-BYTES = 4096
 
 -- document 01's slips; `openAs` is its open
 pub data Call : Type 0 where
@@ -58,7 +56,7 @@ unfoldable pub byHandleAndNumber : (w v : ℕ) → (ℕ → Bool) → (ℕ → �
 byHandleAndNumber w v allowed make s = bind (whole (then (num w) (λ _. num v)) s) (λ p. pick (allowed (p .1)) (some (make (p .0) (p .1))) none)
 
 unfoldable pub byHandleAndBytes : ℕ → (ℕ → List ℕ → Call) → List ℕ → Option Call
-byHandleAndBytes w make s = bind (num w .get s) (λ p. pick (leb (length (p .1)) MOST-BYTES) (some (make (p .0) (p .1))) none)
+byHandleAndBytes w make s = bind (num w .get s) (λ p. pick (leb (length (p .1)) DATA-BYTES) (some (make (p .0) (p .1))) none)
 
 unfoldable pub readFields : ℕ → (kind : ℕ) → List ℕ → Option Call
 readFields w kind s =
@@ -67,7 +65,7 @@ readFields w kind s =
     (pick (eqb kind 3) (byNumberAndPath 1 3 openAs s)
     (pick (eqb kind 4) (byHandle w close s)
     (pick (eqb kind 5) (byHandleAndNumber w 8 (λ n. Bool.true) seek s)
-    (pick (eqb kind 6) (byHandleAndNumber w 4 (λ n. leb n MOST-BYTES) read s)
+    (pick (eqb kind 6) (byHandleAndNumber w 4 (λ n. leb n DATA-BYTES) read s)
     (pick (eqb kind 7) (byHandleAndBytes w write s)
     (pick (eqb kind 8) (byHandleAndNumber w 8 (λ n. Bool.true) truncate s)
     (pick (eqb kind 9) (byPath remove s)

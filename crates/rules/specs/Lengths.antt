@@ -20,11 +20,11 @@ use Rattle.lists.specs.LittleEndian.{encode, length-encode}
 use Rattle.lists.specs.Form.{put-all}
 use Rattle.lists.specs.Rearranged.{rearranged-length, rearranged-all, rearranged-self}
 use Rattle.lists.specs.Checks.{Passed, decide-ind}
-use Rattle.filesystem.specs.Tables.{NAME-BYTES, PATH-BYTES, PAGE-BYTES, Node, noNode, Tables, hasParent, nodeAt, children}
+use Rattle.filesystem.specs.Tables.{DATA-BYTES, NAME-BYTES, PATH-BYTES, PAGE-BYTES, Node, noNode, Tables, hasParent, nodeAt, children}
 use Rattle.filesystem.specs.Paths.{Path, pathBytes, tooLong}
 use Rattle.filesystem.specs.LongestImage.{leafName, leaf, full, full-sound, full-named}
 use Rattle.filesystem.specs.Sound.{Sound, to-sound, limits-at, root-parent, name-short}
-use Rattle.rules.specs.Calls.{MOST-BYTES, Call, create, mkdir, openAs, close, seek, read, write, truncate, remove, rmdir, chmod, readdir, stat, callBytes, readCall}
+use Rattle.rules.specs.Calls.{Call, create, mkdir, openAs, close, seek, read, write, truncate, remove, rmdir, chmod, readdir, stat, callBytes, readCall}
 use Rattle.rules.specs.CallLaws.{CallFits, call-was-written}
 use Rattle.rules.specs.Pages.{pageAt, part, pagePart, overlay, Change, writing, shrinking, fill}
 use Rattle.rules.specs.Requests.{storeLength, asked, closeRequest, fetchRequest, storeRequest, Pending, idle, creating, opening, closing, removing, changing, listing, stating, reading, fetching, storing, cutting}
@@ -92,7 +92,7 @@ longest-listing =
 abbrev pub Gathers : Pending → List ℕ → Type 0
 Gathers idle b = Unit {0}
 Gathers (asked x) b = Unit {0}
-Gathers (reading k o p n i) b = (n ≤ MOST-BYTES) × (length b ≡ max p (i * 1024) - p)
+Gathers (reading k o p n i) b = (n ≤ DATA-BYTES) × (length b ≡ max p (i * 1024) - p)
 Gathers (fetching k o q i) b = Unit {0}
 Gathers (storing k o q i) b = Unit {0}
 Gathers (cutting k o q) b = Unit {0}
@@ -130,7 +130,7 @@ module _ (c : Config) (t : Tables) where
   no-bytes : 0 ≤ answerLength c
   no-bytes = omega arith
 
-  reading-modest : (h n : ℕ) → n ≤ MOST-BYTES → Modest c (readAction t (c .width) h n)
+  reading-modest : (h n : ℕ) → n ≤ DATA-BYTES → Modest c (readAction t (c .width) h n)
   unfolding readAction pageAt
   reading-modest h n l = pick-ind (Modest c) (eqb n 0) (λ _. no-bytes) (λ _. (fetch-short c _ _, (l, omega arith)))
 
