@@ -20,12 +20,13 @@ use Rattle.filesystem.specs.Tables.{newNode, root, withSize, pagesFor, pageTota
 use Rattle.filesystem.specs.Rights.{coverTable, covers}
 use Rattle.filesystem.specs.Paths.{joined, pathBytes, componentForm, onto, split, afterSlash, readPath, tooLong, childAt, walk, walkChecks, parentChecks, parentOf, lastOf}
 use Rattle.filesystem.specs.Image.{nodeForm, imageForm, flatten, divide, climb, pathLength, inLimits, parentsEarlier, soundNodes, sound, print, recordsLength, imageLength, parse}
+use Rattle.filesystem.specs.Digests.{replaced}
 use Rattle.rules.specs.Calls.{callBytes, byPath, byNumberAndPath, byHandle, byHandleAndNumber, byHandleAndBytes, readFields, readCall}
 use Rattle.rules.specs.Pages.{pageAt, pageOf, part, resized, splice, overlay, pagePart, first, last, fetches, fill, sizeSent, cuts, bytesAfter, sizeAfter, cursorAfter, numberOf}
 use Rattle.rules.specs.Requests.{storeLength, closeRequest, fetchRequest, storeRequest}
 use Rattle.rules.specs.Rules.{noRoom, callChecks, readAction, callAction, isNumber, isDescriptor, replyChecks, replyAction, isIdle, callOr, imageOr, isNone, eventChecks, eventAction, judge, saving}
 use Rattle.rules.specs.Skeleton.{Config, answerLength, requestLength, Event, call, reply, save, load, Answer, done, ask, refused, stopped, Outcome}
-use Rattle.machine.specs.Machine.{State, imageOf, fresh, readOn, finishChange, pagesStored, askStore, onPage, pagesFrom, apply, step, outcomes, final, zeroDigest, replaced, guard}
+use Rattle.machine.specs.Machine.{State, imageOf, fresh, readOn, finishChange, pagesStored, askStore, onPage, pagesFrom, apply, step, outcomes, final, zeroDigest, guard}
 use Rattle.machine.specs.Tree.{tree, digestsOf, lookup, goBack}
 use Rattle.machine.specs.Claim.{HonestAt, Honest}
 use Rattle.machine.specs.Honest.{RightFor, Right}

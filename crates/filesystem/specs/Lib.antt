@@ -2,6 +2,7 @@ pub mod Tables
 pub mod Rights
 pub mod Paths
 pub mod Image
+pub mod Digests
 pub mod RightsLaws
 pub mod PathLaws
 pub mod Sound

@@ -1,10 +1,16 @@
 -- Lists by their cells: `tab n f` has n of them, cell i being f i.
 -- Assumes nothing.
 use mathlib.Core.Path.{_≡_, refl, ap, _∙_}
+use mathlib.Core.Bool.{Bool, _&&_}
 use mathlib.Core.List.{List, [], _∷_, _++_}
 use Prim.Native.Nat.{ℕ, zero, suc, _+_, _-_, _≤_, _<_}
 use native.Mathlib.Omega.{arith}
+use lib.Dec.{leb, ltb}
 use lib.ListN.{length, getD, take}
+
+-- is j one of the n places from a position on?
+abbrev pub inside : (position n j : ℕ) → Bool
+inside position n j = leb position j && ltb j (position + n)
 
 unfoldable pub tab : {A : Type 0} → ℕ → (ℕ → A) → List A
 tab zero f = []

@@ -10,12 +10,13 @@ use lib.ListN.{length, getD, List·getD-eq-default, List·getD-map}
 use borrow.Author.Tests.{ltb-true, ltb-false}
 use Rattle.lists.specs.Pick.{pick, pick-true, pick-false}
 use Rattle.lists.specs.Equal.{Is, isT, isF, is}
-use Rattle.lists.specs.Cells.{tab, length-tab, getD-tab, tab-cong}
+use Rattle.lists.specs.Cells.{inside, tab, length-tab, getD-tab, tab-cong}
 use Rattle.filesystem.specs.Tables.{pagesFor}
-use Rattle.rules.specs.Pages.{pageOf, inside, Change, first, last, bytesAfter, sizeAfter, FitsSize}
+use Rattle.filesystem.specs.Digests.{replaced}
+use Rattle.rules.specs.Pages.{pageOf, Change, first, last, bytesAfter, sizeAfter, FitsSize}
 use Rattle.rules.specs.PageLaws.{Where, low, mid, high, range, length-after, first-last, after-apart}
 use Rattle.rules.specs.Skeleton.{Config}
-use Rattle.machine.specs.Machine.{zeroDigest, replaced}
+use Rattle.machine.specs.Machine.{zeroDigest}
 use Rattle.machine.specs.Tree.{digestsOf, sentDigests}
 
 module _ (c : Config) where
@@ -50,7 +51,7 @@ module _ (c : Config) where
           past z j = unfold pagesFor in omega arith
 
   pub replaced-digests : (q : Change) (b : List ℕ) → FitsSize q (length b)
-      → replaced c (digestsOf c b) (sizeAfter q (length b)) (first q) (sentDigests c b q (last q)) ≡ digestsOf c (bytesAfter q b)
+      → replaced (zeroDigest c) (digestsOf c b) (sizeAfter q (length b)) (first q) (sentDigests c b q (last q)) ≡ digestsOf c (bytesAfter q b)
   unfolding replaced digestsOf sentDigests
   replaced-digests q b f =
       rw (length-after q b, length-tab (last q - first q) (λ j. c .digest (pageOf (bytesAfter q b) (first q + j))))

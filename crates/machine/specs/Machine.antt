@@ -7,11 +7,11 @@ use lib.Dec.{ltb, leb}
 use lib.ListN.{length, getD, set}
 use Rattle.lists.specs.Pick.{pick}
 use Rattle.lists.specs.Equal.{equal}
-use Rattle.lists.specs.Cells.{tab}
 use Rattle.lists.specs.Search.{without}
 use Rattle.filesystem.specs.Tables.{PAGE-BYTES, Node, Tables, pagesFor, nodeAt, openAt, setSize, setCursor}
 use Rattle.filesystem.specs.Image.{Image, flatten, divide, print}
-use Rattle.rules.specs.Pages.{pageOf, inside, pagePart, Change, first, last, fetches, fill, sizeSent, cuts, sizeAfter, cursorAfter, numberOf}
+use Rattle.filesystem.specs.Digests.{replaced}
+use Rattle.rules.specs.Pages.{pageOf, pagePart, Change, first, last, fetches, fill, sizeSent, cuts, sizeAfter, cursorAfter, numberOf}
 use Rattle.rules.specs.Requests.{fetchRequest, storeRequest, cutRequest, Pending, idle, reading, fetching, storing, cutting}
 use Rattle.rules.specs.Skeleton.{Config, Event, Answer, done, ask, refused, stopped, Outcome, plain, Skeleton, waiting, resting, halted, freshSkeleton}
 use Rattle.rules.specs.Rules.{Move, refuse, halt, send, finish, add, delete, readPage, begin, fillPage, stored, cutDone, saving, loading, judge}
@@ -188,10 +188,6 @@ module _ (c : Config) where
   unfoldable pub zeroDigest : List ℕ
   zeroDigest = c .digest (pageOf [] 0)
 
-  -- the digests of a file of this size, with new ones from page `from` on; what is added is zero
-  unfoldable pub replaced : List (List ℕ) → (size from : ℕ) → List (List ℕ) → List (List ℕ)
-  replaced ds size from new = tab (pagesFor size) (λ i. pick (inside from (length new) i) (getD new (i - from) []) (getD ds i zeroDigest))
-
   abbrev pub guard : Store
   guard = record {
     Content = List (List ℕ);
@@ -205,7 +201,7 @@ module _ (c : Config) where
     gathered = λ x p n a. a .bytes;
     pageFor = λ x q i r. fill q i r;
     sent = λ a p. record { bytes = a .bytes; digests = a .digests ++ (c .digest p ∷ []) };
-    changed = λ x q size a. replaced x size (first q) (a .digests);
+    changed = λ x q size a. replaced zeroDigest x size (first q) (a .digests);
     digests = λ x. x;
     keep = λ e d f. tt;
     restore = λ e i d f. record { nodes = i .0; contents = divide (i .0) (i .1) };

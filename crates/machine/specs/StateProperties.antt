@@ -13,7 +13,7 @@ use borrow.Author.Tests.{eqb-true, eq-eqb, leb-true, ltb-true}
 use Rattle.lists.specs.Pick.{pick-ind}
 use Rattle.lists.specs.Equal.{equal, equal-refl, and-fst, and-snd, and-both}
 use Rattle.lists.specs.All.{All, both, none, all-append, all-take, all-drop, all-set, all-at}
-use Rattle.lists.specs.Cells.{length-tab}
+use Rattle.lists.specs.Cells.{inside, length-tab}
 use Rattle.lists.specs.Checks.{decide-passed}
 use Rattle.lists.specs.Search.{without}
 use Rattle.lists.specs.Places.{all-tab, all-place, all-without}
@@ -21,11 +21,12 @@ use Rattle.lists.specs.Maps.{map-set, map-without}
 use Rattle.filesystem.specs.Tables.{Node, OpenFile, pagesFor, setSize}
 use Rattle.filesystem.specs.Image.{Image, flatten, divide, soundNodes, sound, print, parse}
 use Rattle.filesystem.specs.ImageLaws.{Divided, Digest, Shaped, length-flatten, divide-flatten, divided, all-flatten, parse-print, parse-was-printed}
-use Rattle.rules.specs.Pages.{inside, Change, first, last, fetches, cuts}
+use Rattle.filesystem.specs.Digests.{replaced}
+use Rattle.rules.specs.Pages.{Change, first, last, fetches, cuts}
 use Rattle.rules.specs.Skeleton.{resting-same, Config, Event, load, EventBytes, done, plain, Skeleton}
 use Rattle.rules.specs.Requests.{idle}
 use Rattle.rules.specs.Rules.{Move, refuse, loading, isIdle, isNone, imageOr, eventChecks, eventAction, judge}
-use Rattle.machine.specs.Machine.{State, Result, readOn, finishChange, pagesStored, askStore, onPage, pagesFrom, cleared, imageOf, apply, step, fresh, final, zeroDigest, replaced, guard}
+use Rattle.machine.specs.Machine.{State, Result, readOn, finishChange, pagesStored, askStore, onPage, pagesFrom, cleared, imageOf, apply, step, fresh, final, zeroDigest, guard}
 use Rattle.rules.specs.Valid.{ValidNodes, Valid, sizes, Fits, fRefuse, fHalt, fSend, fFinish, fAdd, fDelete, fReadPage, fBegin, fFillPage, fStored, fCutDone, fSaving, fLoading}
 use Rattle.rules.specs.TableLaws.{fresh-valid}
 use Rattle.rules.specs.FitLaws.{judge-fits}
@@ -58,7 +59,7 @@ module _ (c : Config) where
   abbrev Keeps : Result (guard c) → Type 0
   Keeps r = Digested (r .state)
 
-  length-replaced : (ds : List (List ℕ)) (size from : ℕ) (new : List (List ℕ)) → length (replaced c ds size from new) ≡ pagesFor size
+  length-replaced : (ds : List (List ℕ)) (size from : ℕ) (new : List (List ℕ)) → length (replaced (zeroDigest c) ds size from new) ≡ pagesFor size
   unfolding replaced
   length-replaced ds size from new = length-tab _ _
 
@@ -113,7 +114,7 @@ module _ (c : Config) where
         })
 
 module _ (c : Config) (digest-fits : (s : List ℕ) → Digest (c .digest s)) where
-  digested-replaced : (ds : List (List ℕ)) (size from : ℕ) (new : List (List ℕ)) → All Digest ds → All Digest new → All Digest (replaced c ds size from new)
+  digested-replaced : (ds : List (List ℕ)) (size from : ℕ) (new : List (List ℕ)) → All Digest ds → All Digest new → All Digest (replaced (zeroDigest c) ds size from new)
   unfolding replaced zeroDigest
   digested-replaced ds size from new a b =
       all-tab (pagesFor size) _ (λ i h. pick-ind Digest (inside from (length new) i)

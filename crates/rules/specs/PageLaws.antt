@@ -11,9 +11,9 @@ use lib.ListN.{length, getD, List·getD-eq-default}
 use borrow.Author.Tests.{ltb-true, ltb-false, leb-true, leb-false, lt-ltb}
 use Rattle.lists.specs.Pick.{pick, pick-true, pick-false}
 use Rattle.lists.specs.Equal.{Is, isT, isF, is, and-fst}
-use Rattle.lists.specs.Cells.{tab, length-tab, getD-tab, tab-cong, tab-append}
+use Rattle.lists.specs.Cells.{inside, tab, length-tab, getD-tab, tab-cong, tab-append}
 use Rattle.filesystem.specs.Tables.{pagesFor}
-use Rattle.rules.specs.Pages.{pageAt, pageOf, part, resized, inside, splice, overlay, pagePart, Change, writing, shrinking, first, last, fetches, fill, bytesAfter, sizeAfter, FitsSize}
+use Rattle.rules.specs.Pages.{pageAt, pageOf, part, resized, splice, overlay, pagePart, Change, writing, shrinking, first, last, fetches, fill, bytesAfter, sizeAfter, FitsSize}
 
 -- a number against a range
 pub data Where (p n j : ℕ) : Type 0 where

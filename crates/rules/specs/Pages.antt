@@ -6,7 +6,7 @@ use Prim.Native.Nat.{ℕ, _+_, _-_, _*_, _/_, _≤_, _<_, min, max}
 use lib.Dec.{ltb, leb}
 use lib.ListN.{length, getD}
 use Rattle.lists.specs.Pick.{pick}
-use Rattle.lists.specs.Cells.{tab}
+use Rattle.lists.specs.Cells.{inside, tab}
 use Rattle.filesystem.specs.Tables.{PAGE-BYTES, pagesFor}
 
 -- the page that a position lies in
@@ -24,9 +24,6 @@ part b position n = tab n (λ j. getD b (position + j) 0)
 -- the bytes as n of them: cut, or with zeros behind
 unfoldable pub resized : List ℕ → ℕ → List ℕ
 resized b n = tab n (λ j. getD b j 0)
-
-abbrev pub inside : (position n j : ℕ) → Bool
-inside position n j = leb position j && ltb j (position + n)
 
 -- the bytes d put over b from a position on
 unfoldable pub splice : List ℕ → (position : ℕ) → List ℕ → List ℕ

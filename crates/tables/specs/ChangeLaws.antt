@@ -12,13 +12,13 @@ use lib.Seq.{ext-getD, set-split, length-take-le, take-take, take-set-lt, getD-t
 use borrow.Author.Tests.{leb-true, leb-false, ltb-true, ltb-false, le-leb, lt-ltb}
 use Rattle.lists.specs.Pick.{pick, pick-true, pick-false}
 use Rattle.lists.specs.Equal.{Is, isT, isF, is, and-fst, and-snd, and-both}
-use Rattle.lists.specs.Cells.{length-tab, getD-tab}
+use Rattle.lists.specs.Cells.{inside, length-tab, getD-tab}
 use Rattle.lists.specs.Parts.{part, overwrite}
 use Rattle.lists.specs.PartLaws.{length-part, length-overwrite, getD-part, part-before, part-after, part-within, overwrite-all}
 use Rattle.filesystem.specs.Tables.{Node, noNode, nodeAt, withSize, setSize, pagesFor, pageTotal, PAGES}
 use Rattle.filesystem.specs.Image.{divide}
 use Rattle.memory.specs.Layout.{Mem, newDigests, withNodes, withDigests}
-use Rattle.rules.specs.Pages.{inside, pageAt, Change, writing, shrinking, first, last, sizeAfter, FitsSize}
+use Rattle.rules.specs.Pages.{pageAt, Change, writing, shrinking, first, last, sizeAfter, FitsSize}
 use Rattle.rules.specs.Skeleton.{Config}
 use Rattle.machine.specs.Machine.{zeroDigest, replaced}
 use Rattle.tables.specs.View.{viewOf, withFiles, withChange, Changeable, mayChange, pagesChange}
