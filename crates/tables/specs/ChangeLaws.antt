@@ -1,4 +1,4 @@
--- A file's digests with new ones among them: rows moved and overwritten at its first page are what the machine says.
+-- A file's digests with new ones among them: rows moved and overwritten at its first page are the definition's.
 -- Assumes nothing.
 use mathlib.Core.Path.{_≡_, refl, ap, ap₂, sym, _∙_}
 use mathlib.Core.Bool.{true, false, true≢false}
@@ -17,10 +17,8 @@ use Rattle.lists.specs.Parts.{part, overwrite}
 use Rattle.lists.specs.PartLaws.{length-part, length-overwrite, getD-part, part-before, part-after, part-within, overwrite-all}
 use Rattle.filesystem.specs.Tables.{Node, noNode, nodeAt, withSize, setSize, pagesFor, pageTotal, PAGES}
 use Rattle.filesystem.specs.Image.{divide}
+use Rattle.filesystem.specs.Digests.{replaced}
 use Rattle.memory.specs.Layout.{Mem, newDigests, withNodes, withDigests}
-use Rattle.rules.specs.Pages.{pageAt, Change, writing, shrinking, first, last, sizeAfter, FitsSize}
-use Rattle.rules.specs.Skeleton.{Config}
-use Rattle.machine.specs.Machine.{zeroDigest, replaced}
 use Rattle.tables.specs.View.{viewOf, withFiles, withChange, Changeable, mayChange, pagesChange}
 use Rattle.tables.specs.ContentLaws.{total-append, total-split, divide-at, divide-set, front-kept, moved-there}
 
@@ -53,31 +51,31 @@ module _ {A : Type 0} (l : List A) (at : ℕ) (x : List A) (d : A) (fits : at + 
       let e : at + (i - at) ≡ i = omega arith in
       sym (rw e at (getD-part at (length x) (i - at) (overwrite l at x) d (omega arith))) ∙ ap (λ (r : List A). getD r (i - at) d) over-all
 
--- rows overwritten are the machine's new list
-module _ (c : Config) (x y : List (List ℕ)) (size from : ℕ) (new : List (List ℕ)) where
+-- rows overwritten are the definition's new list
+module _ (blank : List ℕ) (x y : List (List ℕ)) (size from : ℕ) (new : List (List ℕ)) where
   pub replaced-cells : length x ≡ pagesFor size → from + length new ≤ length x
-      → ((i : ℕ) → i < length x → inside from (length new) i ≡ false → getD x i [] ≡ getD y i (zeroDigest c)) → overwrite x from new ≡ replaced c y size from new
+      → ((i : ℕ) → i < length x → inside from (length new) i ≡ false → getD x i [] ≡ getD y i blank) → overwrite x from new ≡ replaced blank y size from new
   unfolding replaced
   replaced-cells e f other = ext-getD [] _ _ (length-overwrite x from new f ∙ e ∙ sym (length-tab (pagesFor size) _)) (λ i h. cell i (rw (length-overwrite x from new f) at h))
     where
       cell : (i : ℕ) → i < length x
-          → getD (overwrite x from new) i [] ≡ getD (replaced c y size from new) i []
+          → getD (overwrite x from new) i [] ≡ getD (replaced blank y size from new) i []
       cell i h = go (is (leb from i)) (is (ltb i (from + length new)))
         where
-          at-cell : getD (replaced c y size from new) i [] ≡ pick (inside from (length new) i) (getD new (i - from) []) (getD y i (zeroDigest c))
+          at-cell : getD (replaced blank y size from new) i [] ≡ pick (inside from (length new) i) (getD new (i - from) []) (getD y i blank)
           at-cell = getD-tab (pagesFor size) _ i [] (omega arith)
 
-          out : inside from (length new) i ≡ false → getD x i [] ≡ getD (replaced c y size from new) i []
+          out : inside from (length new) i ≡ false → getD x i [] ≡ getD (replaced blank y size from new) i []
           out n = other i h n ∙ sym (at-cell ∙ pick-false (inside from (length new) i) _ _ n)
 
-          go : Is (leb from i) → Is (ltb i (from + length new)) → getD (overwrite x from new) i [] ≡ getD (replaced c y size from new) i []
+          go : Is (leb from i) → Is (ltb i (from + length new)) → getD (overwrite x from new) i [] ≡ getD (replaced blank y size from new) i []
           go (isT a) (isT b) =
               over-inside x from new [] f i (leb-true _ _ a) (ltb-true _ _ b) ∙ sym (at-cell ∙ pick-true (inside from (length new) i) _ _ (and-both _ _ a b))
           go (isT a) (isF b) = over-behind x from new [] f i (ltb-false _ _ b) ∙ out (rw (a, b))
           go (isF a) b = over-before x from new [] f i (leb-false _ _ a) ∙ out (rw a)
 
 -- the rows behind file k moved to where its pages will end, and the new rows put among its own
-module _ (c : Config) (ns : List Node) (ds : List (List ℕ)) (k size from : ℕ) (new : List (List ℕ)) (f p q r : ℕ) where
+module _ (blank : List ℕ) (ns : List Node) (ds : List (List ℕ)) (k size from : ℕ) (new : List (List ℕ)) (f p q r : ℕ) where
   record Placed : Type 0 where
     known : k < length ns
     is-first : f ≡ pageTotal (take k ns)
@@ -126,18 +124,18 @@ module _ (c : Config) (ns : List Node) (ds : List (List ℕ)) (k size from : ℕ
         ∙ ap (λ (l : List (List ℕ)). overwrite l from new) (part-before ds (f + q) (part (f + p) r ds) f q (omega arith) rest-fits)
 
     -- what is not new was there
-    kept : (i : ℕ) → i < length (part f q ds) → inside from (length new) i ≡ false → getD (part f q ds) i [] ≡ getD (part f p ds) i (zeroDigest c)
+    kept : (i : ℕ) → i < length (part f q ds) → inside from (length new) i ≡ false → getD (part f q ds) i [] ≡ getD (part f p ds) i blank
     kept i l n = go (is (ltb i p))
       where
         size-own : length (part f q ds) ≡ q
         size-own = let g = h .fits-after in length-part f q ds (omega arith)
 
-        go : Is (ltb i p) → getD (part f q ds) i [] ≡ getD (part f p ds) i (zeroDigest c)
+        go : Is (ltb i p) → getD (part f q ds) i [] ≡ getD (part f p ds) i blank
         go (isT a) =
             let b : i < p = ltb-true _ _ a in
             let e = size-own in
             let g = h .fits-before in
-            getD-part f q i ds [] (omega arith) ∙ getD-any ds (f + i) [] (zeroDigest c) (omega arith) ∙ sym (getD-part f p i ds (zeroDigest c) b)
+            getD-part f q i ds [] (omega arith) ∙ getD-any ds (f + i) [] blank (omega arith) ∙ sym (getD-part f p i ds blank b)
         go (isF a) =
             let b : p ≤ i = ltb-false _ _ a in
             let e = size-own in
@@ -145,7 +143,7 @@ module _ (c : Config) (ns : List Node) (ds : List (List ℕ)) (k size from : ℕ
             let d = h .covered in
             absurd (true≢false (sym (and-both _ _ (le-leb from i (omega arith)) (lt-ltb i (from + length new) (omega arith))) ∙ n))
 
-    contents-changed : (y : Node) → y .size ≡ size → divide (set ns k y) (overwrite moved (f + from) new) ≡ set (divide ns ds) k (replaced c (getD (divide ns ds) k []) size from new)
+    contents-changed : (y : Node) → y .size ≡ size → divide (set ns k y) (overwrite moved (f + from) new) ≡ set (divide ns ds) k (replaced blank (getD (divide ns ds) k []) size from new)
     contents-changed y e =
         let g = h .fits-after in
         let l : length (part f q ds) ≡ q = length-part f q ds (omega arith) in
@@ -153,8 +151,8 @@ module _ (c : Config) (ns : List Node) (ds : List (List ℕ)) (k size from : ℕ
         divide-set ns k (h .known) y ds (overwrite moved (f + from) new) f p q (h .is-first) (h .is-old) (h .is-new ∙ ap pagesFor (sym e)) front (ap (λ j. part (f + q) j (overwrite moved (f + from) new)) (sym (h .is-rest)) ∙ back ∙ ap (λ j. part (f + p) j ds) (h .is-rest))
         ∙ ap (set (divide ns ds) k)
         (own
-        ∙ replaced-cells c (part f q ds) (part f p ds) size from new (l ∙ h .is-new) (omega arith) kept
-        ∙ ap (λ (x : List (List ℕ)). replaced c x size from new) (ap₂ (λ i j. part i j ds) (h .is-first) (h .is-old) ∙ sym (divide-at ns k (h .known) ds)))
+        ∙ replaced-cells blank (part f q ds) (part f p ds) size from new (l ∙ h .is-new) (omega arith) kept
+        ∙ ap (λ (x : List (List ℕ)). replaced blank x size from new) (ap₂ (λ i j. part i j ds) (h .is-first) (h .is-old) ∙ sym (divide-at ns k (h .known) ds)))
 
 -- the page total with node k of another size
 pub total-set : (ns : List Node) (k size : ℕ) → k < length ns → pageTotal (setSize ns k size) ≡ pageTotal (take k ns) + (pagesFor size + pageTotal (drop (suc k) ns))
@@ -166,10 +164,10 @@ front-size : (l : List Node) (n k size : ℕ) → k < n → take n (setSize l k 
 unfolding setSize nodeAt
 front-size l n k size h = take-set-lt n l k _ h ∙ ap (λ (y : Node). set (take n l) k (withSize size y)) (sym (getD-take n l k noNode h))
 
-module _ (c : Config) (m : Mem) (n o k size from : ℕ) (new : List (List ℕ)) (f p q t : ℕ) where
+module _ (blank : List ℕ) (m : Mem) (n o k size from : ℕ) (new : List (List ℕ)) (f p q t : ℕ) where
   pub view-change : n ≤ length (m .nodes) → length (m .digests) ≡ PAGES → Changeable (take n (m .nodes)) k size from (length new)
       → f ≡ pageTotal (take k (m .nodes)) → p ≡ pagesFor (nodeAt (m .nodes) k .size) → q ≡ pagesFor size → t ≡ pageTotal (take n (m .nodes))
-      → viewOf n o (withNodes (setSize (m .nodes) k size) (withDigests (overwrite (overwrite (m .digests) (f + q) (part (f + p) (t - (f + p)) (m .digests))) (f + from) new) m)) ≡ withChange c k size from new (viewOf n o m)
+      → viewOf n o (withNodes (setSize (m .nodes) k size) (withDigests (overwrite (overwrite (m .digests) (f + q) (part (f + p) (t - (f + p)) (m .digests))) (f + from) new) m)) ≡ withChange blank k size from new (viewOf n o m)
   unfolding viewOf withChange moved setSize nodeAt
   view-change g d h ef ep eq et =
       let ns = take n (m .nodes) in
@@ -185,7 +183,7 @@ module _ (c : Config) (m : Mem) (n o k size from : ℕ) (new : List (List ℕ)) 
       let z4 = h .covered in
       let r = pageTotal (drop (suc k) ns) in
       let e : t - (f + p) ≡ r = omega arith in
-      let w : Placed c ns (m .digests) k size from new f p q r = record {
+      let w : Placed blank ns (m .digests) k size from new f p q r = record {
         known = h .known;
         is-first = a;
         is-old = b;
@@ -200,7 +198,7 @@ module _ (c : Config) (m : Mem) (n o k size from : ℕ) (new : List (List ℕ)) 
       let x = front-size (m .nodes) n k size kn in
       ap₂ (λ a b. withFiles a b (viewOf n o m)) x
       (ap₂ (λ a j. divide a (overwrite (overwrite (m .digests) (f + q) (part (f + p) j (m .digests))) (f + from) new)) x e
-      ∙ contents-changed c ns (m .digests) k size from new f p q r w (withSize size (nodeAt ns k)) refl)
+      ∙ contents-changed blank ns (m .digests) k size from new f p q r w (withSize size (nodeAt ns k)) refl)
 
 -- what such a change asks of the rows: where the pages of node k end, of all nodes, and after the change
 pub record Room (n k from count f p q t : ℕ) : Type 0 where
@@ -236,15 +234,6 @@ total-with l n k size h g =
     let s = total-split (take n l) k (omega arith) in
     let u = total-set (take n l) k size (omega arith) in
     omega arith
-
--- a change that the file can have, with a digest for each page that it stores
-pub change-changeable : (ns : List Node) (k : ℕ) (q : Change) → k < length ns → FitsSize q (nodeAt ns k .size) → pageTotal ns ≤ PAGES → pageTotal (setSize ns k (sizeAfter q (nodeAt ns k .size))) ≤ PAGES
-    → last q - first q ≤ newDigests → Changeable ns k (sizeAfter q (nodeAt ns k .size)) (first q) (last q - first q)
-unfolding sizeAfter first last pageAt pagesFor
-change-changeable ns k (writing p d) h g b a f =
-    record { known = h; room-before = b; room-after = a; begins = let z = g .0 in omega arith; ends = let z = g .0 in omega arith; covered = let z = g .0 in omega arith; few = f }
-change-changeable ns k (shrinking n) h g b a f =
-    record { known = h; room-before = b; room-after = a; begins = omega arith; ends = omega arith; covered = omega arith; few = f }
 
 -- the test of the page counts, and what it says
 module _ (old new from count : ℕ) where

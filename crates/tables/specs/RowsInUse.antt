@@ -6,14 +6,14 @@ use Prim.Native.Nat.{ℕ, _≤_, _<_}
 use native.Mathlib.Omega.{arith}
 use lib.ListN.{length, take}
 use lib.Seq.{length-take-le, getD-take}
-use Rattle.filesystem.specs.Tables.{NODES, OPEN-FILES, Node, OpenFile, noNode, noOpenFile, nodeAt, openAt}
-use Rattle.memory.specs.Layout.{memOf}
+use Rattle.filesystem.specs.Tables.{NODES, Node, OpenFile, noNode, noOpenFile, nodeAt, openAt}
+use Rattle.memory.specs.Layout.{memOf, openRows}
 use Rattle.memory.specs.MemLaws.{length-nodes, length-opens}
 
 pub count-nodes : (m : List ℕ) (n : ℕ) → n ≤ NODES → length (take n (memOf m .nodes)) ≡ n
 count-nodes m n h = length-take-le n (memOf m .nodes) (omega (arith, length-nodes m))
 
-pub count-opens : (m : List ℕ) (o : ℕ) → o ≤ OPEN-FILES → length (take o (memOf m .opens)) ≡ o
+pub count-opens : (m : List ℕ) (o : ℕ) → o ≤ openRows → length (take o (memOf m .opens)) ≡ o
 count-opens m o h = length-take-le o (memOf m .opens) (omega (arith, length-opens m))
 
 pub node-front : (n : ℕ) (ns : List Node) (k : ℕ) → k < n → nodeAt (take n ns) k ≡ nodeAt ns k

@@ -10,10 +10,10 @@ use lib.Seq.{length-take-le, take-suc-set, take-take, take-set-lt, getD-take, ma
 use Rattle.lists.specs.Parts.{part, overwrite}
 use Rattle.lists.specs.PartLaws.{length-part, take-overwrite, part-of-take}
 use Rattle.lists.specs.Search.{without}
-use Rattle.filesystem.specs.Tables.{withMode as modeNow, Node, noNode, OpenFile, noOpenFile, nodeAt, openAt, pagesFor, pageTotal, setMode, setCursor}
+use Rattle.filesystem.specs.Tables.{withMode, Node, noNode, OpenFile, noOpenFile, nodeAt, openAt, pagesFor, pageTotal, setMode, setCursor}
 use Rattle.filesystem.specs.Image.{divide}
 use Rattle.memory.specs.Layout.{Mem, withNodes, withOpens, withDigests, withStaged}
-use Rattle.tables.specs.View.{withFiles, withOpens as viewOpens, viewOf, withNode, withoutNode, withMode, withOpen, withoutOpen, withCursor, withStaging}
+use Rattle.tables.specs.View.{withFiles, withOpens as viewOpens, viewOf, withNode, withoutNode, modeAt, withOpen, withoutOpen, cursorAt, withStaging}
 use Rattle.tables.specs.ContentLaws.{divide-snoc, divide-without, divide-sizes}
 
 -- lists of which the first n count
@@ -62,16 +62,16 @@ module _ (m : Mem) (n o : ℕ) where
   unfolding viewOf
   view-stage s = refl
 
-  pub view-mode : (k x : ℕ) → k < n → viewOf n o (withNodes (setMode (m .nodes) k x) m) ≡ withMode k x (viewOf n o m)
+  pub view-mode : (k x : ℕ) → k < n → viewOf n o (withNodes (setMode (m .nodes) k x) m) ≡ modeAt k x (viewOf n o m)
   unfolding viewOf setMode nodeAt
   view-mode k x h =
       let ns = take n (m .nodes) in
-      let y = modeNow x (getD ns k noNode) in
-      let e : take n (set (m .nodes) k (modeNow x (getD (m .nodes) k noNode))) ≡ set ns k y =
-      take-set-lt n (m .nodes) k (modeNow x (getD (m .nodes) k noNode)) h ∙ ap (λ (z : Node). set ns k (modeNow x z)) (sym (getD-take n (m .nodes) k noNode h)) in
+      let y = withMode x (getD ns k noNode) in
+      let e : take n (set (m .nodes) k (withMode x (getD (m .nodes) k noNode))) ≡ set ns k y =
+      take-set-lt n (m .nodes) k (withMode x (getD (m .nodes) k noNode)) h ∙ ap (λ (z : Node). set ns k (withMode x z)) (sym (getD-take n (m .nodes) k noNode h)) in
       ap₂ (λ a b. withFiles a b (viewOf n o m)) e
       (ap (λ a. divide a (m .digests)) e ∙ divide-sizes (set ns k y) ns (m .digests) (map-set-same (λ (z : Node). z .size) ns k y noNode refl))
 
-  pub view-cursor : (k x : ℕ) → k < o → viewOf n o (withOpens (setCursor (m .opens) k x) m) ≡ withCursor k x (viewOf n o m)
+  pub view-cursor : (k x : ℕ) → k < o → viewOf n o (withOpens (setCursor (m .opens) k x) m) ≡ cursorAt k x (viewOf n o m)
   unfolding viewOf setCursor openAt
   view-cursor k x h = ap (λ os. viewOpens os (viewOf n o m)) (take-set-lt o (m .opens) k _ h ∙ ap (λ (y : OpenFile). set (take o (m .opens)) k (record { handle = y .handle; descriptor = y .descriptor; rights = y .rights; cursor = x })) (sym (getD-take o (m .opens) k noOpenFile h)))

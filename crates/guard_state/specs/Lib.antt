@@ -1,0 +1,5 @@
+pub mod State
+pub mod StageLaws
+pub mod Waits
+pub mod WaitLaws
+pub mod Changes

@@ -1,0 +1,99 @@
+-- The guard's memory as the machine's state: the header's numbers, the rows in use of each table, and the pending call.
+-- Total: each number of the header is read within its limit. Assumes nothing.
+use mathlib.Core.Bool.{not}
+use mathlib.Core.List.{List, [], _∷_}
+use Prim.Native.Nat.{ℕ, _+_, _/_, _%_}
+use lib.Dec.{eqb}
+use lib.ListN.{getD, take, drop}
+use Rattle.filesystem.specs.Tables.{NODES, PAGE-BYTES, FILE-BYTES, DATA-BYTES}
+use Rattle.memory.specs.Layout.{memOf, openRows, newDigests}
+use Rattle.rules.specs.Pages.{writing, shrinking}
+use Rattle.rules.specs.Requests.{asked, Pending, idle, creating, opening, closing, removing, changing, listing, stating, reading, fetching, storing, cutting}
+use Rattle.rules.specs.Skeleton.{Config}
+use Rattle.machine.specs.Machine.{State, Gathered, guard as digestStore}
+use Rattle.tables.specs.View.{View, viewOf, stagedDigests}
+use Rattle.guard_state.specs.declared.Guard.{Guard}
+
+-- the pages of the largest file
+abbrev pub filePages : ℕ
+filePages = FILE-BYTES / PAGE-BYTES
+
+-- The header's numbers, in the order of their places (src/header.rt).
+unfoldable pub numbersOf : List ℕ → Guard
+numbersOf h = record {
+  nodes = getD h 0 0 % (NODES + 1);
+  opens = getD h 1 0 % (openRows + 1);
+  stopped = not (eqb (getD h 2 0) 0);
+  call = getD h 3 0;
+  node = getD h 4 0 % NODES;
+  opened = getD h 5 0 % openRows;
+  parent = getD h 6 0;
+  kind = getD h 7 0;
+  mode = getD h 8 0;
+  rights = getD h 9 0;
+  position = getD h 10 0 % (FILE-BYTES + 1);
+  count = getD h 11 0 % (DATA-BYTES + 1);
+  size = getD h 12 0 % (FILE-BYTES + 1);
+  page = getD h 13 0 % (filePages + 1);
+  bytes = getD h 14 0 % (DATA-BYTES + 1);
+  digests = getD h 15 0 % (newDigests + 1);
+}
+
+-- The pending call: its bytes, and what it is by its number (src/calls.rt); any other number is idle.
+unfoldable pub stagedBytes : Guard → List ℕ → List ℕ
+stagedBytes g s = take (g .bytes) s
+
+unfoldable pub pendingIn : Guard → List ℕ → Pending
+pendingIn g s =
+    getD
+    (idle
+    ∷ asked (creating (g .parent) (g .kind) (g .mode) (stagedBytes g s))
+    ∷ asked (opening (g .node) (g .rights))
+    ∷ asked (closing (g .opened))
+    ∷ asked (removing (g .node))
+    ∷ asked (changing (g .node) (g .mode))
+    ∷ asked (listing (g .node))
+    ∷ asked (stating (g .node))
+    ∷ reading (g .node) (g .opened) (g .position) (g .count) (g .page)
+    ∷ fetching (g .node) (g .opened) (writing (g .position) (stagedBytes g s)) (g .page)
+    ∷ storing (g .node) (g .opened) (writing (g .position) (stagedBytes g s)) (g .page)
+    ∷ fetching (g .node) (g .opened) (shrinking (g .size)) (g .page)
+    ∷ storing (g .node) (g .opened) (shrinking (g .size)) (g .page)
+    ∷ cutting (g .node) (g .opened) (shrinking (g .size))
+    ∷ [])
+    (g .call) idle
+
+-- a read (8) has gathered bytes, a change (9 to 13) new digests
+abbrev pub gatheredNone : Gathered
+gatheredNone = record { bytes = []; digests = [] }
+
+abbrev pub gatheredBytes : Guard → List ℕ → Gathered
+gatheredBytes g s = record { bytes = stagedBytes g s; digests = [] }
+
+abbrev pub gatheredDigests : Guard → List ℕ → Gathered
+gatheredDigests g s = record { bytes = []; digests = stagedDigests (g .digests) s }
+
+unfoldable pub gatheredIn : Guard → List ℕ → Gathered
+gatheredIn g s =
+    getD
+    (gatheredNone ∷ gatheredNone ∷ gatheredNone ∷ gatheredNone ∷ gatheredNone ∷ gatheredNone ∷ gatheredNone ∷ gatheredNone
+    ∷ gatheredBytes g s
+    ∷ gatheredDigests g s ∷ gatheredDigests g s ∷ gatheredDigests g s ∷ gatheredDigests g s ∷ gatheredDigests g s
+    ∷ [])
+    (g .call) gatheredNone
+
+-- The state: of the numbers and the rows in use; of the memory.
+unfoldable pub stateIn : (c : Config) → Guard → View → State (digestStore c)
+stateIn c g v = record {
+  skeleton = record { tables = record { nodes = v .nodes; opens = v .opens }; pending = pendingIn g (v .staged); stopped = g .stopped };
+  contents = v .contents;
+  progress = gatheredIn g (v .staged);
+  saves = tt;
+}
+
+unfoldable pub stateOf : (c : Config) → List ℕ → State (digestStore c)
+stateOf c m = let g = numbersOf (memOf m .head) in stateIn c g (viewOf (g .nodes) (g .opens) (memOf m))
+
+-- the header when no call is pending and the guard has not stopped; the counts stay
+unfoldable pub clearedHead : List ℕ → List ℕ
+clearedHead h = getD h 0 0 ∷ getD h 1 0 ∷ 0 ∷ 0 ∷ 0 ∷ 0 ∷ 0 ∷ 0 ∷ 0 ∷ 0 ∷ 0 ∷ 0 ∷ 0 ∷ 0 ∷ 0 ∷ 0 ∷ drop 16 h

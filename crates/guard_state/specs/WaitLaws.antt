@@ -1,0 +1,87 @@
+-- What the header's numbers are read as: of a call that waits, of one that has ended, of a stop, of a fresh guard.
+-- Assumes nothing.
+use mathlib.Core.Path.{_≡_, refl, ap, ap₂, sym, _∙_}
+use mathlib.Core.Bool.{not}
+use mathlib.Core.List.{List, [], _∷_, _++_}
+use Prim.Native.Nat.{ℕ, zero, suc, _+_, _%_, _≤_, _<_}
+use native.Mathlib.Nat.{mod-eq-of-lt}
+use native.Mathlib.Omega.{arith}
+use lib.Dec.{eqb}
+use lib.ListN.{length, getD, take, drop, set}
+use Rattle.lists.specs.Cells.{tab}
+use Rattle.filesystem.specs.Tables.{NODES, root, pagesFor}
+use Rattle.filesystem.specs.Image.{divide}
+use Rattle.memory.specs.Layout.{Mem, memOf, headNumbers, openRows, withHead, withNodes, withStaged}
+use Rattle.rules.specs.Requests.{Pending, idle}
+use Rattle.rules.specs.Skeleton.{Config}
+use Rattle.machine.specs.Machine.{Gathered, fresh, guard as digestStore}
+use Rattle.tables.specs.View.{viewOf}
+use Rattle.guard_state.specs.declared.Guard.{Guard}
+use Rattle.guard_state.specs.State.{numbersOf, stateIn, stateOf, clearedHead, pendingIn, gatheredIn}
+use Rattle.guard_state.specs.Waits.{waits, ends, stops, restingState}
+
+-- a number within its limit is read as it is
+pub kept : (x n : ℕ) → x < n → x % n ≡ x
+kept x n h = mod-eq-of-lt h
+
+-- the first n numbers, one by one
+head-cells : (n : ℕ) (h : List ℕ) → n ≤ length h → h ≡ tab n (λ i. getD h i 0) ++ drop n h
+unfolding tab
+head-cells zero h f = refl
+head-cells (suc n) [] f = absurd (omega arith)
+head-cells (suc n) (x ∷ h) f = ap (λ (l : List ℕ). x ∷ l) (head-cells n h (omega arith))
+
+abbrev zeros : List ℕ → List ℕ
+zeros h =
+    let g = set (set (set (set (set (set (set h 2 0) 3 0) 4 0) 5 0) 6 0) 7 0) 8 0 in
+    set (set (set (set (set (set (set g 9 0) 10 0) 11 0) 12 0) 13 0) 14 0) 15 0
+
+pub head-cleared : (h : List ℕ) → length h ≡ headNumbers → zeros h ≡ clearedHead h
+unfolding clearedHead tab
+head-cleared h e = ap zeros (head-cells 16 h (omega arith))
+
+-- numbers that are read as a pending call, over the tables as they are; s is staged
+module _ (c : Config) (m x y s : List ℕ) (e : memOf x ≡ withHead y (withStaged s (memOf m))) (n : getD y 0 0 ≡ getD (memOf m .head) 0 0) (o : getD y 1 0 ≡ getD (memOf m .head) 1 0) where
+  pub staged-waits : (p : Pending) (a : Gathered) → getD y 2 0 ≡ 0 → pendingIn (numbersOf y) s ≡ p → gatheredIn (numbersOf y) s ≡ a → stateOf c x ≡ waits c (stateOf c m) p a
+  unfolding stateIn stateOf viewOf waits numbersOf
+  staged-waits p a z f g =
+      ap (λ (t : Mem). let q = numbersOf (t .head) in stateIn c q (viewOf (q .nodes) (q .opens) t)) e
+      ∙ (λ i. record {
+        skeleton = record {
+          tables = record { nodes = take (n i % (NODES + 1)) (memOf m .nodes); opens = take (o i % (openRows + 1)) (memOf m .opens) };
+          pending = f i;
+          stopped = not (eqb (z i) 0);
+        };
+        contents = divide (take (n i % (NODES + 1)) (memOf m .nodes)) (memOf m .digests);
+        progress = g i;
+        saves = tt;
+      })
+
+pub waits-as : (c : Config) (m x y : List ℕ) → memOf x ≡ withHead y (memOf m) → getD y 0 0 ≡ getD (memOf m .head) 0 0 → getD y 1 0 ≡ getD (memOf m .head) 1 0
+    → (p : Pending) (a : Gathered) → getD y 2 0 ≡ 0 → pendingIn (numbersOf y) (memOf m .staged) ≡ p → gatheredIn (numbersOf y) (memOf m .staged) ≡ a → stateOf c x ≡ waits c (stateOf c m) p a
+waits-as c m x y = staged-waits c m x y (memOf m .staged)
+
+-- nothing is pending; a stop
+module _ (c : Config) (m x : List ℕ) where
+  pub ends-as : memOf x ≡ withHead (clearedHead (memOf m .head)) (memOf m) → stateOf c x ≡ ends c (stateOf c m) (stateOf c m .skeleton .tables) (stateOf c m .contents)
+  unfolding stateOf stateIn viewOf numbersOf clearedHead pendingIn gatheredIn ends
+  ends-as e = ap (λ (s : Mem). let g = numbersOf (s .head) in stateIn c g (viewOf (g .nodes) (g .opens) s)) e
+
+  pub stops-as : memOf x ≡ withHead (set (clearedHead (memOf m .head)) 2 1) (memOf m) → stateOf c x ≡ stops c (stateOf c m)
+  unfolding stateOf stateIn viewOf numbersOf clearedHead pendingIn gatheredIn stops
+  stops-as e = ap (λ (s : Mem). let g = numbersOf (s .head) in stateIn c g (viewOf (g .nodes) (g .opens) s)) e
+
+  pub rests-as : (n o : ℕ) → n ≤ NODES → o ≤ openRows → memOf x ≡ withHead (set (set (clearedHead (memOf m .head)) 0 n) 1 o) (memOf m) → stateOf c x ≡ restingState c (viewOf n o (memOf m))
+  unfolding stateOf stateIn viewOf numbersOf clearedHead pendingIn gatheredIn restingState
+  rests-as n o f g e =
+      ap (λ (s : Mem). let q = numbersOf (s .head) in stateIn c q (viewOf (q .nodes) (q .opens) s)) e
+      ∙ ap₂ (λ i j. restingState c (viewOf i j (memOf m))) (kept n (NODES + 1) (omega arith)) (kept o (openRows + 1) (omega arith))
+
+first-row : {A : Type 0} (l : List A) (x : A) → 0 < length l → take 1 (set l 0 x) ≡ x ∷ []
+first-row [] x h = absurd (omega arith)
+first-row (y ∷ l) x h = refl
+
+-- the root's row, and nothing pending
+pub rests-fresh : (c : Config) (m : Mem) → 0 < length (m .nodes) → restingState c (viewOf 1 0 (withNodes (set (m .nodes) 0 root) m)) ≡ fresh c (digestStore c)
+unfolding restingState viewOf divide pagesFor
+rests-fresh c m h = rw (first-row (m .nodes) root h)

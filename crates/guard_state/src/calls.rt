@@ -1,0 +1,30 @@
+// What is pending: the number under `header::CALL`, one for each constructor of the definition.
+pub const IDLE: u64 = 0;
+
+pub const CREATING: u64 = 1;
+
+pub const OPENING: u64 = 2;
+
+pub const CLOSING: u64 = 3;
+
+pub const REMOVING: u64 = 4;
+
+pub const CHANGING: u64 = 5;
+
+pub const LISTING: u64 = 6;
+
+pub const STATING: u64 = 7;
+
+pub const READING: u64 = 8;
+
+// of a write: a page is fetched; a page is stored
+pub const FETCHING: u64 = 9;
+
+pub const STORING: u64 = 10;
+
+// of a truncation: its page is fetched; its page is stored; the file is cut
+pub const SHRINK_FETCHING: u64 = 11;
+
+pub const SHRINK_STORING: u64 = 12;
+
+pub const CUTTING: u64 = 13;

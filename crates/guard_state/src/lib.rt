@@ -1,0 +1,266 @@
+// The guard's numbers in the memory's header, the memory as the machine's state, and the pending call: one begins to wait for a reply, is
+// done, or the guard stops. Contracts are over the machine's states (specs/State.antt).
+ghost use mathlib.Core.Path.{_≡_};
+ghost use Prim.Native.Nat.{_+_, _%_, _<_, _≤_};
+ghost use lib.ListN.{length, getD, set};
+ghost use Rattle.filesystem.specs.Tables.{NODES, NAME-BYTES};
+ghost use Rattle.memory.specs.Layout.{memOf, memorySize, headNumbers, openRows, withHead};
+ghost use Rattle.rules.specs.Requests.{asked, creating, opening, closing, removing, changing, listing, stating};
+ghost use Rattle.rules.specs.Skeleton.{Config};
+ghost use Rattle.machine.specs.Machine.{fresh, guard as digestStore};
+ghost use Rattle.tables.specs.View.{viewOf};
+ghost use Rattle.guard_state.specs.State.{numbersOf, stateOf, clearedHead, gatheredNone};
+ghost use Rattle.guard_state.specs.Waits.{waits, ends, stops, restingState};
+
+pub mod header;
+pub mod calls;
+
+// The header's numbers.
+pub struct Guard {
+    // how many nodes and open files there are; whether the guard has stopped
+    pub nodes: usize,
+    pub opens: usize,
+    pub stopped: bool,
+    // the pending call (calls.rt), and the places of its node and its open file
+    pub call: u64,
+    pub node: usize,
+    pub opened: usize,
+    // a new node: its parent's id, its kind and its mode; a mode that is set; the rights of an open
+    pub parent: u64,
+    pub kind: u64,
+    pub mode: u64,
+    pub rights: u64,
+    // a read or a write: where it begins; how many bytes are read; a truncation's size; the page that was asked last
+    pub position: usize,
+    pub count: usize,
+    pub size: usize,
+    pub page: usize,
+    // how much is staged: bytes of the call, digests of the pages that it has sent
+    pub bytes: usize,
+    pub digests: usize,
+}
+
+impl Guard {
+    pub const NODES: usize = limits::NODES;
+
+    pub const OPEN_FILES: usize = limits::OPEN_FILES;
+
+    pub const PAGES: usize = limits::PAGES;
+
+    pub const PAGE_BYTES: usize = limits::PAGE_BYTES;
+
+    pub const FILE_BYTES: usize = limits::FILE_BYTES;
+
+    pub const NAME_BYTES: usize = limits::NAME_BYTES;
+
+    pub const PATH_BYTES: usize = limits::PATH_BYTES;
+
+    pub const ID_BYTES: usize = limits::ID_BYTES;
+
+    pub const DATA_BYTES: usize = limits::DATA_BYTES;
+
+    // The numbers that the memory's header holds, each within its limit.
+    pub fn load(m: &[u8]) -> Guard
+        requires { ⌜ memorySize ≤ length (now m) ⌝ }
+        ensures { λ r. ⌜ r ≡ numbersOf (memOf (now (m .entry)) .head) ⌝ }
+    {
+        Guard {
+            nodes: number(m, header::NODES, limits::NODES),
+            opens: number(m, header::OPENS, memory::OPEN_ROWS),
+            stopped: memory::head(m, header::STOPPED) != 0,
+            call: memory::head(m, header::CALL),
+            node: number(m, header::NODE, LAST_NODE),
+            opened: number(m, header::OPENED, LAST_OPEN),
+            parent: memory::head(m, header::PARENT),
+            kind: memory::head(m, header::KIND),
+            mode: memory::head(m, header::MODE),
+            rights: memory::head(m, header::RIGHTS),
+            position: number(m, header::POSITION, limits::FILE_BYTES),
+            count: number(m, header::COUNT, limits::DATA_BYTES),
+            size: number(m, header::SIZE, limits::FILE_BYTES),
+            page: number(m, header::PAGE, FILE_PAGES),
+            bytes: number(m, header::BYTES, limits::DATA_BYTES),
+            digests: number(m, header::DIGESTS, memory::NEW_DIGESTS),
+        }
+    }
+
+    // A fresh guard: the root alone, idle.
+    pub fn fresh(m: &mut [u8]) -> Guard
+        requires { ⌜ memorySize ≤ length (now m) ⌝ }
+        ensures { λ r. ⌜ ((c : Config) → stateOf c (now (m .exit)) ≡ fresh c (digestStore c)) × (r ≡ numbersOf (memOf (now (m .exit)) .head)) ⌝ }
+        ensures { λ _. ⌜ length (now (m .exit)) ≡ length (now (m .entry)) ⌝ }
+    {
+        let row = memory::node_row(1, 0, 2, 7, 0, b"");
+        memory::put_node(m, 0, row);
+        rest(m, 1, 0);
+        Guard::load(m)
+    }
+}
+
+// ---- the header
+
+const LAST_NODE: usize = limits::NODES - 1;
+
+const LAST_OPEN: usize = memory::OPEN_ROWS - 1;
+
+const FILE_PAGES: usize = limits::FILE_BYTES / limits::PAGE_BYTES;
+
+// Number k of the header, at most `most`.
+fn number(m: &[u8], k: usize, most: usize) -> usize
+    requires { ⌜ (k < headNumbers) × (most < 4294967296) × (memorySize ≤ length (now m)) ⌝ }
+    ensures { λ r. ⌜ r ≡ getD (memOf (now (m .entry)) .head) k 0 % (most + 1) ⌝ }
+{
+    (memory::head(m, k) % (most as u64 + 1)) as usize
+}
+
+// ---- the pending call
+
+// Nothing is pending, and the guard has not stopped; the counts stay.
+fn clear(m: &mut [u8])
+    requires { ⌜ memorySize ≤ length (now m) ⌝ }
+    ensures { λ _. ⌜ memOf (now (m .exit)) ≡ withHead (clearedHead (memOf (now (m .entry)) .head)) (memOf (now (m .entry))) ⌝ }
+    ensures { λ _. ⌜ length (now (m .exit)) ≡ length (now (m .entry)) ⌝ }
+{
+    clear_call(m);
+    clear_span(m);
+}
+
+fn clear_call(m: &mut [u8])
+    requires { ⌜ memorySize ≤ length (now m) ⌝ }
+    ensures { λ _. ⌜ memOf (now (m .exit)) ≡ withHead (set (set (set (set (set (set (set (memOf (now (m .entry)) .head) 2 0) 3 0) 4 0) 5 0) 6 0) 7 0) 8 0) (memOf (now (m .entry))) ⌝ }
+    ensures { λ _. ⌜ length (now (m .exit)) ≡ length (now (m .entry)) ⌝ }
+{
+    memory::put_head(m, header::STOPPED, 0);
+    memory::put_head(m, header::CALL, calls::IDLE);
+    memory::put_head(m, header::NODE, 0);
+    memory::put_head(m, header::OPENED, 0);
+    memory::put_head(m, header::PARENT, 0);
+    memory::put_head(m, header::KIND, 0);
+    memory::put_head(m, header::MODE, 0);
+}
+
+fn clear_span(m: &mut [u8])
+    requires { ⌜ memorySize ≤ length (now m) ⌝ }
+    ensures { λ _. ⌜ memOf (now (m .exit)) ≡ withHead (set (set (set (set (set (set (set (memOf (now (m .entry)) .head) 9 0) 10 0) 11 0) 12 0) 13 0) 14 0) 15 0) (memOf (now (m .entry))) ⌝ }
+    ensures { λ _. ⌜ length (now (m .exit)) ≡ length (now (m .entry)) ⌝ }
+{
+    memory::put_head(m, header::RIGHTS, 0);
+    memory::put_head(m, header::POSITION, 0);
+    memory::put_head(m, header::COUNT, 0);
+    memory::put_head(m, header::SIZE, 0);
+    memory::put_head(m, header::PAGE, 0);
+    memory::put_head(m, header::BYTES, 0);
+    memory::put_head(m, header::DIGESTS, 0);
+}
+
+// ---- calls begin to wait
+
+// A create or a mkdir: the parent's id, the kind, the mode, and the name, which is staged.
+pub fn wait_create(m: &mut [u8], parent: u64, kind: u8, mode: u8, name: &[u8])
+    requires { ⌜ (length (now name) ≤ NAME-BYTES) × (memorySize ≤ length (now m)) ⌝ }
+    ensures { λ _. ⌜ ((c : Config) → stateOf c (now (m .exit)) ≡ waits c (stateOf c (now (m .entry))) (asked (creating parent kind mode (now (name .entry)))) gatheredNone) ⌝ }
+    ensures { λ _. ⌜ length (now (m .exit)) ≡ length (now (m .entry)) ⌝ }
+{
+    let n = name.len();
+    memory::stage(m, 0, name);
+    clear(m);
+    memory::put_head(m, header::CALL, calls::CREATING);
+    memory::put_head(m, header::PARENT, parent);
+    memory::put_head(m, header::KIND, kind as u64);
+    memory::put_head(m, header::MODE, mode as u64);
+    memory::put_head(m, header::BYTES, n as u64);
+}
+
+pub fn wait_open(m: &mut [u8], node: usize, rights: u8)
+    requires { ⌜ (node < NODES) × (memorySize ≤ length (now m)) ⌝ }
+    ensures { λ _. ⌜ ((c : Config) → stateOf c (now (m .exit)) ≡ waits c (stateOf c (now (m .entry))) (asked (opening node rights)) gatheredNone) ⌝ }
+    ensures { λ _. ⌜ length (now (m .exit)) ≡ length (now (m .entry)) ⌝ }
+{
+    clear(m);
+    memory::put_head(m, header::CALL, calls::OPENING);
+    memory::put_head(m, header::NODE, node as u64);
+    memory::put_head(m, header::RIGHTS, rights as u64);
+}
+
+pub fn wait_close(m: &mut [u8], opened: usize)
+    requires { ⌜ (opened < openRows) × (memorySize ≤ length (now m)) ⌝ }
+    ensures { λ _. ⌜ ((c : Config) → stateOf c (now (m .exit)) ≡ waits c (stateOf c (now (m .entry))) (asked (closing opened)) gatheredNone) ⌝ }
+    ensures { λ _. ⌜ length (now (m .exit)) ≡ length (now (m .entry)) ⌝ }
+{
+    clear(m);
+    memory::put_head(m, header::CALL, calls::CLOSING);
+    memory::put_head(m, header::OPENED, opened as u64);
+}
+
+pub fn wait_remove(m: &mut [u8], node: usize)
+    requires { ⌜ (node < NODES) × (memorySize ≤ length (now m)) ⌝ }
+    ensures { λ _. ⌜ ((c : Config) → stateOf c (now (m .exit)) ≡ waits c (stateOf c (now (m .entry))) (asked (removing node)) gatheredNone) ⌝ }
+    ensures { λ _. ⌜ length (now (m .exit)) ≡ length (now (m .entry)) ⌝ }
+{
+    clear(m);
+    memory::put_head(m, header::CALL, calls::REMOVING);
+    memory::put_head(m, header::NODE, node as u64);
+}
+
+pub fn wait_chmod(m: &mut [u8], node: usize, mode: u8)
+    requires { ⌜ (node < NODES) × (memorySize ≤ length (now m)) ⌝ }
+    ensures { λ _. ⌜ ((c : Config) → stateOf c (now (m .exit)) ≡ waits c (stateOf c (now (m .entry))) (asked (changing node mode)) gatheredNone) ⌝ }
+    ensures { λ _. ⌜ length (now (m .exit)) ≡ length (now (m .entry)) ⌝ }
+{
+    clear(m);
+    memory::put_head(m, header::CALL, calls::CHANGING);
+    memory::put_head(m, header::NODE, node as u64);
+    memory::put_head(m, header::MODE, mode as u64);
+}
+
+pub fn wait_listing(m: &mut [u8], node: usize)
+    requires { ⌜ (node < NODES) × (memorySize ≤ length (now m)) ⌝ }
+    ensures { λ _. ⌜ ((c : Config) → stateOf c (now (m .exit)) ≡ waits c (stateOf c (now (m .entry))) (asked (listing node)) gatheredNone) ⌝ }
+    ensures { λ _. ⌜ length (now (m .exit)) ≡ length (now (m .entry)) ⌝ }
+{
+    clear(m);
+    memory::put_head(m, header::CALL, calls::LISTING);
+    memory::put_head(m, header::NODE, node as u64);
+}
+
+pub fn wait_stat(m: &mut [u8], node: usize)
+    requires { ⌜ (node < NODES) × (memorySize ≤ length (now m)) ⌝ }
+    ensures { λ _. ⌜ ((c : Config) → stateOf c (now (m .exit)) ≡ waits c (stateOf c (now (m .entry))) (asked (stating node)) gatheredNone) ⌝ }
+    ensures { λ _. ⌜ length (now (m .exit)) ≡ length (now (m .entry)) ⌝ }
+{
+    clear(m);
+    memory::put_head(m, header::CALL, calls::STATING);
+    memory::put_head(m, header::NODE, node as u64);
+}
+
+// ---- a call ends
+
+// The call is done and the tables are as they were.
+pub fn finish(m: &mut [u8])
+    requires { ⌜ memorySize ≤ length (now m) ⌝ }
+    ensures { λ _. ⌜ ((c : Config) → stateOf c (now (m .exit)) ≡ ends c (stateOf c (now (m .entry))) (stateOf c (now (m .entry)) .skeleton .tables) (stateOf c (now (m .entry)) .contents)) ⌝ }
+    ensures { λ _. ⌜ length (now (m .exit)) ≡ length (now (m .entry)) ⌝ }
+{
+    clear(m);
+}
+
+// The call is done, over tables that now have these counts.
+pub fn rest(m: &mut [u8], nodes: usize, opens: usize)
+    requires { ⌜ (nodes ≤ NODES) × (opens ≤ openRows) × (memorySize ≤ length (now m)) ⌝ }
+    ensures { λ _. ⌜ ((c : Config) → stateOf c (now (m .exit)) ≡ restingState c (viewOf nodes opens (memOf (now (m .entry))))) ⌝ }
+    ensures { λ _. ⌜ length (now (m .exit)) ≡ length (now (m .entry)) ⌝ }
+{
+    clear(m);
+    memory::put_head(m, header::NODES, nodes as u64);
+    memory::put_head(m, header::OPENS, opens as u64);
+}
+
+// The guard stops for good; the tables are those of before the call.
+pub fn stop(m: &mut [u8])
+    requires { ⌜ memorySize ≤ length (now m) ⌝ }
+    ensures { λ _. ⌜ ((c : Config) → stateOf c (now (m .exit)) ≡ stops c (stateOf c (now (m .entry)))) ⌝ }
+    ensures { λ _. ⌜ length (now (m .exit)) ≡ length (now (m .entry)) ⌝ }
+{
+    clear(m);
+    memory::put_head(m, header::STOPPED, 1);
+}

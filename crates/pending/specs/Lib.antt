@@ -1,2 +1,0 @@
-pub mod Waits
-pub mod WaitLaws
