@@ -11,8 +11,8 @@ use lib.Seq.{getD-take, set-out}
 use borrow.Author.Tests.{leb-false, le-leb, lt-leb, lt-ltb, le-ltb}
 use Rattle.lists.specs.Equal.{or-fst}
 use Rattle.lists.specs.Checks.{decide, check-last, check-passes, check-stops}
-use Rattle.filesystem.specs.Tables.{OPEN-FILES, FILE-BYTES, Node, OpenFile, Tables, noNode, nodeAt, openAt, absent, findId, findHandle, pageTotal, setSize}
-use Rattle.memory.specs.Layout.{memOf}
+use Rattle.filesystem.specs.Tables.{FILE-BYTES, Node, OpenFile, Tables, noNode, nodeAt, openAt, absent, findId, findHandle, pageTotal, setSize}
+use Rattle.memory.specs.Layout.{memOf, openRows}
 use Rattle.rules.specs.Calls.{close, seek, read, write, truncate}
 use Rattle.rules.specs.Rules.{noRoom, callChecks}
 use Rattle.handle_calls.specs.Judged.{handledFor, lacksRight, endChecked}
@@ -48,7 +48,7 @@ module _ (os : List OpenFile) (right k : ℕ) where
   has-there e = leb-false (length os) k (or-fst _ _ e)
 
 -- an open file with a right, among those of a memory
-module _ (m : List ℕ) (o right k : ℕ) (fits : o ≤ OPEN-FILES) (has : lacksRight (take o (memOf m .opens)) right k ≡ false) where
+module _ (m : List ℕ) (o right k : ℕ) (fits : o ≤ openRows) (has : lacksRight (take o (memOf m .opens)) right k ≡ false) where
   pub has-place : k < o
   has-place = let e = count-opens m o fits in let h = has-there (take o (memOf m .opens)) right k has in omega arith
 

@@ -3,8 +3,8 @@
 ghost use mathlib.Core.Path.{_≡_};
 ghost use Prim.Native.Nat.{ℕ, _≤_, _<_, max};
 ghost use lib.ListN.{length, take};
-ghost use Rattle.filesystem.specs.Tables.{NODES, OPEN-FILES, nodeAt};
-ghost use Rattle.memory.specs.Layout.{memOf, memorySize};
+ghost use Rattle.filesystem.specs.Tables.{NODES, nodeAt};
+ghost use Rattle.memory.specs.Layout.{memOf, memorySize, openRows};
 ghost use Rattle.tables.specs.View.{tablesIn};
 ghost use Rattle.rules.specs.Calls.{close, seek, read, write, truncate};
 ghost use Rattle.rules.specs.Rules.{noRoom};
@@ -18,7 +18,7 @@ pub enum Handled {
 
 // close: 9.
 pub fn judge_close(m: &[u8], n: usize, o: usize, handle: u64) -> Handled
-    requires { ⌜ (n ≤ NODES) × (o ≤ OPEN-FILES) × (memorySize ≤ length (now m)) ⌝ }
+    requires { ⌜ (n ≤ NODES) × (o ≤ openRows) × (memorySize ≤ length (now m)) ⌝ }
     ensures { λ r. ⌜ r ≡ handledFor (tablesIn n o (memOf (now (m .entry)))) handle (close handle) ⌝ }
 {
     let k = tables::find_handle(m, o, handle);
@@ -31,7 +31,7 @@ pub fn judge_close(m: &[u8], n: usize, o: usize, handle: u64) -> Handled
 
 // Whether no open file with this right stands in place k.
 fn lacks_right(m: &[u8], o: usize, k: usize, right: u8) -> bool
-    requires { ⌜ (0 < right) × (o ≤ OPEN-FILES) × (memorySize ≤ length (now m)) ⌝ }
+    requires { ⌜ (0 < right) × (o ≤ openRows) × (memorySize ≤ length (now m)) ⌝ }
     ensures { λ r. ⌜ r ≡ lacksRight (take o (memOf (now (m .entry)) .opens)) right k ⌝ }
 {
     if o <= k {
@@ -42,7 +42,7 @@ fn lacks_right(m: &[u8], o: usize, k: usize, right: u8) -> bool
 
 // read: 9 without right 1.
 pub fn judge_read(m: &[u8], n: usize, o: usize, handle: u64) -> Handled
-    requires { ⌜ (n ≤ NODES) × (o ≤ OPEN-FILES) × (memorySize ≤ length (now m)) ⌝ }
+    requires { ⌜ (n ≤ NODES) × (o ≤ openRows) × (memorySize ≤ length (now m)) ⌝ }
     ensures { λ r. ⌜ ((count : ℕ) → r ≡ handledFor (tablesIn n o (memOf (now (m .entry)))) handle (read handle count)) ⌝ }
 {
     let k = tables::find_handle(m, o, handle);
@@ -78,7 +78,7 @@ fn judge_end(m: &[u8], n: usize, handle: u64, k: usize, position: u64) -> Handle
 
 // seek: 9, 22 past the end.
 pub fn judge_seek(m: &[u8], n: usize, o: usize, handle: u64, position: u64) -> Handled
-    requires { ⌜ (n ≤ NODES) × (o ≤ OPEN-FILES) × (memorySize ≤ length (now m)) ⌝ }
+    requires { ⌜ (n ≤ NODES) × (o ≤ openRows) × (memorySize ≤ length (now m)) ⌝ }
     ensures { λ r. ⌜ r ≡ handledFor (tablesIn n o (memOf (now (m .entry)))) handle (seek handle position) ⌝ }
 {
     let k = tables::find_handle(m, o, handle);
@@ -90,7 +90,7 @@ pub fn judge_seek(m: &[u8], n: usize, o: usize, handle: u64, position: u64) -> H
 
 // truncate: 9 without right 2, 22 past the end.
 pub fn judge_truncate(m: &[u8], n: usize, o: usize, handle: u64, size: u64) -> Handled
-    requires { ⌜ (n ≤ NODES) × (o ≤ OPEN-FILES) × (memorySize ≤ length (now m)) ⌝ }
+    requires { ⌜ (n ≤ NODES) × (o ≤ openRows) × (memorySize ≤ length (now m)) ⌝ }
     ensures { λ r. ⌜ r ≡ handledFor (tablesIn n o (memOf (now (m .entry)))) handle (truncate handle size) ⌝ }
 {
     let k = tables::find_handle(m, o, handle);
@@ -106,9 +106,9 @@ fn is_full(m: &[u8], n: usize, k: usize, size: u32) -> bool
     ensures { λ r. ⌜ ((o : ℕ) → r ≡ noRoom (tablesIn n o (memOf (now (m .entry)))) k size) ⌝ }
 {
     if n <= k {
-        return 1024 < tables::first_page(m, n);
+        return limits::PAGES < tables::first_page(m, n);
     }
-    1024 < tables::pages_with(m, n, k, size)
+    limits::PAGES < tables::pages_with(m, n, k, size)
 }
 
 // The larger of two sizes.
@@ -120,7 +120,7 @@ fn larger(a: u32, b: u32) -> u32
 
 // write: 9 without right 2, 27, 28.
 pub fn judge_write(m: &[u8], n: usize, o: usize, handle: u64, bytes: &[u8]) -> Handled
-    requires { ⌜ (n ≤ NODES) × (o ≤ OPEN-FILES) × (memorySize ≤ length (now m)) ⌝ }
+    requires { ⌜ (n ≤ NODES) × (o ≤ openRows) × (memorySize ≤ length (now m)) ⌝ }
     ensures { λ r. ⌜ r ≡ handledFor (tablesIn n o (memOf (now (m .entry)))) handle (write handle (now (bytes .entry))) ⌝ }
 {
     let k = tables::find_handle(m, o, handle);
@@ -128,11 +128,11 @@ pub fn judge_write(m: &[u8], n: usize, o: usize, handle: u64, bytes: &[u8]) -> H
         return Handled::Refused(9);
     }
     // before the sum, which has to fit
-    if 65536 < bytes.len() {
+    if limits::FILE_BYTES < bytes.len() {
         return Handled::Refused(27);
     }
     let end = memory::open_cursor(m, k) as usize + bytes.len();
-    if 65536 < end {
+    if limits::FILE_BYTES < end {
         return Handled::Refused(27);
     }
     let node = tables::find_id(m, n, handle);

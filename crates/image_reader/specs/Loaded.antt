@@ -17,18 +17,18 @@ use Rattle.lists.specs.Parts.{overwrite}
 use Rattle.lists.specs.PartLaws.{overwrite-snoc, take-overwrite}
 use Rattle.lists.specs.RowLaws.{length-rows}
 use Rattle.lists.specs.Form.{bind}
-use Rattle.filesystem.specs.Tables.{PAGES, Node, noNode, nodeAt, newNode, withSize, pageTotal}
+use Rattle.filesystem.specs.Tables.{ID-BYTES, PAGES, Node, noNode, nodeAt, newNode, withSize, pageTotal}
 use Rattle.filesystem.specs.Image.{soundNodes, sound, parse}
 use Rattle.filesystem.specs.Sound.{to-sound, name-short}
 use Rattle.memory.specs.Layout.{Mem, memOf, withNodes, withDigests}
-use Rattle.images.specs.Width.{idBytes, imageIn}
+use Rattle.image_writer.specs.Width.{imageIn}
 use Rattle.image_reader.specs.Records.{recordAt, recordEnd, nodesFrom, endFrom, nodeCount, digestCount, imageNodes, imageDigests, formed, isSome}
 use Rattle.image_reader.specs.RecordLaws.{length-from, nodes-snoc}
 use Rattle.image_reader.specs.ParseLaws.{Formed, to-formed, parsed-formed, unparsed, whole-got}
 
 -- before and after are the memory's bytes, n is the number of nodes
 pub record Loaded (image before after : List ℕ) (n : ℕ) : Type 0 where
-  pub tables : parse idBytes image ≡ some (imageIn n after)
+  pub tables : parse ID-BYTES image ≡ some (imageIn n after)
   pub rest : memOf after ≡ withDigests (memOf after .digests) (withNodes (memOf after .nodes) (memOf before))
 
 -- what a sound image says
@@ -89,17 +89,17 @@ same-node w s at a b c d e f = λ i. record { id = a i; parent = b i; kind = c i
 front : {A : Type 0} (l x : List A) (n : ℕ) → n ≡ length x → take n (overwrite l 0 x) ≡ x
 front l x n e = take-overwrite l 0 x n (e ∙ omega arith) (omega arith)
 
-pub both-loaded : (s before middle after : List ℕ) (n : ℕ) → SoundImage idBytes s → n ≡ nodeCount s
-    → memOf middle ≡ withNodes (overwrite (memOf before .nodes) 0 (imageNodes idBytes s)) (memOf before)
-    → memOf after ≡ withDigests (overwrite (memOf middle .digests) 0 (imageDigests idBytes s)) (memOf middle) → Loaded s before after n
+pub both-loaded : (s before middle after : List ℕ) (n : ℕ) → SoundImage ID-BYTES s → n ≡ nodeCount s
+    → memOf middle ≡ withNodes (overwrite (memOf before .nodes) 0 (imageNodes ID-BYTES s)) (memOf before)
+    → memOf after ≡ withDigests (overwrite (memOf middle .digests) 0 (imageDigests ID-BYTES s)) (memOf middle) → Loaded s before after n
 unfolding imageDigests
 both-loaded s before middle after n i q a b =
-    let ns = imageNodes idBytes s in
-    let ds = imageDigests idBytes s in
+    let ns = imageNodes ID-BYTES s in
+    let ds = imageDigests ID-BYTES s in
     let m = b ∙ ap (λ (M : Mem). withDigests (overwrite (M .digests) 0 ds) M) a in
-    let e : take n (memOf after .nodes) ≡ ns = ap (λ (M : Mem). take n (M .nodes)) m ∙ front (memOf before .nodes) ns n (q ∙ sym (length-from idBytes s 4 (nodeCount s))) in
+    let e : take n (memOf after .nodes) ≡ ns = ap (λ (M : Mem). take n (M .nodes)) m ∙ front (memOf before .nodes) ns n (q ∙ sym (length-from ID-BYTES s 4 (nodeCount s))) in
     let d : take (pageTotal (take n (memOf after .nodes))) (memOf after .digests) ≡ ds =
-    ap₂ (λ (u : List Node) (M : Mem). take (pageTotal u) (M .digests)) e m ∙ front (memOf before .digests) ds (pageTotal ns) (sym (i .count) ∙ sym (length-rows 32 (digestCount idBytes s) _)) in
+    ap₂ (λ (u : List Node) (M : Mem). take (pageTotal u) (M .digests)) e m ∙ front (memOf before .digests) ds (pageTotal ns) (sym (i .count) ∙ sym (length-rows 32 (digestCount ID-BYTES s) _)) in
     record {
       tables = i .is ∙ ap₂ (λ (u : List Node) (v : List (List ℕ)). some (u, v)) (sym e) (sym d);
       rest = m ∙ ap (λ (M : Mem). withDigests (M .digests) (withNodes (M .nodes) (memOf before))) (sym m);

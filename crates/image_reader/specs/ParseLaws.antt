@@ -21,8 +21,8 @@ use Rattle.lists.specs.NumberParts.{decode-first, decode-none}
 use Rattle.lists.specs.Form.{Form, front, bind, get₂, get-as, get-all, bytes, counted, whole, ended}
 use Rattle.filesystem.specs.Tables.{NODES, PAGES, Node, nodeAt, pageTotal}
 use Rattle.filesystem.specs.Image.{nodeForm, Image, imageForm, isRoot, inLimits, soundNodes, sound, parse}
-use Rattle.images.specs.Width.{frontLength, recordLength, middle}
-use Rattle.images.specs.Written.{record-parts, length-record}
+use Rattle.image_writer.specs.Width.{frontLength, recordLength, middle}
+use Rattle.image_writer.specs.Written.{record-parts, length-record}
 use Rattle.image_reader.specs.Records.{recordAt, recordEnd, nodesFrom, endFrom, nodeCount, recordsEnd, digestCount, imageNodes, imageDigests, formed, isSome}
 use Rattle.image_reader.specs.RecordLaws.{end-least, nodes-next, length-from, formed-yes}
 use Rattle.image_reader.specs.SoundAdmitted.{unsound, sound-admitted}

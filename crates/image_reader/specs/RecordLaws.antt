@@ -12,7 +12,7 @@ use Rattle.lists.specs.Search.{any, place}
 use Rattle.lists.specs.Pick.{pick, pick-true, pick-false}
 use lib.ListN.{length}
 use Rattle.filesystem.specs.Tables.{NODES, Node}
-use Rattle.images.specs.Width.{frontLength}
+use Rattle.image_writer.specs.Width.{frontLength}
 use Rattle.image_reader.specs.TestLaws.{and-false}
 use Rattle.image_reader.specs.Records.{recordAt, recordEnd, nodesFrom, endFrom, nodeCount, recordsEnd, digestCount, formed}
 

@@ -12,7 +12,7 @@ use Rattle.lists.specs.Rows.{rows}
 use Rattle.lists.specs.Equal.{equal}
 use Rattle.filesystem.specs.Tables.{NODES, Node}
 use Rattle.filesystem.specs.Paths.{slash, dot}
-use Rattle.images.specs.Width.{frontLength}
+use Rattle.image_writer.specs.Width.{frontLength}
 
 -- the record that stands at a place
 unfoldable pub recordAt : ℕ → List ℕ → ℕ → Node

@@ -16,7 +16,7 @@ use Rattle.lists.specs.NumberParts.{part-below}
 use Rattle.lists.specs.Search.{every}
 use Rattle.lists.specs.Parts.{part}
 use Rattle.filesystem.specs.Paths.{slash, dot, componentForm}
-use Rattle.images.specs.Width.{frontLength}
+use Rattle.image_writer.specs.Width.{frontLength}
 use Rattle.image_reader.specs.Records.{recordAt, recordEnd, plainByte, ownName}
 
 or-false : (b : Bool) → (b || false) ≡ b

@@ -8,68 +8,71 @@ ghost use lib.ListN.{length, set};
 ghost use Rattle.lists.specs.Pick.{pick};
 ghost use Rattle.lists.specs.Parts.{overwrite};
 ghost use Rattle.lists.specs.Search.{any, every, place};
-ghost use Rattle.filesystem.specs.Tables.{NODES, PAGES, NAME-BYTES, pageTotal};
+ghost use Rattle.filesystem.specs.Tables.{ID-BYTES, NODES, PAGES, FILE-BYTES, NAME-BYTES, pageTotal};
 ghost use Rattle.filesystem.specs.Paths.{componentForm};
 ghost use Rattle.filesystem.specs.Image.{isRoot, inLimits, soundNodes, parse};
 ghost use Rattle.memory.specs.Layout.{memOf, memorySize, withNodes, withDigests};
-ghost use Rattle.images.specs.Width.{idBytes, frontLength};
+ghost use Rattle.image_writer.specs.Width.{frontLength};
 ghost use Rattle.image_reader.specs.Records.{recordAt, recordEnd, nodesFrom, endFrom, recordsEnd, digestCount, imageDigests, formed, plainByte, ownName, isSome};
 ghost use Rattle.image_reader.specs.Loaded.{Loaded};
 ghost use Rattle.image_reader.specs.Admission.{clash, isParent, admit, admitted};
 
-const ID_BYTES: usize = images::ID_BYTES;
+const ID_BYTES: usize = limits::ID_BYTES;
 
 // A record up to its name.
 const FRONT: usize = 2 * ID_BYTES + 7;
 
+// A length that no path may have.
+const TOO_LONG: usize = limits::PATH_BYTES + 1;
+
 // ---- a record's fields
 
 fn record_id(image: &[u8], at: usize) -> u64
-    requires { ⌜ at + frontLength idBytes ≤ length (now image) ⌝ }
-    ensures { λ r. ⌜ r ≡ recordAt idBytes (now (image .entry)) at .id ⌝ }
+    requires { ⌜ at + frontLength ID-BYTES ≤ length (now image) ⌝ }
+    ensures { λ r. ⌜ r ≡ recordAt ID-BYTES (now (image .entry)) at .id ⌝ }
 {
     numbers::number_at(image, at, ID_BYTES)
 }
 
 fn record_parent(image: &[u8], at: usize) -> u64
-    requires { ⌜ at + frontLength idBytes ≤ length (now image) ⌝ }
-    ensures { λ r. ⌜ r ≡ recordAt idBytes (now (image .entry)) at .parent ⌝ }
+    requires { ⌜ at + frontLength ID-BYTES ≤ length (now image) ⌝ }
+    ensures { λ r. ⌜ r ≡ recordAt ID-BYTES (now (image .entry)) at .parent ⌝ }
 {
     numbers::number_at(image, at + ID_BYTES, ID_BYTES)
 }
 
 fn record_kind(image: &[u8], at: usize) -> u8
-    requires { ⌜ at + frontLength idBytes ≤ length (now image) ⌝ }
-    ensures { λ r. ⌜ r ≡ recordAt idBytes (now (image .entry)) at .kind ⌝ }
+    requires { ⌜ at + frontLength ID-BYTES ≤ length (now image) ⌝ }
+    ensures { λ r. ⌜ r ≡ recordAt ID-BYTES (now (image .entry)) at .kind ⌝ }
 {
     image[at + 2 * ID_BYTES]
 }
 
 fn record_mode(image: &[u8], at: usize) -> u8
-    requires { ⌜ at + frontLength idBytes ≤ length (now image) ⌝ }
-    ensures { λ r. ⌜ r ≡ recordAt idBytes (now (image .entry)) at .mode ⌝ }
+    requires { ⌜ at + frontLength ID-BYTES ≤ length (now image) ⌝ }
+    ensures { λ r. ⌜ r ≡ recordAt ID-BYTES (now (image .entry)) at .mode ⌝ }
 {
     image[at + 2 * ID_BYTES + 1]
 }
 
 fn record_size(image: &[u8], at: usize) -> u32
-    requires { ⌜ at + frontLength idBytes ≤ length (now image) ⌝ }
-    ensures { λ r. ⌜ r ≡ recordAt idBytes (now (image .entry)) at .size ⌝ }
+    requires { ⌜ at + frontLength ID-BYTES ≤ length (now image) ⌝ }
+    ensures { λ r. ⌜ r ≡ recordAt ID-BYTES (now (image .entry)) at .size ⌝ }
 {
     numbers::u32_at(image, at + 2 * ID_BYTES + 2)
 }
 
 // The place behind the record.
 fn record_end(image: &[u8], at: usize) -> usize
-    requires { ⌜ at + frontLength idBytes ≤ length (now image) ⌝ }
-    ensures { λ r. ⌜ (r ≡ recordEnd idBytes (now (image .entry)) at) × (at + frontLength idBytes ≤ r) × (r ≤ at + frontLength idBytes + 255) ⌝ }
+    requires { ⌜ at + frontLength ID-BYTES ≤ length (now image) ⌝ }
+    ensures { λ r. ⌜ (r ≡ recordEnd ID-BYTES (now (image .entry)) at) × (at + frontLength ID-BYTES ≤ r) × (r ≤ at + frontLength ID-BYTES + 255) ⌝ }
 {
     at + FRONT + image[at + 2 * ID_BYTES + 6] as usize
 }
 
 fn record_name(image: &[u8], at: usize) -> &[u8]
-    requires { ⌜ recordEnd idBytes (now image) at ≤ length (now image) ⌝ }
-    ensures { λ r. ⌜ now r ≡ recordAt idBytes (now (image .entry)) at .name ⌝ }
+    requires { ⌜ recordEnd ID-BYTES (now image) at ≤ length (now image) ⌝ }
+    ensures { λ r. ⌜ now r ≡ recordAt ID-BYTES (now (image .entry)) at .name ⌝ }
 {
     let start = at + FRONT;
     let end = record_end(image, at);
@@ -81,7 +84,7 @@ fn record_name(image: &[u8], at: usize) -> &[u8]
 // The place behind n records, or 0 where the image ends before that.
 fn records_end(image: &[u8], n: usize) -> usize
     requires { ⌜ 4 ≤ length (now image) ⌝ }
-    ensures { λ r. ⌜ (r ≡ pick (leb (endFrom idBytes (now (image .entry)) 4 n) (length (now (image .entry)))) (endFrom idBytes (now (image .entry)) 4 n) 0) × (r ≤ length (now (image .entry))) ⌝ }
+    ensures { λ r. ⌜ (r ≡ pick (leb (endFrom ID-BYTES (now (image .entry)) 4 n) (length (now (image .entry)))) (endFrom ID-BYTES (now (image .entry)) 4 n) 0) × (r ≤ length (now (image .entry))) ⌝ }
 {
     let mut at = 4;
     let mut i = 0;
@@ -100,14 +103,14 @@ fn records_end(image: &[u8], n: usize) -> usize
 
 // The place behind the records where the image has its form, else 0.
 fn form(image: &[u8]) -> usize
-    ensures { λ r. ⌜ r ≡ pick (formed idBytes (now (image .entry))) (recordsEnd idBytes (now (image .entry))) 0 ⌝ }
+    ensures { λ r. ⌜ r ≡ pick (formed ID-BYTES (now (image .entry))) (recordsEnd ID-BYTES (now (image .entry))) 0 ⌝ }
 {
     let len = image.len();
     if len < 4 {
         return 0;
     }
     let n = numbers::u32_at(image, 0) as usize;
-    if 256 < n {
+    if limits::NODES < n {
         return 0;
     }
     let end = records_end(image, n);
@@ -118,7 +121,7 @@ fn form(image: &[u8]) -> usize
         return 0;
     }
     let k = numbers::u32_at(image, end) as usize;
-    if len - end - 4 != k * 32 {
+    if len - end - 4 != k * limits::DIGEST_BYTES {
         return 0;
     }
     end
@@ -167,7 +170,7 @@ fn is_own(name: &[u8]) -> bool
 fn is_named(name: &[u8]) -> bool
     ensures { λ r. ⌜ r ≡ (componentForm (now (name .entry)) && leb (length (now (name .entry))) NAME-BYTES) ⌝ }
 {
-    if 32 < name.len() {
+    if limits::NAME_BYTES < name.len() {
         return false;
     }
     if !is_own(name) {
@@ -177,10 +180,10 @@ fn is_named(name: &[u8]) -> bool
 }
 
 fn is_kind_and_size(kind: u8, size: u32) -> bool
-    ensures { λ r. ⌜ r ≡ (eqb kind 1 && leb size 65536 || eqb kind 2 && eqb size 0) ⌝ }
+    ensures { λ r. ⌜ r ≡ (eqb kind 1 && leb size FILE-BYTES || eqb kind 2 && eqb size 0) ⌝ }
 {
     if kind == 1 {
-        return size <= 65536;
+        return size as usize <= limits::FILE_BYTES;
     }
     if kind == 2 {
         return size == 0;
@@ -190,8 +193,8 @@ fn is_kind_and_size(kind: u8, size: u32) -> bool
 
 // The limits of a node by itself.
 fn is_in_limits(image: &[u8], at: usize) -> bool
-    requires { ⌜ at + frontLength idBytes ≤ length (now image) ⌝ }
-    ensures { λ r. ⌜ r ≡ inLimits idBytes (recordAt idBytes (now (image .entry)) at) ⌝ }
+    requires { ⌜ at + frontLength ID-BYTES ≤ length (now image) ⌝ }
+    ensures { λ r. ⌜ r ≡ inLimits ID-BYTES (recordAt ID-BYTES (now (image .entry)) at) ⌝ }
 {
     if record_id(image, at) == 0 {
         return false;
@@ -203,8 +206,8 @@ fn is_in_limits(image: &[u8], at: usize) -> bool
 }
 
 fn is_root(image: &[u8], at: usize) -> bool
-    requires { ⌜ recordEnd idBytes (now image) at ≤ length (now image) ⌝ }
-    ensures { λ r. ⌜ r ≡ isRoot (recordAt idBytes (now (image .entry)) at) ⌝ }
+    requires { ⌜ recordEnd ID-BYTES (now image) at ≤ length (now image) ⌝ }
+    ensures { λ r. ⌜ r ≡ isRoot (recordAt ID-BYTES (now (image .entry)) at) ⌝ }
 {
     if record_id(image, at) != 1 {
         return false;
@@ -223,8 +226,8 @@ fn is_root(image: &[u8], at: usize) -> bool
 
 // Whether the record at b may not stand beside an earlier one at a.
 fn is_clash(image: &[u8], a: usize, b: usize) -> bool
-    requires { ⌜ (recordEnd idBytes (now image) a ≤ length (now image)) × (recordEnd idBytes (now image) b ≤ length (now image)) ⌝ }
-    ensures { λ r. ⌜ r ≡ clash (recordAt idBytes (now (image .entry)) b) (recordAt idBytes (now (image .entry)) a) ⌝ }
+    requires { ⌜ (recordEnd ID-BYTES (now image) a ≤ length (now image)) × (recordEnd ID-BYTES (now image) b ≤ length (now image)) ⌝ }
+    ensures { λ r. ⌜ r ≡ clash (recordAt ID-BYTES (now (image .entry)) b) (recordAt ID-BYTES (now (image .entry)) a) ⌝ }
 {
     if record_id(image, a) == record_id(image, b) {
         return true;
@@ -238,8 +241,8 @@ fn is_clash(image: &[u8], a: usize, b: usize) -> bool
 
 // Whether one of the first i records clashes with the one at `at`.
 fn clashes(image: &[u8], at: usize, i: usize) -> bool
-    requires { ⌜ (endFrom idBytes (now image) 4 i ≤ length (now image)) × (recordEnd idBytes (now image) at ≤ length (now image)) ⌝ }
-    ensures { λ r. ⌜ r ≡ any (clash (recordAt idBytes (now (image .entry)) at)) (nodesFrom idBytes (now (image .entry)) 4 i) ⌝ }
+    requires { ⌜ (endFrom ID-BYTES (now image) 4 i ≤ length (now image)) × (recordEnd ID-BYTES (now image) at ≤ length (now image)) ⌝ }
+    ensures { λ r. ⌜ r ≡ any (clash (recordAt ID-BYTES (now (image .entry)) at)) (nodesFrom ID-BYTES (now (image .entry)) 4 i) ⌝ }
 {
     let mut a = 4;
     let mut seen = 0;
@@ -255,8 +258,8 @@ fn clashes(image: &[u8], at: usize, i: usize) -> bool
 
 // Whether the record at a is a directory with this id.
 fn is_parent(image: &[u8], a: usize, id: u64) -> bool
-    requires { ⌜ a + frontLength idBytes ≤ length (now image) ⌝ }
-    ensures { λ r. ⌜ r ≡ (eqb (recordAt idBytes (now (image .entry)) a .id) id && eqb (recordAt idBytes (now (image .entry)) a .kind) 2) ⌝ }
+    requires { ⌜ a + frontLength ID-BYTES ≤ length (now image) ⌝ }
+    ensures { λ r. ⌜ r ≡ (eqb (recordAt ID-BYTES (now (image .entry)) a .id) id && eqb (recordAt ID-BYTES (now (image .entry)) a .kind) 2) ⌝ }
 {
     if record_id(image, a) != id {
         return false;
@@ -266,8 +269,8 @@ fn is_parent(image: &[u8], a: usize, id: u64) -> bool
 
 // The place among the first i records of the parent of the one at `at`, or i.
 fn parent_place(image: &[u8], at: usize, i: usize) -> usize
-    requires { ⌜ (endFrom idBytes (now image) 4 i ≤ length (now image)) × (recordEnd idBytes (now image) at ≤ length (now image)) ⌝ }
-    ensures { λ r. ⌜ r ≡ place (isParent (recordAt idBytes (now (image .entry)) at)) (nodesFrom idBytes (now (image .entry)) 4 i) ⌝ }
+    requires { ⌜ (endFrom ID-BYTES (now image) 4 i ≤ length (now image)) × (recordEnd ID-BYTES (now image) at ≤ length (now image)) ⌝ }
+    ensures { λ r. ⌜ r ≡ place (isParent (recordAt ID-BYTES (now (image .entry)) at)) (nodesFrom ID-BYTES (now (image .entry)) 4 i) ⌝ }
 {
     let id = record_parent(image, at);
     let mut a = 4;
@@ -282,39 +285,39 @@ fn parent_place(image: &[u8], at: usize, i: usize) -> usize
     k
 }
 
-// The length of the path of the record at `at`, by those of the first i; 256 where it may not stand there.
+// The length of the path of the record at `at`, by those of the first i; `TOO_LONG` where it may not stand there.
 fn admission(image: &[u8], at: usize, i: usize, lengths: &[u8]) -> usize
-    requires { ⌜ (endFrom idBytes (now image) 4 i ≤ length (now image)) × (recordEnd idBytes (now image) at ≤ length (now image)) × (i ≤ length (now lengths)) ⌝ }
-    ensures { λ r. ⌜ r ≡ admit idBytes (nodesFrom idBytes (now (image .entry)) 4 i) (now (lengths .entry)) (recordAt idBytes (now (image .entry)) at) ⌝ }
+    requires { ⌜ (endFrom ID-BYTES (now image) 4 i ≤ length (now image)) × (recordEnd ID-BYTES (now image) at ≤ length (now image)) × (i ≤ length (now lengths)) ⌝ }
+    ensures { λ r. ⌜ r ≡ admit ID-BYTES (nodesFrom ID-BYTES (now (image .entry)) 4 i) (now (lengths .entry)) (recordAt ID-BYTES (now (image .entry)) at) ⌝ }
 {
     if !is_in_limits(image, at) {
-        return 256;
+        return TOO_LONG;
     }
     let name = record_name(image, at);
     if !is_named(name) {
-        return 256;
+        return TOO_LONG;
     }
     if clashes(image, at, i) {
-        return 256;
+        return TOO_LONG;
     }
     let j = parent_place(image, at, i);
     if i <= j {
-        return 256;
+        return TOO_LONG;
     }
     1 + name.len() + lengths[j] as usize
 }
 
 // Whether each of the n records behind the first may stand behind those before it. The lengths of their paths are kept in `lengths`.
 fn all_admitted(image: &[u8], n: usize, lengths: &mut [u8]) -> bool
-    requires { ⌜ (0 < n) × (endFrom idBytes (now image) 4 n ≤ length (now image)) × (n ≤ length (now lengths)) ⌝ }
-    ensures { λ r. ⌜ r ≡ admitted idBytes (recordAt idBytes (now (image .entry)) 4 ∷ []) (0 ∷ []) (nodesFrom idBytes (now (image .entry)) (recordEnd idBytes (now (image .entry)) 4) (n - 1)) ⌝ }
+    requires { ⌜ (0 < n) × (endFrom ID-BYTES (now image) 4 n ≤ length (now image)) × (n ≤ length (now lengths)) ⌝ }
+    ensures { λ r. ⌜ r ≡ admitted ID-BYTES (recordAt ID-BYTES (now (image .entry)) 4 ∷ []) (0 ∷ []) (nodesFrom ID-BYTES (now (image .entry)) (recordEnd ID-BYTES (now (image .entry)) 4) (n - 1)) ⌝ }
 {
     lengths[0] = 0;
     let mut at = record_end(image, 4);
     let mut i = 1;
     while i < n {
         let l = admission(image, at, i, lengths);
-        if 255 < l {
+        if limits::PATH_BYTES < l {
             return false;
         }
         lengths[i] = l as u8;
@@ -326,8 +329,8 @@ fn all_admitted(image: &[u8], n: usize, lengths: &mut [u8]) -> bool
 
 // The pages of the first n nodes.
 fn page_sum(image: &[u8], n: usize) -> usize
-    requires { ⌜ (n ≤ NODES) × (endFrom idBytes (now image) 4 n ≤ length (now image)) ⌝ }
-    ensures { λ r. ⌜ r ≡ pageTotal (nodesFrom idBytes (now (image .entry)) 4 n) ⌝ }
+    requires { ⌜ (n ≤ NODES) × (endFrom ID-BYTES (now image) 4 n ≤ length (now image)) ⌝ }
+    ensures { λ r. ⌜ r ≡ pageTotal (nodesFrom ID-BYTES (now (image .entry)) 4 n) ⌝ }
 {
     let mut at = 4;
     let mut total: usize = 0;
@@ -344,8 +347,8 @@ fn page_sum(image: &[u8], n: usize) -> usize
 
 // Whether the first n nodes are sound.
 fn are_sound(image: &[u8], n: usize) -> bool
-    requires { ⌜ (n ≤ NODES) × (endFrom idBytes (now image) 4 n ≤ length (now image)) ⌝ }
-    ensures { λ r. ⌜ r ≡ soundNodes idBytes (nodesFrom idBytes (now (image .entry)) 4 n) ⌝ }
+    requires { ⌜ (n ≤ NODES) × (endFrom ID-BYTES (now image) 4 n ≤ length (now image)) ⌝ }
+    ensures { λ r. ⌜ r ≡ soundNodes ID-BYTES (nodesFrom ID-BYTES (now (image .entry)) 4 n) ⌝ }
 {
     if n == 0 {
         return false;
@@ -356,16 +359,16 @@ fn are_sound(image: &[u8], n: usize) -> bool
     if !is_in_limits(image, 4) {
         return false;
     }
-    if 1024 < page_sum(image, n) {
+    if limits::PAGES < page_sum(image, n) {
         return false;
     }
-    let mut lengths = [0u8; 256];
+    let mut lengths = [0u8; limits::NODES];
     all_admitted(image, n, &mut lengths)
 }
 
 // Whether the image is sound, whatever bytes it has.
 pub fn is_sound(image: &[u8]) -> bool
-    ensures { λ r. ⌜ r ≡ isSome (parse idBytes (now (image .entry))) ⌝ }
+    ensures { λ r. ⌜ r ≡ isSome (parse ID-BYTES (now (image .entry))) ⌝ }
 {
     let end = form(image);
     if end == 0 {
@@ -383,8 +386,8 @@ pub fn is_sound(image: &[u8]) -> bool
 
 // The record at `at` as node i of the memory.
 fn load_record(image: &[u8], at: usize, m: &mut [u8], i: usize)
-    requires { ⌜ (recordEnd idBytes (now image) at ≤ length (now image)) × (length (recordAt idBytes (now image) at .name) ≤ 32) × (i < NODES) × (memorySize ≤ length (now m)) ⌝ }
-    ensures { λ _. ⌜ memOf (now (m .exit)) ≡ withNodes (set (memOf (now (m .entry)) .nodes) i (recordAt idBytes (now (image .entry)) at)) (memOf (now (m .entry))) ⌝ }
+    requires { ⌜ (recordEnd ID-BYTES (now image) at ≤ length (now image)) × (length (recordAt ID-BYTES (now image) at .name) ≤ 32) × (i < NODES) × (memorySize ≤ length (now m)) ⌝ }
+    ensures { λ _. ⌜ memOf (now (m .exit)) ≡ withNodes (set (memOf (now (m .entry)) .nodes) i (recordAt ID-BYTES (now (image .entry)) at)) (memOf (now (m .entry))) ⌝ }
     ensures { λ _. ⌜ length (now (m .exit)) ≡ length (now (m .entry)) ⌝ }
 {
     let name = record_name(image, at);
@@ -401,10 +404,10 @@ fn load_record(image: &[u8], at: usize, m: &mut [u8], i: usize)
 
 // The first n records, which are sound, as the memory's first nodes; the place behind them.
 fn load_records(image: &[u8], n: usize, m: &mut [u8]) -> usize
-    requires { ⌜ (soundNodes idBytes (nodesFrom idBytes (now image) 4 n) ≡ true) × (n ≤ NODES) × (endFrom idBytes (now image) 4 n ≤ length (now image)) × (memorySize ≤ length (now m)) ⌝ }
-    ensures { λ _. ⌜ memOf (now (m .exit)) ≡ withNodes (overwrite (memOf (now (m .entry)) .nodes) 0 (nodesFrom idBytes (now (image .entry)) 4 n)) (memOf (now (m .entry))) ⌝ }
+    requires { ⌜ (soundNodes ID-BYTES (nodesFrom ID-BYTES (now image) 4 n) ≡ true) × (n ≤ NODES) × (endFrom ID-BYTES (now image) 4 n ≤ length (now image)) × (memorySize ≤ length (now m)) ⌝ }
+    ensures { λ _. ⌜ memOf (now (m .exit)) ≡ withNodes (overwrite (memOf (now (m .entry)) .nodes) 0 (nodesFrom ID-BYTES (now (image .entry)) 4 n)) (memOf (now (m .entry))) ⌝ }
     ensures { λ _. ⌜ length (now (m .exit)) ≡ length (now (m .entry)) ⌝ }
-    ensures { λ r. ⌜ r ≡ endFrom idBytes (now (image .entry)) 4 n ⌝ }
+    ensures { λ r. ⌜ r ≡ endFrom ID-BYTES (now (image .entry)) 4 n ⌝ }
 {
     let mut at = 4;
     let mut i = 0;
@@ -418,8 +421,8 @@ fn load_records(image: &[u8], n: usize, m: &mut [u8]) -> usize
 
 // The second section's digests as the memory's first digests.
 fn load_digests(image: &[u8], end: usize, m: &mut [u8])
-    requires { ⌜ (end ≡ recordsEnd idBytes (now image)) × (end + 4 + digestCount idBytes (now image) * 32 ≡ length (now image)) × (digestCount idBytes (now image) ≤ PAGES) × (memorySize ≤ length (now m)) ⌝ }
-    ensures { λ _. ⌜ memOf (now (m .exit)) ≡ withDigests (overwrite (memOf (now (m .entry)) .digests) 0 (imageDigests idBytes (now (image .entry)))) (memOf (now (m .entry))) ⌝ }
+    requires { ⌜ (end ≡ recordsEnd ID-BYTES (now image)) × (end + 4 + digestCount ID-BYTES (now image) * 32 ≡ length (now image)) × (digestCount ID-BYTES (now image) ≤ PAGES) × (memorySize ≤ length (now m)) ⌝ }
+    ensures { λ _. ⌜ memOf (now (m .exit)) ≡ withDigests (overwrite (memOf (now (m .entry)) .digests) 0 (imageDigests ID-BYTES (now (image .entry)))) (memOf (now (m .entry))) ⌝ }
     ensures { λ _. ⌜ length (now (m .exit)) ≡ length (now (m .entry)) ⌝ }
 {
     let k = numbers::u32_at(image, end) as usize;
@@ -429,7 +432,7 @@ fn load_digests(image: &[u8], end: usize, m: &mut [u8])
 
 // The tables of a sound image put into the memory, in place of its nodes and digests; the number of nodes.
 pub fn load_image(image: &[u8], m: &mut [u8]) -> usize
-    requires { ⌜ (isSome (parse idBytes (now image)) ≡ true) × (memorySize ≤ length (now m)) ⌝ }
+    requires { ⌜ (isSome (parse ID-BYTES (now image)) ≡ true) × (memorySize ≤ length (now m)) ⌝ }
     ensures { λ r. ⌜ Loaded (now (image .entry)) (now (m .entry)) (now (m .exit)) r ⌝ }
     ensures { λ _. ⌜ length (now (m .exit)) ≡ length (now (m .entry)) ⌝ }
 {

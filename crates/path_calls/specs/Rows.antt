@@ -7,10 +7,10 @@ use Prim.Native.Nat.{ℕ, _/_, _%_, _<_, _≤_}
 use native.Mathlib.Omega.{arith}
 use lib.ListN.{length, take}
 use borrow.Author.Tests.{eq-eqb, ne-eqb, le-leb, lt-leb}
-use Rattle.filesystem.specs.Tables.{NODES, OPEN-FILES, Node, nodeAt, isDirectory, hasBit, children, findHandle}
+use Rattle.filesystem.specs.Tables.{NODES, Node, nodeAt, isDirectory, hasBit, children, findHandle}
 use Rattle.filesystem.specs.Rights.{covers}
 use Rattle.filesystem.specs.Paths.{parentOf}
-use Rattle.memory.specs.Layout.{memOf}
+use Rattle.memory.specs.Layout.{memOf, openRows}
 use Rattle.tables.specs.View.{tablesIn}
 use Rattle.rules.specs.Calls.{stat}
 use Rattle.rules.specs.Rules.{isOpen}
@@ -56,7 +56,7 @@ module _ (n : ℕ) (ns : List Node) (k : ℕ) (h : k < n) (x : ℕ) where
     no-bit q = ap (hasBit b) (node-front n ns k h) ∙ ne-eqb _ _ (λ p. q (ap (λ (y : ℕ). y / b % 2) e ∙ p))
 
 -- whether node k is open: where its id was found among the handles
-module _ (m : List ℕ) (n o k : ℕ) (h : k < n) (l : o ≤ OPEN-FILES) (id x : ℕ) (e : id ≡ nodeAt (memOf m .nodes) k .id) (f : x ≡ findHandle (take o (memOf m .opens)) id) where
+module _ (m : List ℕ) (n o k : ℕ) (h : k < n) (l : o ≤ openRows) (id x : ℕ) (e : id ≡ nodeAt (memOf m .nodes) k .id) (f : x ≡ findHandle (take o (memOf m .opens)) id) where
   found : x ≡ findHandle (take o (memOf m .opens)) (nodeAt (take n (memOf m .nodes)) k .id)
   found = f ∙ ap (findHandle (take o (memOf m .opens))) (front-id n (memOf m .nodes) k h id e)
 

@@ -2,8 +2,8 @@
 ghost use mathlib.Core.Path.{_≡_};
 ghost use Prim.Native.Nat.{ℕ, _<_, _≤_};
 ghost use lib.ListN.{length, take};
-ghost use Rattle.filesystem.specs.Tables.{NODES, OPEN-FILES};
-ghost use Rattle.memory.specs.Layout.{memOf, memorySize};
+ghost use Rattle.filesystem.specs.Tables.{NODES};
+ghost use Rattle.memory.specs.Layout.{memOf, memorySize, openRows};
 ghost use Rattle.tables.specs.View.{tablesIn};
 ghost use Rattle.rules.specs.Calls.{create, openAs, remove, rmdir, readdir, stat};
 ghost use Rattle.paths.specs.Parts.{componentsOf};
@@ -35,7 +35,7 @@ pub fn judge_reach(m: &[u8], n: usize, path: &[u8]) -> paths::Walked
 
 // open on node k: 21, 13, 16, 24.
 fn open_own(m: &[u8], n: usize, o: usize, k: usize, rights: u8) -> paths::Walked
-    requires { ⌜ (k < n) × (n ≤ NODES) × (o ≤ OPEN-FILES) × (memorySize ≤ length (now m)) ⌝ }
+    requires { ⌜ (k < n) × (n ≤ NODES) × (o ≤ openRows) × (memorySize ≤ length (now m)) ⌝ }
     ensures { λ r. ⌜ r ≡ openOwn (tablesIn n o (memOf (now (m .entry)))) k rights ⌝ }
 {
     if memory::node_kind(m, k) == 2 {
@@ -47,7 +47,7 @@ fn open_own(m: &[u8], n: usize, o: usize, k: usize, rights: u8) -> paths::Walked
     if tables::find_handle(m, o, memory::node_id(m, k)) < o {
         return paths::Walked::Refused(16);
     }
-    if 32 <= o {
+    if limits::OPEN_FILES <= o {
         return paths::Walked::Refused(24);
     }
     paths::Walked::Node(k)
@@ -55,7 +55,7 @@ fn open_own(m: &[u8], n: usize, o: usize, k: usize, rights: u8) -> paths::Walked
 
 // open: stat's numbers, then its own.
 pub fn judge_open(m: &[u8], n: usize, o: usize, path: &[u8], rights: u8) -> paths::Walked
-    requires { ⌜ (0 < n) × (n ≤ NODES) × (o ≤ OPEN-FILES) × (memorySize ≤ length (now m)) ⌝ }
+    requires { ⌜ (0 < n) × (n ≤ NODES) × (o ≤ openRows) × (memorySize ≤ length (now m)) ⌝ }
     ensures { λ r. ⌜ r ≡ nodeFor (tablesIn n o (memOf (now (m .entry)))) (now (path .entry)) (openAs rights) ⌝ }
 {
     let w = judge_reach(m, n, path);
@@ -133,7 +133,7 @@ fn judge_way(m: &[u8], n: usize, path: &[u8]) -> Way
 
 // remove of node k in directory d: 21, 13 (the directory's bit 2), 16.
 fn remove_own(m: &[u8], n: usize, o: usize, k: usize, d: usize) -> paths::Walked
-    requires { ⌜ (k < n) × (d < n) × (n ≤ NODES) × (o ≤ OPEN-FILES) × (memorySize ≤ length (now m)) ⌝ }
+    requires { ⌜ (k < n) × (d < n) × (n ≤ NODES) × (o ≤ openRows) × (memorySize ≤ length (now m)) ⌝ }
     ensures { λ r. ⌜ r ≡ removeOwn (tablesIn n o (memOf (now (m .entry)))) k d ⌝ }
 {
     if memory::node_kind(m, k) == 2 {
@@ -150,7 +150,7 @@ fn remove_own(m: &[u8], n: usize, o: usize, k: usize, d: usize) -> paths::Walked
 
 // remove: stat's numbers, then its own.
 pub fn judge_remove(m: &[u8], n: usize, o: usize, path: &[u8]) -> paths::Walked
-    requires { ⌜ (0 < n) × (n ≤ NODES) × (o ≤ OPEN-FILES) × (memorySize ≤ length (now m)) ⌝ }
+    requires { ⌜ (0 < n) × (n ≤ NODES) × (o ≤ openRows) × (memorySize ≤ length (now m)) ⌝ }
     ensures { λ r. ⌜ r ≡ nodeFor (tablesIn n o (memOf (now (m .entry)))) (now (path .entry)) remove ⌝ }
 {
     let w = judge_way(m, n, path);
@@ -205,7 +205,7 @@ fn name_own(m: &[u8], n: usize, d: usize, at: usize, name: &[u8]) -> paths::Plac
     if memory::node_mode(m, d) / 2 % 2 != 1 {
         return paths::Placed::Refused(13);
     }
-    if 256 <= n {
+    if limits::NODES <= n {
         return paths::Placed::Refused(28);
     }
     paths::Placed::In {

@@ -148,7 +148,7 @@ fn long_with(long: bool, n: usize) -> bool
     if long {
         return true;
     }
-    32 < n
+    limits::NAME_BYTES < n
 }
 
 // The form of what follows the first slash.
@@ -156,7 +156,7 @@ fn parts_form(path: &[u8]) -> PathForm
     requires { ⌜ 2 ≤ length (now path) ⌝ }
     ensures { λ r. ⌜ r ≡ partsForm (ltb PATH-BYTES (length (now (path .entry)))) (split (drop 1 (now (path .entry)))) ⌝ }
 {
-    let mut long = 255 < path.len();
+    let mut long = limits::PATH_BYTES < path.len();
     let mut at = 1;
     let mut end = part_end(path, 1);
     while end < path.len() {

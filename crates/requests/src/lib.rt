@@ -5,11 +5,14 @@ ghost use Prim.Native.Nat.{_+_, _-_, _≤_, min};
 ghost use lib.ListN.{length};
 ghost use Rattle.lists.specs.LittleEndian.{encode};
 ghost use Rattle.lists.specs.Parts.{overwrite};
-ghost use Rattle.filesystem.specs.Tables.{PAGE-BYTES};
+ghost use Rattle.filesystem.specs.Tables.{PAGE-BYTES, FILE-BYTES};
 ghost use Rattle.rules.specs.Pages.{writing, shrinking, resized, fill};
-ghost use Rattle.rules.specs.Requests.{closeRequest, fetchRequest, storeRequest, cutRequest};
-ghost use Rattle.rules.specs.Skeleton.{atFront, requestLength};
+ghost use Rattle.rules.specs.Requests.{closeRequest, fetchRequest, storeRequest, storeLength, cutRequest};
+ghost use Rattle.rules.specs.Skeleton.{atFront};
 ghost use Rattle.requests.specs.StoredPages.{zeros};
+
+// A store: kind, descriptor, page, size, and the page's bytes.
+pub const STORE_LENGTH: usize = 13 + limits::PAGE_BYTES;
 
 // The kind of a request and the descriptor, with which all begin.
 fn put_head(out: &mut [u8], kind: u8, descriptor: u32)
@@ -31,7 +34,7 @@ fn put_longer(out: &mut [u8], kind: u8, descriptor: u32, number: u64)
 
 // close: the descriptor.
 pub fn write_close(out: &mut [u8], descriptor: u32) -> usize
-    requires { ⌜ requestLength ≤ length (now out) ⌝ }
+    requires { ⌜ storeLength ≤ length (now out) ⌝ }
     ensures { λ r. ⌜ (now (out .exit) ≡ atFront (closeRequest descriptor) (now (out .entry))) × (r ≡ length (closeRequest descriptor)) ⌝ }
 {
     put_head(out, 4, descriptor);
@@ -40,7 +43,7 @@ pub fn write_close(out: &mut [u8], descriptor: u32) -> usize
 
 // fetch: the descriptor and the page.
 pub fn write_fetch(out: &mut [u8], descriptor: u32, page: u32) -> usize
-    requires { ⌜ requestLength ≤ length (now out) ⌝ }
+    requires { ⌜ storeLength ≤ length (now out) ⌝ }
     ensures { λ r. ⌜ (now (out .exit) ≡ atFront (fetchRequest descriptor page) (now (out .entry))) × (r ≡ length (fetchRequest descriptor page)) ⌝ }
 {
     put_longer(out, 6, descriptor, page as u64);
@@ -49,7 +52,7 @@ pub fn write_fetch(out: &mut [u8], descriptor: u32, page: u32) -> usize
 
 // cut: the descriptor and the size.
 pub fn write_cut(out: &mut [u8], descriptor: u32, size: u32) -> usize
-    requires { ⌜ requestLength ≤ length (now out) ⌝ }
+    requires { ⌜ storeLength ≤ length (now out) ⌝ }
     ensures { λ r. ⌜ (now (out .exit) ≡ atFront (cutRequest descriptor size) (now (out .entry))) × (r ≡ length (cutRequest descriptor size)) ⌝ }
 {
     put_longer(out, 8, descriptor, size as u64);
@@ -93,18 +96,18 @@ fn put_page(out: &mut [u8], at: usize, page: &[u8])
 {
     let n = page.len();
     buffers::put(out, at, page);
-    put_zeros(out, at + n, 1024 - n);
+    put_zeros(out, at + n, limits::PAGE_BYTES - n);
 }
 
 // Page i as a write stores it, over a part of out.
 fn put_written(out: &mut [u8], at: usize, page: &[u8], position: usize, bytes: &[u8], i: usize)
-    requires { ⌜ (at + PAGE-BYTES ≤ length (now out)) × (length (now page) ≤ PAGE-BYTES) × (position ≤ 65536) × (i ≤ 64) ⌝ }
+    requires { ⌜ (at + PAGE-BYTES ≤ length (now out)) × (length (now page) ≤ PAGE-BYTES) × (position ≤ FILE-BYTES) × (i ≤ 64) ⌝ }
     ensures { λ _. ⌜ now (out .exit) ≡ overwrite (now (out .entry)) at (fill (writing position (now (bytes .entry))) i (now (page .entry))) ⌝ }
 {
     put_page(out, at, page);
-    let start = i * 1024;
+    let start = i * limits::PAGE_BYTES;
     let from = excess(start, position);
-    let to = smaller(bytes.len(), excess(start + 1024, position));
+    let to = smaller(bytes.len(), excess(start + limits::PAGE_BYTES, position));
     if to <= from {
         return;
     }
@@ -114,10 +117,10 @@ fn put_written(out: &mut [u8], at: usize, page: &[u8], position: usize, bytes: &
 
 // Page i as a truncation stores it, over a part of out.
 fn put_cut(out: &mut [u8], at: usize, page: &[u8], size: usize, i: usize)
-    requires { ⌜ (at + PAGE-BYTES ≤ length (now out)) × (length (now page) ≤ PAGE-BYTES) × (size ≤ 65536) × (i ≤ 64) ⌝ }
+    requires { ⌜ (at + PAGE-BYTES ≤ length (now out)) × (length (now page) ≤ PAGE-BYTES) × (size ≤ FILE-BYTES) × (i ≤ 64) ⌝ }
     ensures { λ _. ⌜ now (out .exit) ≡ overwrite (now (out .entry)) at (fill (shrinking size) i (now (page .entry))) ⌝ }
 {
-    let n = smaller(page.len(), excess(size, i * 1024));
+    let n = smaller(page.len(), excess(size, i * limits::PAGE_BYTES));
     put_page(out, at, &page[..n]);
 }
 
@@ -140,12 +143,12 @@ pub fn write_store(
     position: usize,
     bytes: &[u8],
 ) -> usize
-    requires { ⌜ (requestLength ≤ length (now out)) × (length (now page) ≤ PAGE-BYTES) × (position ≤ 65536) × (i ≤ 64) ⌝ }
-    ensures { λ r. ⌜ (now (out .exit) ≡ atFront (storeRequest descriptor i size (fill (writing position (now (bytes .entry))) i (now (page .entry)))) (now (out .entry))) × (r ≡ requestLength) ⌝ }
+    requires { ⌜ (storeLength ≤ length (now out)) × (length (now page) ≤ PAGE-BYTES) × (position ≤ FILE-BYTES) × (i ≤ 64) ⌝ }
+    ensures { λ r. ⌜ (now (out .exit) ≡ atFront (storeRequest descriptor i size (fill (writing position (now (bytes .entry))) i (now (page .entry)))) (now (out .entry))) × (r ≡ storeLength) ⌝ }
 {
     put_store(out, descriptor, i, size);
     put_written(out, 13, page, position, bytes, i);
-    1037
+    STORE_LENGTH
 }
 
 // store, of a truncation.
@@ -157,10 +160,10 @@ pub fn write_store_cut(
     page: &[u8],
     to: usize,
 ) -> usize
-    requires { ⌜ (requestLength ≤ length (now out)) × (length (now page) ≤ PAGE-BYTES) × (to ≤ 65536) × (i ≤ 64) ⌝ }
-    ensures { λ r. ⌜ (now (out .exit) ≡ atFront (storeRequest descriptor i size (fill (shrinking to) i (now (page .entry)))) (now (out .entry))) × (r ≡ requestLength) ⌝ }
+    requires { ⌜ (storeLength ≤ length (now out)) × (length (now page) ≤ PAGE-BYTES) × (to ≤ FILE-BYTES) × (i ≤ 64) ⌝ }
+    ensures { λ r. ⌜ (now (out .exit) ≡ atFront (storeRequest descriptor i size (fill (shrinking to) i (now (page .entry)))) (now (out .entry))) × (r ≡ storeLength) ⌝ }
 {
     put_store(out, descriptor, i, size);
     put_cut(out, 13, page, to, i);
-    1037
+    STORE_LENGTH
 }

@@ -1,7 +1,6 @@
 -- `image_reader::admission` meets its contract. Assumes nothing.
 use native.Mathlib.Omega.{arith}
 use mathlib.Core.Path.{_≡_, ap, sym, _∙_}
-use Rattle.images.specs.Width.{idBytes}
 use Rattle.image_reader.specs.Records.{recordAt, nodesFrom}
 use mathlib.Core.Bool.{_&&_}
 use lib.Dec.{leb}
@@ -12,7 +11,7 @@ use lib.ListN.{length}
 use Rattle.image_reader.specs.RecordLaws.{record-least, length-from}
 use lib.ListN.{getD}
 use Rattle.lists.specs.Equal.{and-snd}
-use Rattle.filesystem.specs.Tables.{NAME-BYTES}
+use Rattle.filesystem.specs.Tables.{ID-BYTES, NAME-BYTES}
 use Rattle.filesystem.specs.Paths.{componentForm}
 use Rattle.filesystem.specs.Image.{isNamed}
 use Rattle.image_reader.specs.AdmissionLaws.{admit-limits, admit-name, admit-clash, admit-orphan, admit-yes}
@@ -21,16 +20,16 @@ use Rattle.image_reader.proofs.admission.Statement.{statement}
 use Rattle.image_reader.proofs.admission.Tie as tie
 
 is-in-limits-requires : tie.Need-is-in-limits-requires
-is-in-limits-requires c κs = let h = record-least idBytes (c .before .before .args .image .now) (c .before .before .args .at) in omega (arith, h)
+is-in-limits-requires c κs = let h = record-least ID-BYTES (c .before .before .args .image .now) (c .before .before .args .at) in omega (arith, h)
 
 returns : tie.Need-returns
 returns c =
     let a = c .before .before .before .before .args in
     let s = a .image .now in
-    let x = recordAt idBytes s (a .at) in
-    let b = nodesFrom idBytes s 4 (a .i) in
+    let x = recordAt ID-BYTES s (a .at) in
+    let b = nodesFrom ID-BYTES s 4 (a .i) in
     let l = a .lengths .now in
-    admit-limits idBytes b l x (sym (c .before .is-in-limits .ensures) ∙ not-true _ (c .if1 .taken))
+    admit-limits ID-BYTES b l x (sym (c .before .is-in-limits .ensures) ∙ not-true _ (c .if1 .taken))
 
 record-name-requires : tie.Need-record-name-requires
 record-name-requires c κs = search needs
@@ -42,11 +41,11 @@ returns-2 : tie.Need-returns-2
 returns-2 c =
     let a = c .before .before .before .before .before .before .before .args in
     let s = a .image .now in
-    let x = recordAt idBytes s (a .at) in
-    let b = nodesFrom idBytes s 4 (a .i) in
+    let x = recordAt ID-BYTES s (a .at) in
+    let b = nodesFrom ID-BYTES s 4 (a .i) in
     let l = a .lengths .now in
     let nq : (c .before .is-named .result) ≡ isNamed x = c .before .is-named .ensures ∙ ap (λ (n : List ℕ). componentForm n && leb (length n) NAME-BYTES) (c .before .before .record-name .ensures) in
-    admit-name idBytes b l x (sym nq ∙ not-true _ (c .if2 .taken))
+    admit-name ID-BYTES b l x (sym nq ∙ not-true _ (c .if2 .taken))
 
 clashes-requires : tie.Need-clashes-requires
 clashes-requires c κs = search needs
@@ -55,10 +54,10 @@ returns-3 : tie.Need-returns-3
 returns-3 c =
     let a = c .before .before .before .before .before .before .before .before .before .args in
     let s = a .image .now in
-    let x = recordAt idBytes s (a .at) in
-    let b = nodesFrom idBytes s 4 (a .i) in
+    let x = recordAt ID-BYTES s (a .at) in
+    let b = nodesFrom ID-BYTES s 4 (a .i) in
     let l = a .lengths .now in
-    admit-clash idBytes b l x (sym (c .before .clashes .ensures) ∙ c .if3 .taken)
+    admit-clash ID-BYTES b l x (sym (c .before .clashes .ensures) ∙ c .if3 .taken)
 
 parent-place-requires : tie.Need-parent-place-requires
 parent-place-requires c κs = search needs
@@ -67,10 +66,10 @@ returns-4 : tie.Need-returns-4
 returns-4 c =
     let a = c .before .before .before .before .before .before .before .before .before .before .before .args in
     let s = a .image .now in
-    let x = recordAt idBytes s (a .at) in
-    let b = nodesFrom idBytes s 4 (a .i) in
+    let x = recordAt ID-BYTES s (a .at) in
+    let b = nodesFrom ID-BYTES s 4 (a .i) in
     let l = a .lengths .now in
-    admit-orphan idBytes b l x (omega (arith, length-from idBytes s 4 (a .i), c .before .parent-place .ensures))
+    admit-orphan ID-BYTES b l x (omega (arith, length-from ID-BYTES s 4 (a .i), c .before .parent-place .ensures))
 
 add-result : tie.Need-add-result
 add-result c = search needs
@@ -91,13 +90,13 @@ returns-5 : tie.Need-returns-5
 returns-5 c =
     let a = c .before .before .before .before .before .before .before .before .before .before .before .before .args in
     let s = a .image .now in
-    let x = recordAt idBytes s (a .at) in
-    let b = nodesFrom idBytes s 4 (a .i) in
+    let x = recordAt ID-BYTES s (a .at) in
+    let b = nodesFrom ID-BYTES s 4 (a .i) in
     let l = a .lengths .now in
     let nq : (c .before .before .before .before .before .before .is-named .result) ≡ isNamed x = c .before .before .before .before .before .before .is-named .ensures ∙ ap (λ (n : List ℕ). componentForm n && leb (length n) NAME-BYTES) (c .before .before .before .before .before .before .before .record-name .ensures) in
     let j = c .before .before .parent-place .ensures in
-    let h = admit-yes idBytes b l x (sym (c .before .before .before .before .before .before .before .before .before .is-in-limits .ensures) ∙ not-false _ (c .before .before .before .before .before .before .before .before .if1 .left)) (sym nq ∙ not-false _ (c .before .before .before .before .before .if2 .left)) (sym (c .before .before .before .before .clashes .ensures) ∙ c .before .before .before .if3 .left)
-    (omega (arith, length-from idBytes s 4 (a .i), j)) in
+    let h = admit-yes ID-BYTES b l x (sym (c .before .before .before .before .before .before .before .before .before .is-in-limits .ensures) ∙ not-false _ (c .before .before .before .before .before .before .before .before .if1 .left)) (sym nq ∙ not-false _ (c .before .before .before .before .before .if2 .left)) (sym (c .before .before .before .before .clashes .ensures) ∙ c .before .before .before .if3 .left)
+    (omega (arith, length-from ID-BYTES s 4 (a .i), j)) in
     let e = ap length (c .before .before .before .before .before .before .before .record-name .ensures) in
     let g = ap (λ (k : ℕ). getD l k 0) j in
     omega (arith, h, e, g)

@@ -1,7 +1,7 @@
 -- `image_reader::all_admitted` meets its contract. The invariant says what remains to be done. Assumes nothing.
 use native.Mathlib.Omega.{arith}
 use mathlib.Core.Path.{_≡_, refl, ap, ap₂, sym, _∙_}
-use Rattle.images.specs.Width.{idBytes}
+use Rattle.filesystem.specs.Tables.{ID-BYTES}
 use Rattle.image_reader.specs.Records.{recordAt, recordEnd, nodesFrom, endFrom}
 use mathlib.Core.List.{[], _∷_}
 use Prim.Native.Nat.{ℕ, _+_, _-_, _≤_, _<_}
@@ -15,8 +15,8 @@ use Rattle.image_reader.proofs.all_admitted.Tie as tie
 
 abbrev Inv-loop : tie.InvT-loop
 Inv-loop image n lengths₀ at₀ i₀ lengths at i =
-    (0 < i) × (i ≤ n) × (length lengths ≡ length lengths₀) × (at ≡ endFrom idBytes image 4 i) × (endFrom idBytes image at (n - i) ≡ endFrom idBytes image 4 n)
-    × (admitted idBytes (nodesFrom idBytes image 4 i) (take i lengths) (nodesFrom idBytes image at (n - i)) ≡ admitted idBytes (recordAt idBytes image 4 ∷ []) (0 ∷ []) (nodesFrom idBytes image (recordEnd idBytes image 4) (n - 1)))
+    (0 < i) × (i ≤ n) × (length lengths ≡ length lengths₀) × (at ≡ endFrom ID-BYTES image 4 i) × (endFrom ID-BYTES image at (n - i) ≡ endFrom ID-BYTES image 4 n)
+    × (admitted ID-BYTES (nodesFrom ID-BYTES image 4 i) (take i lengths) (nodesFrom ID-BYTES image at (n - i)) ≡ admitted ID-BYTES (recordAt ID-BYTES image 4 ∷ []) (0 ∷ []) (nodesFrom ID-BYTES image (recordEnd ID-BYTES image 4) (n - 1)))
 
 abbrev μ-loop : tie.MeasureT-loop
 μ-loop image n lengths₀ at₀ i₀ lengths at i = n - i
@@ -28,8 +28,8 @@ record-end-requires : tie.Need-record-end-requires Inv-loop μ-loop
 record-end-requires c κs =
     let a = c .before .before .args in
     let s = a .image .now in
-    let h = record-in idBytes s 4 (a .n) (omega arith) in
-    let g = record-least idBytes s 4 in
+    let h = record-in ID-BYTES s 4 (a .n) (omega arith) in
+    let g = record-least ID-BYTES s 4 in
     omega (arith, h, g)
 
 loop-holds : tie.Need-loop-holds Inv-loop μ-loop
@@ -40,9 +40,9 @@ loop-holds c =
       omega arith,
       omega arith,
       refl,
-      r ∙ sym (first-end idBytes s),
-      ap (λ (p : ℕ). endFrom idBytes s p (a .n - 1)) r ∙ sym (end-next idBytes s 4 (a .n) (omega arith)),
-      first-admitted idBytes s (a .lengths .now) (omega arith) (a .n - 1) r,
+      r ∙ sym (first-end ID-BYTES s),
+      ap (λ (p : ℕ). endFrom ID-BYTES s p (a .n - 1)) r ∙ sym (end-next ID-BYTES s 4 (a .n) (omega arith)),
+      first-admitted ID-BYTES s (a .lengths .now) (omega arith) (a .n - 1) r,
     )
 
 admission-requires : tie.Need-admission-requires Inv-loop μ-loop
@@ -50,8 +50,8 @@ admission-requires c κs =
     let a = c .before .before .before .before .before .before .args in
     let s = a .image .now in
     let l = c .before .before .loop in
-    let h = record-in idBytes s (l .at) (a .n - l .i) (omega arith) in
-    let g = end-rises idBytes s 4 (l .i) (a .n) (omega arith) in
+    let h = record-in ID-BYTES s (l .at) (a .n - l .i) (omega arith) in
+    let g = end-rises ID-BYTES s 4 (l .i) (a .n) (omega arith) in
     (omega (arith, g), omega (arith, h, l .inv .4), omega (arith, l .inv .2, length-set (a .lengths .now) 0 0))
 
 same-length : tie.Need-same-length Inv-loop μ-loop
@@ -62,7 +62,7 @@ returns c =
     let a = c .before .before .before .before .before .before .before .before .args in
     let s = a .image .now in
     let l = c .before .before .before .before .loop in
-    sym (sym (l .inv .5) ∙ admitted-stop idBytes s (l .at) (l .i) (a .n) (l .lengths) (l .inv .3) (omega arith) (omega (arith, c .before .admission .ensures)))
+    sym (sym (l .inv .5) ∙ admitted-stop ID-BYTES s (l .at) (l .i) (a .n) (l .lengths) (l .inv .3) (omega arith) (omega (arith, c .before .admission .ensures)))
 
 cast-lengths : tie.Need-cast-lengths Inv-loop μ-loop
 cast-lengths c = search needs
@@ -75,8 +75,8 @@ record-end-requires-2 c κs =
     let a = c .before .before .before .before .before .before .before .before .args in
     let s = a .image .now in
     let l = c .before .before .before .before .loop in
-    let h = record-in idBytes s (l .at) (a .n - l .i) (omega arith) in
-    let g = record-least idBytes s (l .at) in
+    let h = record-in ID-BYTES s (l .at) (a .n - l .i) (omega arith) in
+    let g = record-least ID-BYTES s (l .at) in
     omega (arith, h, g, l .inv .4)
 
 add-i : tie.Need-add-i Inv-loop μ-loop
@@ -96,9 +96,9 @@ loop-again c =
       omega arith,
       omega arith,
       length-set (l .lengths) (l .i) _ ∙ l .inv .2,
-      next-end idBytes s (l .at) (l .i) (l .inv .3) r,
-      ap₂ (endFrom idBytes s) r e ∙ sym (end-next idBytes s (l .at) (a .n - l .i) (omega arith)) ∙ l .inv .4,
-      admitted-step idBytes s (l .at) (l .i) (a .n) (l .lengths) (l .inv .3) (omega arith) _ _ (omega (arith, l .inv .2, k)) (c .before .before .admission .ensures) (omega arith) r ∙ l .inv .5,
+      next-end ID-BYTES s (l .at) (l .i) (l .inv .3) r,
+      ap₂ (endFrom ID-BYTES s) r e ∙ sym (end-next ID-BYTES s (l .at) (a .n - l .i) (omega arith)) ∙ l .inv .4,
+      admitted-step ID-BYTES s (l .at) (l .i) (a .n) (l .lengths) (l .inv .3) (omega arith) _ _ (omega (arith, l .inv .2, k)) (c .before .before .admission .ensures) (omega arith) r ∙ l .inv .5,
     )
 
 same-length-2 : tie.Need-same-length-2 Inv-loop μ-loop
@@ -109,7 +109,7 @@ returns-2 c =
     let a = c .before .before .before .before .before .args in
     let s = a .image .now in
     let l = c .before .loop in
-    sym (sym (l .inv .5) ∙ admitted-end idBytes s (nodesFrom idBytes s 4 (l .i)) (take (l .i) (l .lengths)) (l .at) (a .n - l .i) (omega arith))
+    sym (sym (l .inv .5) ∙ admitted-end ID-BYTES s (nodesFrom ID-BYTES s 4 (l .i)) (take (l .i) (l .lengths)) (l .at) (a .n - l .i) (omega arith))
 
 pub all-admitted-spec : {M : Type 1} → statement M
 all-admitted-spec =

@@ -1,7 +1,7 @@
 -- `image_reader::are_sound` meets its contract. Assumes nothing.
 use native.Mathlib.Omega.{arith}
 use mathlib.Core.Path.{sym, _∙_}
-use Rattle.images.specs.Width.{idBytes}
+use Rattle.filesystem.specs.Tables.{ID-BYTES}
 use borrow.Author.Tests.{not-true, not-false}
 use Prim.Native.Nat.{_-_}
 use Rattle.image_reader.specs.RecordLaws.{record-least, record-in}
@@ -11,14 +11,14 @@ use Rattle.image_reader.proofs.are_sound.Statement.{statement}
 use Rattle.image_reader.proofs.are_sound.Tie as tie
 
 returns : tie.Need-returns
-returns c = let a = c .before .before .args in no-nodes idBytes (a .image .now) (a .n) (c .if1 .taken)
+returns c = let a = c .before .before .args in no-nodes ID-BYTES (a .image .now) (a .n) (c .if1 .taken)
 
 is-root-requires : tie.Need-is-root-requires
 is-root-requires c κs =
     let a = c .before .before .args in
     let s = a .image .now in
     let h = positive (a .n) (c .if1 .left) in
-    let r = record-in idBytes s 4 (a .n) h in
+    let r = record-in ID-BYTES s 4 (a .n) h in
     omega (arith, r)
 
 returns-2 : tie.Need-returns-2
@@ -26,15 +26,15 @@ returns-2 c =
     let a = c .before .before .before .before .args in
     let s = a .image .now in
     let h = positive (a .n) (c .before .before .if1 .left) in
-    not-root idBytes s (a .n) h (sym (c .before .is-root .ensures) ∙ not-true _ (c .if2 .taken))
+    not-root ID-BYTES s (a .n) h (sym (c .before .is-root .ensures) ∙ not-true _ (c .if2 .taken))
 
 is-in-limits-requires : tie.Need-is-in-limits-requires
 is-in-limits-requires c κs =
     let a = c .before .before .before .before .args in
     let s = a .image .now in
     let h = positive (a .n) (c .before .before .if1 .left) in
-    let r = record-in idBytes s 4 (a .n) h in
-    let g = record-least idBytes s 4 in
+    let r = record-in ID-BYTES s 4 (a .n) h in
+    let g = record-least ID-BYTES s 4 in
     omega (arith, r, g)
 
 returns-3 : tie.Need-returns-3
@@ -42,7 +42,7 @@ returns-3 c =
     let a = c .before .before .before .before .before .before .args in
     let s = a .image .now in
     let h = positive (a .n) (c .before .before .before .before .if1 .left) in
-    not-limits idBytes s (a .n) h (sym (c .before .is-in-limits .ensures) ∙ not-true _ (c .if3 .taken))
+    not-limits ID-BYTES s (a .n) h (sym (c .before .is-in-limits .ensures) ∙ not-true _ (c .if3 .taken))
 
 page-sum-requires : tie.Need-page-sum-requires
 page-sum-requires c κs = search needs
@@ -52,7 +52,7 @@ returns-4 c =
     let a = c .before .before .before .before .before .before .before .before .args in
     let s = a .image .now in
     let h = positive (a .n) (c .before .before .before .before .before .before .if1 .left) in
-    not-pages idBytes s (a .n) h (omega (arith, c .before .page-sum .ensures))
+    not-pages ID-BYTES s (a .n) h (omega (arith, c .before .page-sum .ensures))
 
 slice-aggregate-all-admitted : tie.Need-slice-aggregate-all-admitted
 slice-aggregate-all-admitted c = search needs
@@ -66,7 +66,7 @@ returns-5 c =
     let s = a .image .now in
     let h = positive (a .n) (c .before .before .before .before .before .before .before .before .before .if1 .left) in
     c .before .all-admitted .ensures
-    ∙ by-admission idBytes s (a .n) h (sym (c .before .before .before .before .before .before .before .before .is-root .ensures) ∙ not-false _ (c .before .before .before .before .before .before .before .if2 .left)) (sym (c .before .before .before .before .before .before .is-in-limits .ensures) ∙ not-false _ (c .before .before .before .before .before .if3 .left)) (omega arith) (omega (arith, c .before .before .before .before .page-sum .ensures))
+    ∙ by-admission ID-BYTES s (a .n) h (sym (c .before .before .before .before .before .before .before .before .is-root .ensures) ∙ not-false _ (c .before .before .before .before .before .before .before .if2 .left)) (sym (c .before .before .before .before .before .before .is-in-limits .ensures) ∙ not-false _ (c .before .before .before .before .before .if3 .left)) (omega arith) (omega (arith, c .before .before .before .before .page-sum .ensures))
 
 pub are-sound-spec : {M : Type 1} → statement M
 are-sound-spec =

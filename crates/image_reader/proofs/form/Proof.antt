@@ -1,7 +1,7 @@
 -- `image_reader::form` meets its contract. Assumes nothing.
 use native.Mathlib.Omega.{arith}
 use mathlib.Core.Path.{_≡_, ap, _∙_}
-use Rattle.images.specs.Width.{idBytes}
+use Rattle.filesystem.specs.Tables.{ID-BYTES}
 use Rattle.image_reader.specs.Records.{endFrom, nodeCount, recordsEnd, digestCount}
 use lib.Dec.{leb}
 use Prim.Native.Nat.{ℕ, _+_, _-_, _*_}
@@ -15,7 +15,7 @@ use Rattle.image_reader.proofs.form.Statement.{statement}
 use Rattle.image_reader.proofs.form.Tie as tie
 
 returns : tie.Need-returns
-returns c = let s = c .before .before .args .image .now in no-form idBytes s _ (formed-short idBytes s (c .if1 .taken))
+returns c = let s = c .before .before .args .image .now in no-form ID-BYTES s _ (formed-short ID-BYTES s (c .if1 .taken))
 
 u32-at-requires : tie.Need-u32-at-requires
 u32-at-requires c κs = search needs
@@ -24,7 +24,7 @@ cast-n : tie.Need-cast-n
 cast-n c = search needs
 
 returns-2 : tie.Need-returns-2
-returns-2 c = let s = c .before .before .before .before .args .image .now in no-form idBytes s _ (formed-many idBytes s (omega (arith, c .before .u32-at .ensures)))
+returns-2 c = let s = c .before .before .before .before .args .image .now in no-form ID-BYTES s _ (formed-many ID-BYTES s (omega (arith, c .before .u32-at .ensures)))
 
 records-end-requires : tie.Need-records-end-requires
 records-end-requires c κs = search needs
@@ -32,11 +32,11 @@ records-end-requires c κs = search needs
 returns-3 : tie.Need-returns-3
 returns-3 c =
     let s = c .before .before .before .before .before .before .args .image .now in
-    let E = recordsEnd idBytes s in
-    let q = c .before .records-end .ensures .0 ∙ ap (λ (n : ℕ). pick (leb (endFrom idBytes s 4 n) (length s)) (endFrom idBytes s 4 n) 0) (c .before .before .before .u32-at .ensures) in
-    let h = end-least idBytes s 4 (nodeCount s) in
-    let g = end-none idBytes s (c .before .records-end .result) E q (c .if3 .taken) (omega arith) in
-    no-form idBytes s _ (formed-cut idBytes s (omega (arith, g)))
+    let E = recordsEnd ID-BYTES s in
+    let q = c .before .records-end .ensures .0 ∙ ap (λ (n : ℕ). pick (leb (endFrom ID-BYTES s 4 n) (length s)) (endFrom ID-BYTES s 4 n) 0) (c .before .before .before .u32-at .ensures) in
+    let h = end-least ID-BYTES s 4 (nodeCount s) in
+    let g = end-none ID-BYTES s (c .before .records-end .result) E q (c .if3 .taken) (omega arith) in
+    no-form ID-BYTES s _ (formed-cut ID-BYTES s (omega (arith, g)))
 
 sub-if4 : tie.Need-sub-if4
 sub-if4 c = omega arith
@@ -44,10 +44,10 @@ sub-if4 c = omega arith
 returns-4 : tie.Need-returns-4
 returns-4 c =
     let s = c .before .before .before .before .before .before .before .args .image .now in
-    let E = recordsEnd idBytes s in
-    let q = c .before .before .records-end .ensures .0 ∙ ap (λ (n : ℕ). pick (leb (endFrom idBytes s 4 n) (length s)) (endFrom idBytes s 4 n) 0) (c .before .before .before .before .u32-at .ensures) in
-    let g = end-some idBytes s (c .before .before .records-end .result) E q (c .before .if3 .left) in
-    no-form idBytes s _ (formed-cut idBytes s (omega (arith, g)))
+    let E = recordsEnd ID-BYTES s in
+    let q = c .before .before .records-end .ensures .0 ∙ ap (λ (n : ℕ). pick (leb (endFrom ID-BYTES s 4 n) (length s)) (endFrom ID-BYTES s 4 n) 0) (c .before .before .before .before .u32-at .ensures) in
+    let g = end-some ID-BYTES s (c .before .before .records-end .result) E q (c .before .if3 .left) in
+    no-form ID-BYTES s _ (formed-cut ID-BYTES s (omega (arith, g)))
 
 u32-at-requires-2 : tie.Need-u32-at-requires-2
 u32-at-requires-2 c κs = search needs
@@ -67,21 +67,21 @@ mul-if5 c = search needs
 returns-5 : tie.Need-returns-5
 returns-5 c =
     let s = c .before .before .before .before .before .before .before .before .before .args .image .now in
-    let E = recordsEnd idBytes s in
-    let q = c .before .before .before .before .records-end .ensures .0 ∙ ap (λ (n : ℕ). pick (leb (endFrom idBytes s 4 n) (length s)) (endFrom idBytes s 4 n) 0) (c .before .before .before .before .before .before .u32-at .ensures) in
-    let g = end-some idBytes s (c .before .before .before .before .records-end .result) E q (c .before .before .before .if3 .left) in
-    let d : c .before .u32-at2 .result ≡ digestCount idBytes s = c .before .u32-at2 .ensures ∙ ap (λ (e : ℕ). decode (part e 4 s)) g in
-    no-form idBytes s _ (formed-other idBytes s (λ z. c .if5 .taken (omega arith)))
+    let E = recordsEnd ID-BYTES s in
+    let q = c .before .before .before .before .records-end .ensures .0 ∙ ap (λ (n : ℕ). pick (leb (endFrom ID-BYTES s 4 n) (length s)) (endFrom ID-BYTES s 4 n) 0) (c .before .before .before .before .before .before .u32-at .ensures) in
+    let g = end-some ID-BYTES s (c .before .before .before .before .records-end .result) E q (c .before .before .before .if3 .left) in
+    let d : c .before .u32-at2 .result ≡ digestCount ID-BYTES s = c .before .u32-at2 .ensures ∙ ap (λ (e : ℕ). decode (part e 4 s)) g in
+    no-form ID-BYTES s _ (formed-other ID-BYTES s (λ z. c .if5 .taken (omega arith)))
 
 returns-6 : tie.Need-returns-6
 returns-6 c =
     let s = c .before .before .before .before .before .before .before .before .before .args .image .now in
-    let E = recordsEnd idBytes s in
-    let q = c .before .before .before .before .records-end .ensures .0 ∙ ap (λ (n : ℕ). pick (leb (endFrom idBytes s 4 n) (length s)) (endFrom idBytes s 4 n) 0) (c .before .before .before .before .before .before .u32-at .ensures) in
-    let g = end-some idBytes s (c .before .before .before .before .records-end .result) E q (c .before .before .before .if3 .left) in
-    let d : c .before .u32-at2 .result ≡ digestCount idBytes s = c .before .u32-at2 .ensures ∙ ap (λ (e : ℕ). decode (part e 4 s)) g in
-    let z : E + 4 + digestCount idBytes s * 32 ≡ length s = omega (arith, c .if5 .left) in
-    a-form idBytes s (c .before .before .before .before .records-end .result) E g (formed-yes idBytes s (omega arith) (omega (arith, c .before .before .before .before .before .before .u32-at .ensures)) z)
+    let E = recordsEnd ID-BYTES s in
+    let q = c .before .before .before .before .records-end .ensures .0 ∙ ap (λ (n : ℕ). pick (leb (endFrom ID-BYTES s 4 n) (length s)) (endFrom ID-BYTES s 4 n) 0) (c .before .before .before .before .before .before .u32-at .ensures) in
+    let g = end-some ID-BYTES s (c .before .before .before .before .records-end .result) E q (c .before .before .before .if3 .left) in
+    let d : c .before .u32-at2 .result ≡ digestCount ID-BYTES s = c .before .u32-at2 .ensures ∙ ap (λ (e : ℕ). decode (part e 4 s)) g in
+    let z : E + 4 + digestCount ID-BYTES s * 32 ≡ length s = omega (arith, c .if5 .left) in
+    a-form ID-BYTES s (c .before .before .before .before .records-end .result) E g (formed-yes ID-BYTES s (omega arith) (omega (arith, c .before .before .before .before .before .before .u32-at .ensures)) z)
 
 pub form-spec : {M : Type 1} → statement M
 form-spec =

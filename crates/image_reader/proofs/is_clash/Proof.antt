@@ -1,7 +1,7 @@
 -- `image_reader::is_clash` meets its contract. Assumes nothing.
 use native.Mathlib.Omega.{arith}
 use mathlib.Core.Path.{_≡_, ap₂, sym, _∙_}
-use Rattle.images.specs.Width.{idBytes}
+use Rattle.filesystem.specs.Tables.{ID-BYTES}
 use Rattle.image_reader.specs.Records.{recordAt}
 use mathlib.Core.Bool.{true, false}
 use lib.Dec.{eqb}
@@ -15,23 +15,23 @@ use Rattle.image_reader.proofs.is_clash.Statement.{statement}
 use Rattle.image_reader.proofs.is_clash.Tie as tie
 
 record-id-requires : tie.Need-record-id-requires
-record-id-requires c κs = let h = record-least idBytes (c .before .args .image .now) (c .before .args .a) in omega (arith, h)
+record-id-requires c κs = let h = record-least ID-BYTES (c .before .args .image .now) (c .before .args .a) in omega (arith, h)
 
 record-id-requires-2 : tie.Need-record-id-requires-2
-record-id-requires-2 c κs = let h = record-least idBytes (c .before .before .args .image .now) (c .before .before .args .b) in omega (arith, h)
+record-id-requires-2 c κs = let h = record-least ID-BYTES (c .before .before .args .image .now) (c .before .before .args .b) in omega (arith, h)
 
 returns : tie.Need-returns
-returns c = let s = c .before .before .before .before .args .image .now in let x = recordAt idBytes s (c .before .before .before .before .args .a) in let y = recordAt idBytes s (c .before .before .before .before .args .b) in
+returns c = let s = c .before .before .before .before .args .image .now in let x = recordAt ID-BYTES s (c .before .before .before .before .args .a) in let y = recordAt ID-BYTES s (c .before .before .before .before .args .b) in
     let e : eqb (x .id) (y .id) ≡ true = eq-eqb _ _ (sym (c .before .before .record-id .ensures) ∙ c .if1 .taken ∙ c .before .record-id2 .ensures) in rw e
 
 record-parent-requires : tie.Need-record-parent-requires
-record-parent-requires c κs = let h = record-least idBytes (c .before .before .before .before .args .image .now) (c .before .before .before .before .args .a) in omega (arith, h)
+record-parent-requires c κs = let h = record-least ID-BYTES (c .before .before .before .before .args .image .now) (c .before .before .before .before .args .a) in omega (arith, h)
 
 record-parent-requires-2 : tie.Need-record-parent-requires-2
-record-parent-requires-2 c κs = let h = record-least idBytes (c .before .before .before .before .before .args .image .now) (c .before .before .before .before .before .args .b) in omega (arith, h)
+record-parent-requires-2 c κs = let h = record-least ID-BYTES (c .before .before .before .before .before .args .image .now) (c .before .before .before .before .before .args .b) in omega (arith, h)
 
 returns-2 : tie.Need-returns-2
-returns-2 c = let s = c .before .before .before .before .before .before .before .args .image .now in let x = recordAt idBytes s (c .before .before .before .before .before .before .before .args .a) in let y = recordAt idBytes s (c .before .before .before .before .before .before .before .args .b) in
+returns-2 c = let s = c .before .before .before .before .before .before .before .args .image .now in let x = recordAt ID-BYTES s (c .before .before .before .before .before .before .before .args .a) in let y = recordAt ID-BYTES s (c .before .before .before .before .before .before .before .args .b) in
     let d : eqb (x .id) (y .id) ≡ false = ne-eqb _ _ (λ q. c .before .before .before .if1 .left (c .before .before .before .before .before .record-id .ensures ∙ q ∙ sym (c .before .before .before .before .record-id2 .ensures))) in
     let e : eqb (x .parent) (y .parent) ≡ false = ne-eqb _ _ (λ q. c .if2 .taken (c .before .before .record-parent .ensures ∙ q ∙ sym (c .before .record-parent2 .ensures))) in rw (d, e)
 
@@ -45,7 +45,7 @@ same-requires : tie.Need-same-requires
 same-requires c κs = search needs
 
 returns-3 : tie.Need-returns-3
-returns-3 c = let s = c .before .before .before .before .before .before .before .before .before .before .args .image .now in let x = recordAt idBytes s (c .before .before .before .before .before .before .before .before .before .before .args .a) in let y = recordAt idBytes s (c .before .before .before .before .before .before .before .before .before .before .args .b) in
+returns-3 c = let s = c .before .before .before .before .before .before .before .before .before .before .args .image .now in let x = recordAt ID-BYTES s (c .before .before .before .before .before .before .before .before .before .before .args .a) in let y = recordAt ID-BYTES s (c .before .before .before .before .before .before .before .before .before .before .args .b) in
     let d : eqb (x .id) (y .id) ≡ false = ne-eqb _ _ (λ q. c .before .before .before .before .before .before .if1 .left (c .before .before .before .before .before .before .before .before .record-id .ensures ∙ q ∙ sym (c .before .before .before .before .before .before .before .record-id2 .ensures))) in
     let e : eqb (x .parent) (y .parent) ≡ true = eq-eqb _ _ (sym (c .before .before .before .before .before .record-parent .ensures) ∙ c .before .before .before .if2 .left ∙ c .before .before .before .before .record-parent2 .ensures) in
     rw (d, e) (c .same .ensures ∙ ap₂ (λ (u v : List ℕ). equal u v) (c .before .before .record-name .ensures) (c .before .record-name2 .ensures))

@@ -1,7 +1,7 @@
 -- `image_reader::is_root` meets its contract. Assumes nothing.
 use native.Mathlib.Omega.{arith}
 use mathlib.Core.Path.{_≡_, ap, sym, _∙_}
-use Rattle.images.specs.Width.{idBytes}
+use Rattle.filesystem.specs.Tables.{ID-BYTES}
 use Rattle.image_reader.specs.Records.{recordAt}
 use mathlib.Core.Bool.{true, false}
 use lib.Dec.{eqb}
@@ -16,23 +16,23 @@ use Rattle.image_reader.proofs.is_root.Statement.{statement}
 use Rattle.image_reader.proofs.is_root.Tie as tie
 
 record-id-requires : tie.Need-record-id-requires
-record-id-requires c κs = let h = record-least idBytes (c .before .args .image .now) (c .before .args .at) in omega (arith, h)
+record-id-requires c κs = let h = record-least ID-BYTES (c .before .args .image .now) (c .before .args .at) in omega (arith, h)
 
 returns : tie.Need-returns
-returns c = let x = recordAt idBytes (c .before .before .before .args .image .now) (c .before .before .before .args .at) in let e : eqb (x .id) 1 ≡ false = ne-eqb _ _ (λ q. c .if1 .taken (c .before .record-id .ensures ∙ q)) in rw e
+returns c = let x = recordAt ID-BYTES (c .before .before .before .args .image .now) (c .before .before .before .args .at) in let e : eqb (x .id) 1 ≡ false = ne-eqb _ _ (λ q. c .if1 .taken (c .before .record-id .ensures ∙ q)) in rw e
 
 record-kind-requires : tie.Need-record-kind-requires
-record-kind-requires c κs = let h = record-least idBytes (c .before .before .before .args .image .now) (c .before .before .before .args .at) in omega (arith, h)
+record-kind-requires c κs = let h = record-least ID-BYTES (c .before .before .before .args .image .now) (c .before .before .before .args .at) in omega (arith, h)
 
 returns-2 : tie.Need-returns-2
-returns-2 c = let x = recordAt idBytes (c .before .before .before .before .before .args .image .now) (c .before .before .before .before .before .args .at) in let d : eqb (x .id) 1 ≡ true = eq-eqb _ _ (sym (c .before .before .before .record-id .ensures) ∙ c .before .before .if1 .left) in
+returns-2 c = let x = recordAt ID-BYTES (c .before .before .before .before .before .args .image .now) (c .before .before .before .before .before .args .at) in let d : eqb (x .id) 1 ≡ true = eq-eqb _ _ (sym (c .before .before .before .record-id .ensures) ∙ c .before .before .if1 .left) in
     let e : eqb (x .kind) 2 ≡ false = ne-eqb _ _ (λ q. c .if2 .taken (c .before .record-kind .ensures ∙ q)) in rw (d, e)
 
 record-parent-requires : tie.Need-record-parent-requires
-record-parent-requires c κs = let h = record-least idBytes (c .before .before .before .before .before .args .image .now) (c .before .before .before .before .before .args .at) in omega (arith, h)
+record-parent-requires c κs = let h = record-least ID-BYTES (c .before .before .before .before .before .args .image .now) (c .before .before .before .before .before .args .at) in omega (arith, h)
 
 returns-3 : tie.Need-returns-3
-returns-3 c = let x = recordAt idBytes (c .before .before .before .before .before .before .before .args .image .now) (c .before .before .before .before .before .before .before .args .at) in let d : eqb (x .id) 1 ≡ true = eq-eqb _ _ (sym (c .before .before .before .before .before .record-id .ensures) ∙ c .before .before .before .before .if1 .left) in
+returns-3 c = let x = recordAt ID-BYTES (c .before .before .before .before .before .before .before .args .image .now) (c .before .before .before .before .before .before .before .args .at) in let d : eqb (x .id) 1 ≡ true = eq-eqb _ _ (sym (c .before .before .before .before .before .record-id .ensures) ∙ c .before .before .before .before .if1 .left) in
     let e : eqb (x .kind) 2 ≡ true = eq-eqb _ _ (sym (c .before .before .before .record-kind .ensures) ∙ c .before .before .if2 .left) in
     let f : eqb (x .parent) 0 ≡ false = ne-eqb _ _ (λ q. c .if3 .taken (c .before .record-parent .ensures ∙ q)) in rw (d, e, f)
 
@@ -40,7 +40,7 @@ record-name-requires : tie.Need-record-name-requires
 record-name-requires c κs = search needs
 
 returns-4 : tie.Need-returns-4
-returns-4 c = let x = recordAt idBytes (c .before .before .before .before .before .before .before .before .args .image .now) (c .before .before .before .before .before .before .before .before .args .at) in let d : eqb (x .id) 1 ≡ true = eq-eqb _ _ (sym (c .before .before .before .before .before .before .record-id .ensures) ∙ c .before .before .before .before .before .if1 .left) in
+returns-4 c = let x = recordAt ID-BYTES (c .before .before .before .before .before .before .before .before .args .image .now) (c .before .before .before .before .before .before .before .before .args .at) in let d : eqb (x .id) 1 ≡ true = eq-eqb _ _ (sym (c .before .before .before .before .before .before .record-id .ensures) ∙ c .before .before .before .before .before .if1 .left) in
     let e : eqb (x .kind) 2 ≡ true = eq-eqb _ _ (sym (c .before .before .before .before .record-kind .ensures) ∙ c .before .before .before .if2 .left) in
     let f : eqb (x .parent) 0 ≡ true = eq-eqb _ _ (sym (c .before .before .record-parent .ensures) ∙ c .before .if3 .left) in
     rw (d, e, f) (ap (λ (l : List ℕ). eqb (length l) 0) (c .record-name .ensures) ∙ no-bytes (x .name))

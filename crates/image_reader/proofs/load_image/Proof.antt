@@ -4,9 +4,9 @@ use mathlib.Core.Path.{_≡_, ap, _∙_}
 use Prim.Native.Nat.{ℕ}
 use Rattle.lists.specs.EqualLaws.{bytes-of}
 use Rattle.lists.specs.Parts.{overwrite}
+use Rattle.filesystem.specs.Tables.{ID-BYTES}
 use Rattle.filesystem.specs.Image.{soundNodes}
 use Rattle.memory.specs.Layout.{memOf, withNodes}
-use Rattle.images.specs.Width.{idBytes}
 use Rattle.image_reader.specs.Records.{nodesFrom, endFrom, recordsEnd}
 use Rattle.image_reader.specs.Loaded.{to-sound-image, both-loaded}
 use borrow.Author.Needs.{needs}
@@ -17,7 +17,7 @@ u32-at-requires : tie.Need-u32-at-requires
 u32-at-requires c κs =
     let a = c .before .before .args in
     let s = a .image .now in
-    let i = to-sound-image idBytes s (bytes-of s (λ k. omega (arith, c .before .shared-slice-known .given k))) (c .before .before .pre .0) in
+    let i = to-sound-image ID-BYTES s (bytes-of s (λ k. omega (arith, c .before .shared-slice-known .given k))) (c .before .before .pre .0) in
     let f = i .form in
     omega (arith, f .four)
 
@@ -28,19 +28,19 @@ load-records-requires : tie.Need-load-records-requires
 load-records-requires c κs =
     let b = c .before .before .before .before in
     let s = b .args .image .now in
-    let i = to-sound-image idBytes s (bytes-of s (λ k. omega (arith, c .before .before .before .shared-slice-known .given k))) (b .pre .0) in
+    let i = to-sound-image ID-BYTES s (bytes-of s (λ k. omega (arith, c .before .before .before .shared-slice-known .given k))) (b .pre .0) in
     let f = i .form in
     let q = c .before .u32-at .ensures in
-    let e = ap (endFrom idBytes s 4) q in
-    (ap (λ (n : ℕ). soundNodes idBytes (nodesFrom idBytes s 4 n)) q ∙ i .nodes, omega (arith, q, f .count), omega (arith, e, f .within), omega (arith, b .pre .1))
+    let e = ap (endFrom ID-BYTES s 4) q in
+    (ap (λ (n : ℕ). soundNodes ID-BYTES (nodesFrom ID-BYTES s 4 n)) q ∙ i .nodes, omega (arith, q, f .count), omega (arith, e, f .within), omega (arith, b .pre .1))
 
 load-digests-requires : tie.Need-load-digests-requires
 load-digests-requires c κs =
     let b = c .before .before .before .before .before .before .before .before in
     let s = b .args .image .now in
-    let i = to-sound-image idBytes s (bytes-of s (λ k. omega (arith, c .before .before .before .before .before .before .before .shared-slice-known .given k))) (b .pre .0) in
+    let i = to-sound-image ID-BYTES s (bytes-of s (λ k. omega (arith, c .before .before .before .before .before .before .before .shared-slice-known .given k))) (b .pre .0) in
     let f = i .form in
-    let r : c .before .before .before .load-records .result ≡ recordsEnd idBytes s = c .before .before .before .load-records .ensures .1 .1 ∙ ap (endFrom idBytes s 4) (c .before .before .before .before .before .u32-at .ensures) in
+    let r : c .before .before .before .load-records .result ≡ recordsEnd ID-BYTES s = c .before .before .before .load-records .ensures .1 .1 ∙ ap (endFrom ID-BYTES s 4) (c .before .before .before .before .before .u32-at .ensures) in
     (r, omega (arith, r, f .ends), i .few, omega (arith, c .before .before .before .load-records .ensures .1 .0, b .pre .1))
 
 same-length : tie.Need-same-length
@@ -50,10 +50,10 @@ returns : tie.Need-returns
 returns c =
     let b = c .before .before .before .before .before .before .before .before .before .before .before in
     let s = b .args .image .now in
-    let i = to-sound-image idBytes s (bytes-of s (λ k. omega (arith, c .before .before .before .before .before .before .before .before .before .before .shared-slice-known .given k))) (b .pre .0) in
+    let i = to-sound-image ID-BYTES s (bytes-of s (λ k. omega (arith, c .before .before .before .before .before .before .before .before .before .before .shared-slice-known .given k))) (b .pre .0) in
     let q = c .before .before .before .before .before .before .before .before .u32-at .ensures in
     let m = b .args .m .now in
-    let x = c .before .before .before .before .before .before .load-records .ensures .0 ∙ ap (λ (n : ℕ). withNodes (overwrite (memOf m .nodes) 0 (nodesFrom idBytes s 4 n)) (memOf m)) q in
+    let x = c .before .before .before .before .before .before .load-records .ensures .0 ∙ ap (λ (n : ℕ). withNodes (overwrite (memOf m .nodes) 0 (nodesFrom ID-BYTES s 4 n)) (memOf m)) q in
     (both-loaded s m _ _ _ i q x (c .before .before .load-digests .ensures .0), c .before .before .load-digests .ensures .1 ∙ c .before .before .before .before .before .before .load-records .ensures .1 .0)
 
 pub load-image-spec : {M : Type 1} → statement M

@@ -1,12 +1,11 @@
 -- `image_reader::load_record` meets its contract. Assumes nothing.
 use native.Mathlib.Omega.{arith}
 use mathlib.Core.Path.{ap, _∙_}
-use Rattle.images.specs.Width.{idBytes}
 use Prim.Native.Nat.{_-_}
 use lib.ListN.{length, set}
 use Rattle.memory.specs.Layout.{memOf, withNodes}
 use Rattle.image_reader.specs.RecordLaws.{record-least}
-use Rattle.filesystem.specs.Tables.{Node}
+use Rattle.filesystem.specs.Tables.{ID-BYTES, Node}
 use Rattle.image_reader.specs.Loaded.{same-node}
 use borrow.Author.Needs.{needs}
 use Rattle.image_reader.proofs.load_record.Statement.{statement}
@@ -16,19 +15,19 @@ record-name-requires : tie.Need-record-name-requires
 record-name-requires c κs = search needs
 
 record-id-requires : tie.Need-record-id-requires
-record-id-requires c κs = let h = record-least idBytes (c .before .before .before .args .image .now) (c .before .before .before .args .at) in omega (arith, h, c .before .before .before .pre .0)
+record-id-requires c κs = let h = record-least ID-BYTES (c .before .before .before .args .image .now) (c .before .before .before .args .at) in omega (arith, h, c .before .before .before .pre .0)
 
 record-parent-requires : tie.Need-record-parent-requires
-record-parent-requires c κs = let h = record-least idBytes (c .before .before .before .before .args .image .now) (c .before .before .before .before .args .at) in omega (arith, h, c .before .before .before .before .pre .0)
+record-parent-requires c κs = let h = record-least ID-BYTES (c .before .before .before .before .args .image .now) (c .before .before .before .before .args .at) in omega (arith, h, c .before .before .before .before .pre .0)
 
 record-kind-requires : tie.Need-record-kind-requires
-record-kind-requires c κs = let h = record-least idBytes (c .before .before .before .before .before .args .image .now) (c .before .before .before .before .before .args .at) in omega (arith, h, c .before .before .before .before .before .pre .0)
+record-kind-requires c κs = let h = record-least ID-BYTES (c .before .before .before .before .before .args .image .now) (c .before .before .before .before .before .args .at) in omega (arith, h, c .before .before .before .before .before .pre .0)
 
 record-mode-requires : tie.Need-record-mode-requires
-record-mode-requires c κs = let h = record-least idBytes (c .before .before .before .before .before .before .args .image .now) (c .before .before .before .before .before .before .args .at) in omega (arith, h, c .before .before .before .before .before .before .pre .0)
+record-mode-requires c κs = let h = record-least ID-BYTES (c .before .before .before .before .before .before .args .image .now) (c .before .before .before .before .before .before .args .at) in omega (arith, h, c .before .before .before .before .before .before .pre .0)
 
 record-size-requires : tie.Need-record-size-requires
-record-size-requires c κs = let h = record-least idBytes (c .before .before .before .before .before .before .before .args .image .now) (c .before .before .before .before .before .before .before .args .at) in omega (arith, h, c .before .before .before .before .before .before .before .pre .0)
+record-size-requires c κs = let h = record-least ID-BYTES (c .before .before .before .before .before .before .before .args .image .now) (c .before .before .before .before .before .before .before .args .at) in omega (arith, h, c .before .before .before .before .before .before .before .pre .0)
 
 node-row-requires : tie.Need-node-row-requires
 node-row-requires c κs = omega (arith, ap length (c .before .before .before .before .before .record-name .ensures), c .before .before .before .before .before .before .before .before .pre .1)
@@ -44,7 +43,7 @@ returns c =
     let a = c .before .before .before .before .before .before .before .before .before .before .before .before .before .args in
     let s = a .image .now in
     let x = c .before .before .before .before .node-row .ensures
-    ∙ same-node idBytes s (a .at) (c .before .before .before .before .before .before .before .before .before .record-id .ensures) (c .before .before .before .before .before .before .before .before .record-parent .ensures) (c .before .before .before .before .before .before .before .record-kind .ensures) (c .before .before .before .before .before .before .record-mode .ensures) (c .before .before .before .before .before .record-size .ensures) (c .before .before .before .before .before .before .before .before .before .before .record-name .ensures) in
+    ∙ same-node ID-BYTES s (a .at) (c .before .before .before .before .before .before .before .before .before .record-id .ensures) (c .before .before .before .before .before .before .before .before .record-parent .ensures) (c .before .before .before .before .before .before .before .record-kind .ensures) (c .before .before .before .before .before .before .record-mode .ensures) (c .before .before .before .before .before .record-size .ensures) (c .before .before .before .before .before .before .before .before .before .before .record-name .ensures) in
     (c .before .before .put-node .ensures .0 ∙ ap (λ (n : Node). withNodes (set (memOf (a .m .now) .nodes) (a .i) n) (memOf (a .m .now))) x, c .before .before .put-node .ensures .1)
 
 pub load-record-spec : {M : Type 1} → statement M

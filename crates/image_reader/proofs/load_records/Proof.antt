@@ -1,7 +1,6 @@
 -- `image_reader::load_records` meets its contract. The invariant says what remains to be done. Assumes nothing.
 use native.Mathlib.Omega.{arith}
 use mathlib.Core.Path.{_≡_, refl, ap, ap₂, sym, _∙_}
-use Rattle.images.specs.Width.{idBytes}
 use Rattle.image_reader.specs.Records.{recordAt, nodesFrom, endFrom}
 use mathlib.Core.List.{List}
 use Prim.Native.Nat.{ℕ, _+_, _-_, _≤_}
@@ -10,7 +9,7 @@ use Rattle.memory.specs.Layout.{Mem, memOf, withNodes}
 use Rattle.lists.specs.Parts.{overwrite}
 use Rattle.image_reader.specs.RecordLaws.{record-least, record-in, end-next, end-last, nodes-last}
 use Rattle.lists.specs.PartLaws.{overwrite-none}
-use Rattle.filesystem.specs.Tables.{Node, noNode}
+use Rattle.filesystem.specs.Tables.{ID-BYTES, Node, noNode}
 use Rattle.memory.specs.MemLaws.{length-nodes}
 use Rattle.image_reader.specs.StepLaws.{next-end}
 use Rattle.image_reader.specs.Loaded.{short-name, loaded-next}
@@ -20,8 +19,8 @@ use Rattle.image_reader.proofs.load_records.Tie as tie
 
 abbrev Inv-loop : tie.InvT-loop
 Inv-loop image n m₀ at₀ i₀ m at i =
-    (i ≤ n) × (length m ≡ length m₀) × (at ≡ endFrom idBytes image 4 i) × (endFrom idBytes image at (n - i) ≡ endFrom idBytes image 4 n)
-    × (memOf m ≡ withNodes (overwrite (memOf m₀ .nodes) 0 (nodesFrom idBytes image 4 i)) (memOf m₀))
+    (i ≤ n) × (length m ≡ length m₀) × (at ≡ endFrom ID-BYTES image 4 i) × (endFrom ID-BYTES image at (n - i) ≡ endFrom ID-BYTES image 4 n)
+    × (memOf m ≡ withNodes (overwrite (memOf m₀ .nodes) 0 (nodesFrom ID-BYTES image 4 i)) (memOf m₀))
 
 abbrev μ-loop : tie.MeasureT-loop
 μ-loop image n m₀ at₀ i₀ m at i = n - i
@@ -34,9 +33,9 @@ loop-holds c =
     let e : a .n - 0 ≡ a .n = omega arith in (
       omega arith,
       refl,
-      sym (end-last idBytes s 4),
-      ap (endFrom idBytes s 4) e,
-      ap (λ (r : List Node). withNodes r (memOf (a .m .now))) (sym (ap (overwrite ns 0) (nodes-last idBytes s 4) ∙ overwrite-none noNode ns 0)),
+      sym (end-last ID-BYTES s 4),
+      ap (endFrom ID-BYTES s 4) e,
+      ap (λ (r : List Node). withNodes r (memOf (a .m .now))) (sym (ap (overwrite ns 0) (nodes-last ID-BYTES s 4) ∙ overwrite-none noNode ns 0)),
     )
 
 load-record-requires : tie.Need-load-record-requires Inv-loop μ-loop
@@ -44,16 +43,16 @@ load-record-requires c κs =
     let a = c .before .before .before .before .before .args in
     let s = a .image .now in
     let l = c .before .before .loop in
-    let h = record-in idBytes s (l .at) (a .n - l .i) (omega arith) in
-    (omega (arith, h, l .inv .3, c .before .before .before .before .before .pre .2), short-name idBytes s (a .n) (l .i) (c .before .before .before .before .before .pre .0) (omega arith) (l .inv .2), omega (arith, c .before .before .before .before .before .pre .1), omega (arith, l .inv .1, c .before .before .before .before .before .pre .3))
+    let h = record-in ID-BYTES s (l .at) (a .n - l .i) (omega arith) in
+    (omega (arith, h, l .inv .3, c .before .before .before .before .before .pre .2), short-name ID-BYTES s (a .n) (l .i) (c .before .before .before .before .before .pre .0) (omega arith) (l .inv .2), omega (arith, c .before .before .before .before .before .pre .1), omega (arith, l .inv .1, c .before .before .before .before .before .pre .3))
 
 record-end-requires : tie.Need-record-end-requires Inv-loop μ-loop
 record-end-requires c κs =
     let a = c .before .before .before .before .before .before .before .before .args in
     let s = a .image .now in
     let l = c .before .before .before .before .before .loop in
-    let h = record-in idBytes s (l .at) (a .n - l .i) (omega arith) in
-    let g = record-least idBytes s (l .at) in
+    let h = record-in ID-BYTES s (l .at) (a .n - l .i) (omega arith) in
+    let g = record-least ID-BYTES s (l .at) in
     omega (arith, h, g, l .inv .3, c .before .before .before .before .before .before .before .before .pre .2)
 
 add-i : tie.Need-add-i Inv-loop μ-loop
@@ -67,16 +66,16 @@ loop-again c =
     let a = c .before .before .before .before .before .before .before .before .before .args in
     let s = a .image .now in
     let l = c .before .before .before .before .before .before .loop in
-    let x = recordAt idBytes s (l .at) in
+    let x = recordAt ID-BYTES s (l .at) in
     let r = c .record-end .ensures .0 in
     let e : a .n - (l .i + 1) ≡ a .n - l .i - 1 = omega arith in
     let k = length-nodes (a .m .now) in (
       omega arith,
       c .before .before .before .load-record .ensures .1 ∙ l .inv .1,
-      next-end idBytes s (l .at) (l .i) (l .inv .2) r,
-      ap₂ (endFrom idBytes s) r e ∙ sym (end-next idBytes s (l .at) (a .n - l .i) (omega arith)) ∙ l .inv .3,
+      next-end ID-BYTES s (l .at) (l .i) (l .inv .2) r,
+      ap₂ (endFrom ID-BYTES s) r e ∙ sym (end-next ID-BYTES s (l .at) (a .n - l .i) (omega arith)) ∙ l .inv .3,
       c .before .before .before .load-record .ensures .0 ∙ ap (λ (M : Mem). withNodes (set (M .nodes) (l .i) x) M) (l .inv .4)
-          ∙ ap (λ (ns : List Node). withNodes ns (memOf (a .m .now))) (loaded-next idBytes s (memOf (a .m .now) .nodes) (l .i) (l .at) (l .inv .2) (omega (arith, k, c .before .before .before .before .before .before .before .before .before .pre .1))),
+          ∙ ap (λ (ns : List Node). withNodes ns (memOf (a .m .now))) (loaded-next ID-BYTES s (memOf (a .m .now) .nodes) (l .i) (l .at) (l .inv .2) (omega (arith, k, c .before .before .before .before .before .before .before .before .before .pre .1))),
     )
 
 same-length : tie.Need-same-length Inv-loop μ-loop
@@ -88,7 +87,7 @@ returns c =
     let s = a .image .now in
     let l = c .before .loop in
     let e : l .i ≡ a .n = omega arith in
-    (l .inv .4 ∙ ap (λ (n : ℕ). withNodes (overwrite (memOf (a .m .now) .nodes) 0 (nodesFrom idBytes s 4 n)) (memOf (a .m .now))) e, (l .inv .1, l .inv .2 ∙ ap (endFrom idBytes s 4) e))
+    (l .inv .4 ∙ ap (λ (n : ℕ). withNodes (overwrite (memOf (a .m .now) .nodes) 0 (nodesFrom ID-BYTES s 4 n)) (memOf (a .m .now))) e, (l .inv .1, l .inv .2 ∙ ap (endFrom ID-BYTES s 4) e))
 
 pub load-records-spec : {M : Type 1} → statement M
 load-records-spec =

@@ -1,19 +1,18 @@
 -- `image_reader::page_sum` meets its contract. The invariant says what remains to be done. Assumes nothing.
 use native.Mathlib.Omega.{arith}
 use mathlib.Core.Path.{_≡_, ap, ap₂, sym, _∙_}
-use Rattle.images.specs.Width.{idBytes}
 use Rattle.image_reader.specs.Records.{nodesFrom, endFrom}
 use Prim.Native.Nat.{ℕ, _+_, _-_, _*_, _≤_}
 use Rattle.image_reader.specs.RecordLaws.{record-least, record-in, end-next}
 use Rattle.image_reader.specs.StepLaws.{pages-next, pages-last}
-use Rattle.filesystem.specs.Tables.{pagesFor, pageTotal}
+use Rattle.filesystem.specs.Tables.{ID-BYTES, pagesFor, pageTotal}
 use borrow.Author.Needs.{needs}
 use Rattle.image_reader.proofs.page_sum.Statement.{statement}
 use Rattle.image_reader.proofs.page_sum.Tie as tie
 
 abbrev Inv-loop : tie.InvT-loop
 Inv-loop image n at₀ total₀ i₀ at total i =
-    (i ≤ n) × (endFrom idBytes image at (n - i) ≡ endFrom idBytes image 4 n) × (total + pageTotal (nodesFrom idBytes image at (n - i)) ≡ pageTotal (nodesFrom idBytes image 4 n))
+    (i ≤ n) × (endFrom ID-BYTES image at (n - i) ≡ endFrom ID-BYTES image 4 n) × (total + pageTotal (nodesFrom ID-BYTES image at (n - i)) ≡ pageTotal (nodesFrom ID-BYTES image 4 n))
     × (total ≤ i * 4194304)
 
 abbrev μ-loop : tie.MeasureT-loop
@@ -24,16 +23,16 @@ loop-holds c =
     let a = c .before .args in
     let s = a .image .now in
     let e : a .n - 0 ≡ a .n = omega arith in
-    let h = ap (λ (n : ℕ). pageTotal (nodesFrom idBytes s 4 n)) e in
-    (omega arith, ap (endFrom idBytes s 4) e, omega (arith, h), omega arith)
+    let h = ap (λ (n : ℕ). pageTotal (nodesFrom ID-BYTES s 4 n)) e in
+    (omega arith, ap (endFrom ID-BYTES s 4) e, omega (arith, h), omega arith)
 
 record-size-requires : tie.Need-record-size-requires Inv-loop μ-loop
 record-size-requires c κs =
     let a = c .before .before .before .args in
     let s = a .image .now in
     let l = c .before .loop in
-    let h = record-in idBytes s (l .at) (a .n - l .i) (omega arith) in
-    let g = record-least idBytes s (l .at) in
+    let h = record-in ID-BYTES s (l .at) (a .n - l .i) (omega arith) in
+    let g = record-least ID-BYTES s (l .at) in
     omega (arith, h, g, l .inv .1)
 
 pages-for-requires : tie.Need-pages-for-requires Inv-loop μ-loop
@@ -47,8 +46,8 @@ record-end-requires c κs =
     let a = c .before .before .before .before .before .args in
     let s = a .image .now in
     let l = c .before .before .before .loop in
-    let h = record-in idBytes s (l .at) (a .n - l .i) (omega arith) in
-    let g = record-least idBytes s (l .at) in
+    let h = record-in ID-BYTES s (l .at) (a .n - l .i) (omega arith) in
+    let g = record-least ID-BYTES s (l .at) in
     omega (arith, h, g, l .inv .1)
 
 add-i : tie.Need-add-i Inv-loop μ-loop
@@ -64,17 +63,17 @@ loop-again c =
     let l = c .before .before .before .before .loop in
     let e : a .n - (l .i + 1) ≡ a .n - l .i - 1 = omega arith in
     let r = c .record-end .ensures .0 in
-    let h = pages-next idBytes s (l .at) (a .n - l .i) (omega arith) in
-    let g = ap₂ (λ (p n : ℕ). pageTotal (nodesFrom idBytes s p n)) r e in
+    let h = pages-next ID-BYTES s (l .at) (a .n - l .i) (omega arith) in
+    let g = ap₂ (λ (p n : ℕ). pageTotal (nodesFrom ID-BYTES s p n)) r e in
     let k = c .before .pages-for .ensures .0 ∙ ap pagesFor (c .before .before .record-size .ensures) in
-    (omega arith, ap₂ (endFrom idBytes s) r e ∙ sym (end-next idBytes s (l .at) (a .n - l .i) (omega arith)) ∙ l .inv .1, omega (arith, h, g, k, l .inv .2), omega arith)
+    (omega arith, ap₂ (endFrom ID-BYTES s) r e ∙ sym (end-next ID-BYTES s (l .at) (a .n - l .i) (omega arith)) ∙ l .inv .1, omega (arith, h, g, k, l .inv .2), omega arith)
 
 returns : tie.Need-returns Inv-loop μ-loop
 returns c =
     let a = c .before .before .before .args in
     let s = a .image .now in
     let l = c .before .loop in
-    omega (arith, pages-last idBytes s (l .at) (a .n - l .i) (omega arith), l .inv .2)
+    omega (arith, pages-last ID-BYTES s (l .at) (a .n - l .i) (omega arith), l .inv .2)
 
 pub page-sum-spec : {M : Type 1} → statement M
 page-sum-spec =

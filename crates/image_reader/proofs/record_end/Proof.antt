@@ -1,6 +1,6 @@
 -- `image_reader::record_end` meets its contract. Assumes nothing.
 use native.Mathlib.Omega.{arith}
-use Rattle.images.specs.Width.{idBytes}
+use Rattle.filesystem.specs.Tables.{ID-BYTES}
 use Rattle.image_reader.specs.Records.{recordEnd}
 use mathlib.Core.Path.{refl}
 use Prim.Native.Nat.{_+_, _*_}
@@ -24,14 +24,14 @@ shared-slice-read-result : tie.Need-shared-slice-read-result
 shared-slice-read-result c = search needs
 
 cast-result : tie.Need-cast-result
-cast-result c = omega (arith, c .shared-slice-known .given (c .before .args .at + 2 * idBytes + 6))
+cast-result c = omega (arith, c .shared-slice-known .given (c .before .args .at + 2 * ID-BYTES + 6))
 
 add-result-4 : tie.Need-add-result-4
-add-result-4 c = omega (arith, c .shared-slice-known .given (c .before .args .at + 2 * idBytes + 6))
+add-result-4 c = omega (arith, c .shared-slice-known .given (c .before .args .at + 2 * ID-BYTES + 6))
 
 returns : tie.Need-returns
 unfolding recordEnd
-returns c = let h = c .shared-slice-known .given (c .before .args .at + 2 * idBytes + 6) in (refl, omega arith, omega (arith, h))
+returns c = let h = c .shared-slice-known .given (c .before .args .at + 2 * ID-BYTES + 6) in (refl, omega arith, omega (arith, h))
 
 pub record-end-spec : {M : Type 1} → statement M
 record-end-spec =

@@ -1,7 +1,7 @@
 -- `image_reader::record_name` meets its contract. Assumes nothing.
 use native.Mathlib.Omega.{arith}
-use Rattle.images.specs.Width.{idBytes}
 use Rattle.lists.specs.Parts.{part}
+use Rattle.filesystem.specs.Tables.{ID-BYTES}
 use Rattle.image_reader.specs.RecordLaws.{record-least}
 use Rattle.image_reader.specs.TestLaws.{name-part}
 use borrow.Author.Needs.{needs}
@@ -9,10 +9,10 @@ use Rattle.image_reader.proofs.record_name.Statement.{statement}
 use Rattle.image_reader.proofs.record_name.Tie as tie
 
 add-start : tie.Need-add-start
-add-start c = let h = record-least idBytes (c .before .args .image .now) (c .before .args .at) in omega (arith, h)
+add-start c = let h = record-least ID-BYTES (c .before .args .image .now) (c .before .args .at) in omega (arith, h)
 
 record-end-requires : tie.Need-record-end-requires
-record-end-requires c κs = let h = record-least idBytes (c .before .args .image .now) (c .before .args .at) in omega (arith, h)
+record-end-requires c κs = let h = record-least ID-BYTES (c .before .args .image .now) (c .before .args .at) in omega (arith, h)
 
 sub-result : tie.Need-sub-result
 sub-result c = omega arith
@@ -27,7 +27,7 @@ returns : tie.Need-returns
 unfolding part
 returns c =
     let a = c .before .before .before .args in
-    rw (c .before .record-end .ensures .0) (name-part idBytes (a .image .now) (a .at))
+    rw (c .before .record-end .ensures .0) (name-part ID-BYTES (a .image .now) (a .at))
 
 pub record-name-spec : {M : Type 1} → statement M
 record-name-spec =

@@ -1,7 +1,7 @@
 -- `image_reader::records_end` meets its contract. The invariant says what remains to be done. Assumes nothing.
 use native.Mathlib.Omega.{arith}
 use mathlib.Core.Path.{_≡_, ap, ap₂, sym, _∙_}
-use Rattle.images.specs.Width.{idBytes}
+use Rattle.filesystem.specs.Tables.{ID-BYTES}
 use Rattle.image_reader.specs.Records.{endFrom}
 use Prim.Native.Nat.{_+_, _≤_, _-_}
 use lib.ListN.{length}
@@ -11,13 +11,13 @@ use Rattle.image_reader.proofs.records_end.Statement.{statement}
 use Rattle.image_reader.proofs.records_end.Tie as tie
 
 abbrev Inv-loop : tie.InvT-loop
-Inv-loop image n at₀ i₀ at i = (i ≤ n) × (at ≤ length image) × (endFrom idBytes image at (n - i) ≡ endFrom idBytes image 4 n)
+Inv-loop image n at₀ i₀ at i = (i ≤ n) × (at ≤ length image) × (endFrom ID-BYTES image at (n - i) ≡ endFrom ID-BYTES image 4 n)
 
 abbrev μ-loop : tie.MeasureT-loop
 μ-loop image n at₀ i₀ at i = n - i
 
 loop-holds : tie.Need-loop-holds Inv-loop μ-loop
-loop-holds c = let e : c .before .args .n - 0 ≡ c .before .args .n = omega arith in (omega arith, omega arith, ap (endFrom idBytes (c .before .args .image .now) 4) e)
+loop-holds c = let e : c .before .args .n - 0 ≡ c .before .args .n = omega arith in (omega arith, omega arith, ap (endFrom ID-BYTES (c .before .args .image .now) 4) e)
 
 sub-if1 : tie.Need-sub-if1 Inv-loop μ-loop
 sub-if1 c = search needs
@@ -27,7 +27,7 @@ returns c =
     let a = c .before .before .before .before .args in
     let s = a .image .now in
     let l = c .before .before .loop in
-    (no-end idBytes s (endFrom idBytes s 4 (a .n)) (omega (arith, cut-front idBytes s (l .at) (a .n - l .i) (omega arith) (omega arith), l .inv .2)), omega arith)
+    (no-end ID-BYTES s (endFrom ID-BYTES s 4 (a .n)) (omega (arith, cut-front ID-BYTES s (l .at) (a .n - l .i) (omega arith) (omega arith), l .inv .2)), omega arith)
 
 record-end-requires : tie.Need-record-end-requires Inv-loop μ-loop
 record-end-requires c κs = search needs
@@ -37,7 +37,7 @@ returns-2 c =
     let a = c .before .before .before .before .before .before .args in
     let s = a .image .now in
     let l = c .before .before .before .before .loop in
-    (no-end idBytes s (endFrom idBytes s 4 (a .n)) (omega (arith, cut-record idBytes s (l .at) (a .n - l .i) (omega arith) (omega (arith, c .before .record-end .ensures .0)), l .inv .2)), omega arith)
+    (no-end ID-BYTES s (endFrom ID-BYTES s 4 (a .n)) (omega (arith, cut-record ID-BYTES s (l .at) (a .n - l .i) (omega arith) (omega (arith, c .before .record-end .ensures .0)), l .inv .2)), omega arith)
 
 add-i : tie.Need-add-i Inv-loop μ-loop
 add-i c = search needs
@@ -51,7 +51,7 @@ loop-again c =
     let s = a .image .now in
     let l = c .before .before .before .before .loop in
     let e : a .n - (l .i + 1) ≡ a .n - l .i - 1 = omega arith in
-    (omega arith, omega arith, ap₂ (endFrom idBytes s) (c .before .record-end .ensures .0) e ∙ sym (end-next idBytes s (l .at) (a .n - l .i) (omega arith)) ∙ l .inv .2)
+    (omega arith, omega arith, ap₂ (endFrom ID-BYTES s) (c .before .record-end .ensures .0) e ∙ sym (end-next ID-BYTES s (l .at) (a .n - l .i) (omega arith)) ∙ l .inv .2)
 
 returns-3 : tie.Need-returns-3 Inv-loop μ-loop
 returns-3 c =
@@ -59,8 +59,8 @@ returns-3 c =
     let s = a .image .now in
     let l = c .before .loop in
     let z : a .n - l .i ≡ 0 = omega arith in
-    let e : endFrom idBytes s 4 (a .n) ≡ l .at = sym (l .inv .2) ∙ ap (endFrom idBytes s (l .at)) z ∙ end-last idBytes s (l .at) in
-    (rw e (an-end idBytes s (l .at) (omega arith)), omega arith)
+    let e : endFrom ID-BYTES s 4 (a .n) ≡ l .at = sym (l .inv .2) ∙ ap (endFrom ID-BYTES s (l .at)) z ∙ end-last ID-BYTES s (l .at) in
+    (rw e (an-end ID-BYTES s (l .at) (omega arith)), omega arith)
 
 pub records-end-spec : {M : Type 1} → statement M
 records-end-spec =

@@ -1,14 +1,13 @@
 -- `requests::write_close` meets its contract. Assumes nothing.
 use mathlib.Core.Path.{sym, _∙_}
-use Rattle.rules.specs.Requests.{closeRequest}
-use Rattle.rules.specs.Skeleton.{requestLength}
+use Rattle.rules.specs.Requests.{storeLength, closeRequest}
 use Rattle.requests.specs.Heads.{at-front, length-head}
 use borrow.Author.Needs.{needs}
 use Rattle.requests.proofs.write_close.Statement.{statement}
 use Rattle.requests.proofs.write_close.Tie as tie
 
 put-head-requires : tie.Need-put-head-requires
-unfolding requestLength
+unfolding storeLength
 put-head-requires c κs = search needs
 
 same-length : tie.Need-same-length

@@ -1,14 +1,13 @@
 -- `requests::write_cut` meets its contract. Assumes nothing.
 use mathlib.Core.Path.{sym, _∙_}
-use Rattle.rules.specs.Requests.{cutRequest}
-use Rattle.rules.specs.Skeleton.{requestLength}
+use Rattle.rules.specs.Requests.{storeLength, cutRequest}
 use Rattle.requests.specs.Heads.{at-front, length-longer}
 use borrow.Author.Needs.{needs}
 use Rattle.requests.proofs.write_cut.Statement.{statement}
 use Rattle.requests.proofs.write_cut.Tie as tie
 
 put-longer-requires : tie.Need-put-longer-requires
-unfolding requestLength
+unfolding storeLength
 put-longer-requires c κs = search needs
 
 same-length : tie.Need-same-length

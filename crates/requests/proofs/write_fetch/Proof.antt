@@ -1,14 +1,13 @@
 -- `requests::write_fetch` meets its contract. Assumes nothing.
 use mathlib.Core.Path.{sym, _∙_}
-use Rattle.rules.specs.Requests.{fetchRequest}
-use Rattle.rules.specs.Skeleton.{requestLength}
+use Rattle.rules.specs.Requests.{storeLength, fetchRequest}
 use Rattle.requests.specs.Heads.{at-front, length-longer}
 use borrow.Author.Needs.{needs}
 use Rattle.requests.proofs.write_fetch.Statement.{statement}
 use Rattle.requests.proofs.write_fetch.Tie as tie
 
 put-longer-requires : tie.Need-put-longer-requires
-unfolding requestLength
+unfolding storeLength
 put-longer-requires c κs = search needs
 
 same-length : tie.Need-same-length

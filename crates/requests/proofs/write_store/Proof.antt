@@ -1,25 +1,25 @@
 -- `requests::write_store` meets its contract. Assumes nothing.
 use mathlib.Core.Path.{refl}
+use Rattle.rules.specs.Requests.{storeLength}
 use Rattle.rules.specs.Pages.{writing, fill}
-use Rattle.rules.specs.Skeleton.{requestLength}
 use Rattle.requests.specs.Heads.{behind-store}
 use borrow.Author.Needs.{needs}
 use Rattle.requests.proofs.write_store.Statement.{statement}
 use Rattle.requests.proofs.write_store.Tie as tie
 
 put-store-requires : tie.Need-put-store-requires
-unfolding requestLength
+unfolding storeLength
 put-store-requires c κs = search needs
 
 put-written-requires : tie.Need-put-written-requires
-unfolding requestLength
+unfolding storeLength
 put-written-requires c κs = search needs
 
 same-length : tie.Need-same-length
 same-length c = search needs
 
 returns : tie.Need-returns
-unfolding requestLength
+unfolding storeLength
 returns c =
     let a = c .before .before .before .before .before .before .before .before .before .before .before .args in
     (behind-store (a .out .now) _ _ (a .descriptor) (a .i) (a .size) (fill (writing (a .position) (a .bytes .now)) (a .i) (a .page .now)) (c .before .before .before .before .before .before .put-store .ensures) (c .before .before .put-written .ensures), refl)

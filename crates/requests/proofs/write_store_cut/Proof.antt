@@ -1,25 +1,25 @@
 -- `requests::write_store_cut` meets its contract. Assumes nothing.
 use mathlib.Core.Path.{refl}
+use Rattle.rules.specs.Requests.{storeLength}
 use Rattle.rules.specs.Pages.{shrinking, fill}
-use Rattle.rules.specs.Skeleton.{requestLength}
 use Rattle.requests.specs.Heads.{behind-store}
 use borrow.Author.Needs.{needs}
 use Rattle.requests.proofs.write_store_cut.Statement.{statement}
 use Rattle.requests.proofs.write_store_cut.Tie as tie
 
 put-store-requires : tie.Need-put-store-requires
-unfolding requestLength
+unfolding storeLength
 put-store-requires c κs = search needs
 
 put-cut-requires : tie.Need-put-cut-requires
-unfolding requestLength
+unfolding storeLength
 put-cut-requires c κs = search needs
 
 same-length : tie.Need-same-length
 same-length c = search needs
 
 returns : tie.Need-returns
-unfolding requestLength
+unfolding storeLength
 returns c =
     let a = c .before .before .before .before .before .before .before .before .before .before .args in
     (behind-store (a .out .now) _ _ (a .descriptor) (a .i) (a .size) (fill (shrinking (a .to)) (a .i) (a .page .now)) (c .before .before .before .before .before .before .put-store .ensures) (c .before .before .put-cut .ensures), refl)

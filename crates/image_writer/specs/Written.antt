@@ -15,7 +15,7 @@ use Rattle.filesystem.specs.Tables.{NODES, PAGES, Node, noNode, nodeAt, pagesFo
 use Rattle.filesystem.specs.Image.{nodeForm, imageForm, print, recordsLength, imageLength}
 use Rattle.memory.specs.Layout.{memOf, memorySize}
 use Rattle.memory.specs.MemLaws.{length-nodes, length-digests}
-use Rattle.images.specs.Width.{nodesIn, imageIn, recordLength, middle}
+use Rattle.image_writer.specs.Width.{nodesIn, imageIn, recordLength, middle}
 
 -- Parts written one behind the other.
 module _ {A : Type 0} where

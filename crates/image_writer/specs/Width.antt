@@ -1,4 +1,4 @@
--- What the image's format settles once: the width of ids, and how long a record is.
+-- The nodes and digests that go into an image, and how long a record is.
 -- Assumes nothing.
 use Prim.Native.Nat.{ℕ, _+_, _*_}
 use mathlib.Core.List.{List, _++_}
@@ -7,10 +7,6 @@ use Rattle.lists.specs.LittleEndian.{encode}
 use Rattle.filesystem.specs.Tables.{Node, pageTotal}
 use Rattle.filesystem.specs.Image.{Image}
 use Rattle.memory.specs.Layout.{memOf}
-
--- ids in the image
-abbrev pub idBytes : ℕ
-idBytes = 4
 
 -- the nodes in use, and their digests
 abbrev pub nodesIn : ℕ → List ℕ → List Node

@@ -1,14 +1,14 @@
--- `images::write_record` meets its contract. Assumes nothing.
+-- `image_writer::write_record` meets its contract. Assumes nothing.
 use native.Mathlib.Omega.{arith}
 use mathlib.Core.Path.{_≡_, ap, _∙_}
 use lib.ListN.{length}
-use Rattle.filesystem.specs.Tables.{nodeAt}
+use Rattle.filesystem.specs.Tables.{ID-BYTES, nodeAt}
 use Rattle.memory.specs.Layout.{memOf}
-use Rattle.images.specs.Width.{idBytes, middle}
-use Rattle.images.specs.Written.{record-made, made}
+use Rattle.image_writer.specs.Width.{middle}
+use Rattle.image_writer.specs.Written.{record-made, made}
 use borrow.Author.Needs.{needs}
-use Rattle.images.proofs.write_record.Statement.{statement}
-use Rattle.images.proofs.write_record.Tie as tie
+use Rattle.image_writer.proofs.write_record.Statement.{statement}
+use Rattle.image_writer.proofs.write_record.Tie as tie
 
 node-name-requires : tie.Need-node-name-requires
 node-name-requires c κs = search needs
@@ -68,7 +68,7 @@ returns c =
     let f : c .before .before .before .before .before .before .before .before .before .before .before .before .before .before .before .record-middle .result ≡ middle (x .kind) (x .mode) (x .size) (length (x .name)) =
     c .before .before .before .before .before .before .before .before .before .before .before .before .before .before .before .record-middle .ensures
     ∙ made (c .before .before .before .before .before .before .before .before .before .before .before .before .before .before .before .before .before .before .node-kind .ensures) (c .before .before .before .before .before .before .before .before .before .before .before .before .before .before .before .before .before .node-mode .ensures) (c .before .before .before .before .before .before .before .before .before .before .before .before .before .before .before .before .node-size .ensures) (ap length (c .before .before .before .before .before .before .before .before .before .before .before .before .before .before .before .before .before .before .before .node-name .ensures .0)) in (
-      record-made (a .out .now) (a .at) idBytes x (c .before .before .before .before .before .before .before .before .before .before .before .before .before .before .before .before .before .before .before .before .before .before .pre .2) (c .before .before .before .before .before .before .before .before .before .before .before .write-ids .ensures) (c .before .before .before .before .before .before .put .ensures) (c .before .before .put2 .ensures)
+      record-made (a .out .now) (a .at) ID-BYTES x (c .before .before .before .before .before .before .before .before .before .before .before .before .before .before .before .before .before .before .before .before .before .before .pre .2) (c .before .before .before .before .before .before .before .before .before .before .before .write-ids .ensures) (c .before .before .before .before .before .before .put .ensures) (c .before .before .put2 .ensures)
           (c .before .before .before .before .before .before .before .before .before .before .before .before .before .node-id .ensures) (c .before .before .before .before .before .before .before .before .before .before .before .before .node-parent .ensures) f (c .before .before .before .before .before .before .before .before .before .before .before .before .before .before .before .before .before .before .before .node-name .ensures .0),
       omega (arith, ap length (c .before .before .before .before .before .before .before .before .before .before .before .before .before .before .before .before .before .before .before .node-name .ensures .0)),
     )

@@ -1,15 +1,15 @@
--- `images::write_ids` meets its contract. Assumes nothing.
+-- `image_writer::write_ids` meets its contract. Assumes nothing.
 use native.Mathlib.Omega.{arith}
 use Prim.Native.Nat.{ℕ, _+_}
 use mathlib.Core.Path.{ap, _∙_}
 use mathlib.Core.List.{List}
 use Rattle.lists.specs.LittleEndian.{encode}
 use Rattle.lists.specs.Parts.{overwrite}
-use Rattle.images.specs.Width.{idBytes}
-use Rattle.images.specs.Written.{ids-written}
+use Rattle.filesystem.specs.Tables.{ID-BYTES}
+use Rattle.image_writer.specs.Written.{ids-written}
 use borrow.Author.Needs.{needs}
-use Rattle.images.proofs.write_ids.Statement.{statement}
-use Rattle.images.proofs.write_ids.Tie as tie
+use Rattle.image_writer.proofs.write_ids.Statement.{statement}
+use Rattle.image_writer.proofs.write_ids.Tie as tie
 
 put-number-requires : tie.Need-put-number-requires
 put-number-requires c κs = search needs
@@ -27,8 +27,8 @@ returns : tie.Need-returns
 returns c =
     let a = c .before .before .before .before .before .before .before .before .before .args in
     c .before .before .put-number2 .ensures
-    ∙ ap (λ (o : List ℕ). overwrite o (a .at + idBytes) (encode idBytes (a .parent))) (c .before .before .before .before .before .before .put-number .ensures)
-    ∙ ids-written (a .out .now) (a .at) idBytes (a .id) (a .parent) (omega arith)
+    ∙ ap (λ (o : List ℕ). overwrite o (a .at + ID-BYTES) (encode ID-BYTES (a .parent))) (c .before .before .before .before .before .before .put-number .ensures)
+    ∙ ids-written (a .out .now) (a .at) ID-BYTES (a .id) (a .parent) (omega arith)
 
 pub write-ids-spec : {M : Type 1} → statement M
 write-ids-spec =

@@ -8,26 +8,19 @@ ghost use Rattle.lists.specs.Form.{put-all};
 ghost use Rattle.lists.specs.LittleEndian.{encode};
 ghost use Rattle.lists.specs.Parts.{overwrite};
 ghost use Rattle.digest.specs.Sha256.{sha256};
-ghost use Rattle.filesystem.specs.Tables.{NODES, PAGES, nodeAt, pageTotal};
+ghost use Rattle.filesystem.specs.Tables.{ID-BYTES, NODES, PAGES, nodeAt, pageTotal};
 ghost use Rattle.filesystem.specs.Image.{nodeForm, print, recordsLength, imageLength};
 ghost use Rattle.memory.specs.Layout.{memOf, memorySize};
-ghost use Rattle.images.specs.Width.{idBytes, nodesIn, imageIn, recordLength, middle};
+ghost use Rattle.image_writer.specs.Width.{nodesIn, imageIn, recordLength, middle};
 
-// Ids have this many bytes in the image; `id_bytes` says that contracts mean the same by `idBytes`.
-pub const ID_BYTES: usize = 4;
-
-pub fn id_bytes() -> usize
-    ensures { λ r. ⌜ r ≡ idBytes ⌝ }
-{
-    ID_BYTES
-}
+const ID_BYTES: usize = limits::ID_BYTES;
 
 // ---- how long it is
 
 // The bytes of the first n nodes' records.
 fn records_length(m: &[u8], n: usize) -> usize
     requires { ⌜ (n ≤ NODES) × (memorySize ≤ length (now m)) ⌝ }
-    ensures { λ r. ⌜ (r ≡ recordsLength idBytes (nodesIn n (now (m .entry)))) × (r ≤ n * 47) ⌝ }
+    ensures { λ r. ⌜ (r ≡ recordsLength ID-BYTES (nodesIn n (now (m .entry)))) × (r ≤ n * 47) ⌝ }
 {
     let mut total: usize = 0;
     let mut i = 0;
@@ -42,10 +35,10 @@ fn records_length(m: &[u8], n: usize) -> usize
 // The bytes of the image of the first n nodes.
 pub fn image_length(m: &[u8], n: usize) -> usize
     requires { ⌜ (n ≤ NODES) × (memorySize ≤ length (now m)) ⌝ }
-    ensures { λ r. ⌜ r ≡ imageLength idBytes (nodesIn n (now (m .entry))) ⌝ }
+    ensures { λ r. ⌜ r ≡ imageLength ID-BYTES (nodesIn n (now (m .entry))) ⌝ }
 {
     let pages = tables::first_page(m, n);
-    8 + records_length(m, n) + 32 * pages
+    8 + records_length(m, n) + limits::DIGEST_BYTES * pages
 }
 
 // ---- writing
@@ -60,8 +53,8 @@ fn record_middle(kind: u8, mode: u8, size: u32, n: u8) -> [u8; 7]
 
 // Two ids, written over a part of out.
 fn write_ids(out: &mut [u8], at: usize, id: u64, parent: u64)
-    requires { ⌜ at + 2 * idBytes ≤ length (now out) ⌝ }
-    ensures { λ _. ⌜ now (out .exit) ≡ overwrite (now (out .entry)) at (encode idBytes id ++ encode idBytes parent) ⌝ }
+    requires { ⌜ at + 2 * ID-BYTES ≤ length (now out) ⌝ }
+    ensures { λ _. ⌜ now (out .exit) ≡ overwrite (now (out .entry)) at (encode ID-BYTES id ++ encode ID-BYTES parent) ⌝ }
 {
     numbers::put_number(out, at, ID_BYTES, id);
     numbers::put_number(out, at + ID_BYTES, ID_BYTES, parent);
@@ -69,9 +62,9 @@ fn write_ids(out: &mut [u8], at: usize, id: u64, parent: u64)
 
 // Node i's record, written over a part of out; the place behind it.
 pub fn write_record(m: &[u8], i: usize, out: &mut [u8], at: usize) -> usize
-    requires { ⌜ (i < NODES) × (memorySize ≤ length (now m)) × (at + recordLength idBytes (nodeAt (memOf (now m) .nodes) i) ≤ length (now out)) ⌝ }
-    ensures { λ r. ⌜ now (out .exit) ≡ overwrite (now (out .entry)) at (nodeForm idBytes .put (nodeAt (memOf (now (m .entry)) .nodes) i)) ⌝ }
-    ensures { λ r. ⌜ r ≡ at + recordLength idBytes (nodeAt (memOf (now (m .entry)) .nodes) i) ⌝ }
+    requires { ⌜ (i < NODES) × (memorySize ≤ length (now m)) × (at + recordLength ID-BYTES (nodeAt (memOf (now m) .nodes) i) ≤ length (now out)) ⌝ }
+    ensures { λ r. ⌜ now (out .exit) ≡ overwrite (now (out .entry)) at (nodeForm ID-BYTES .put (nodeAt (memOf (now (m .entry)) .nodes) i)) ⌝ }
+    ensures { λ r. ⌜ r ≡ at + recordLength ID-BYTES (nodeAt (memOf (now (m .entry)) .nodes) i) ⌝ }
 {
     let name = memory::node_name(m, i);
     let n = name.len();
@@ -92,9 +85,9 @@ pub fn write_record(m: &[u8], i: usize, out: &mut [u8], at: usize) -> usize
 
 // The first n nodes' records, written over a part of out; the place behind them.
 pub fn write_records(m: &[u8], n: usize, out: &mut [u8], at: usize) -> usize
-    requires { ⌜ (n ≤ NODES) × (memorySize ≤ length (now m)) × (at + recordsLength idBytes (nodesIn n (now m)) ≤ length (now out)) ⌝ }
-    ensures { λ r. ⌜ now (out .exit) ≡ overwrite (now (out .entry)) at (put-all (nodeForm idBytes) (nodesIn n (now (m .entry)))) ⌝ }
-    ensures { λ r. ⌜ r ≡ at + recordsLength idBytes (nodesIn n (now (m .entry))) ⌝ }
+    requires { ⌜ (n ≤ NODES) × (memorySize ≤ length (now m)) × (at + recordsLength ID-BYTES (nodesIn n (now m)) ≤ length (now out)) ⌝ }
+    ensures { λ r. ⌜ now (out .exit) ≡ overwrite (now (out .entry)) at (put-all (nodeForm ID-BYTES) (nodesIn n (now (m .entry)))) ⌝ }
+    ensures { λ r. ⌜ r ≡ at + recordsLength ID-BYTES (nodesIn n (now (m .entry))) ⌝ }
 {
     let mut next = at;
     let mut i = 0;
@@ -107,9 +100,9 @@ pub fn write_records(m: &[u8], n: usize, out: &mut [u8], at: usize) -> usize
 
 // The image of the first n nodes, written over the front of out; its length.
 pub fn write_image(m: &[u8], n: usize, out: &mut [u8]) -> usize
-    requires { ⌜ (n ≤ NODES) × (memorySize ≤ length (now m)) × (pageTotal (nodesIn n (now m)) ≤ PAGES) × (imageLength idBytes (nodesIn n (now m)) ≤ length (now out)) ⌝ }
-    ensures { λ r. ⌜ now (out .exit) ≡ print idBytes (imageIn n (now (m .entry))) ++ drop (length (print idBytes (imageIn n (now (m .entry))))) (now (out .entry)) ⌝ }
-    ensures { λ r. ⌜ r ≡ length (print idBytes (imageIn n (now (m .entry)))) ⌝ }
+    requires { ⌜ (n ≤ NODES) × (memorySize ≤ length (now m)) × (pageTotal (nodesIn n (now m)) ≤ PAGES) × (imageLength ID-BYTES (nodesIn n (now m)) ≤ length (now out)) ⌝ }
+    ensures { λ r. ⌜ now (out .exit) ≡ print ID-BYTES (imageIn n (now (m .entry))) ++ drop (length (print ID-BYTES (imageIn n (now (m .entry))))) (now (out .entry)) ⌝ }
+    ensures { λ r. ⌜ r ≡ length (print ID-BYTES (imageIn n (now (m .entry)))) ⌝ }
 {
     let pages = tables::first_page(m, n);
     numbers::put_number(out, 0, 4, n as u64);
@@ -117,7 +110,7 @@ pub fn write_image(m: &[u8], n: usize, out: &mut [u8]) -> usize
     numbers::put_number(out, at, 4, pages as u64);
     let start = at + 4;
     buffers::put(out, start, memory::digests(m, pages));
-    start + 32 * pages
+    start + limits::DIGEST_BYTES * pages
 }
 
 // ---- the seal

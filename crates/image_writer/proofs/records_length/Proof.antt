@@ -1,17 +1,18 @@
--- `images::records_length` meets its contract. The invariant says what remains to be done. Assumes nothing.
+-- `image_writer::records_length` meets its contract. The invariant says what remains to be done. Assumes nothing.
 use native.Mathlib.Omega.{arith}
 use Prim.Native.Nat.{_+_, _*_, _-_, _≤_}
 use mathlib.Core.Path.{_≡_, ap}
 use lib.ListN.{length, drop}
+use Rattle.filesystem.specs.Tables.{ID-BYTES}
 use Rattle.filesystem.specs.Image.{recordsLength}
-use Rattle.images.specs.Width.{idBytes, nodesIn}
-use Rattle.images.specs.Written.{records-in, records-end}
+use Rattle.image_writer.specs.Width.{nodesIn}
+use Rattle.image_writer.specs.Written.{records-in, records-end}
 use borrow.Author.Needs.{needs}
-use Rattle.images.proofs.records_length.Statement.{statement}
-use Rattle.images.proofs.records_length.Tie as tie
+use Rattle.image_writer.proofs.records_length.Statement.{statement}
+use Rattle.image_writer.proofs.records_length.Tie as tie
 
 abbrev Inv-loop : tie.InvT-loop
-Inv-loop m n total₀ i₀ total i = (i ≤ n) × (total + recordsLength idBytes (drop i (nodesIn n m)) ≡ recordsLength idBytes (nodesIn n m)) × (total ≤ i * 47)
+Inv-loop m n total₀ i₀ total i = (i ≤ n) × (total + recordsLength ID-BYTES (drop i (nodesIn n m)) ≡ recordsLength ID-BYTES (nodesIn n m)) × (total ≤ i * 47)
 
 abbrev μ-loop : tie.MeasureT-loop
 μ-loop m n total₀ i₀ total i = n - i
@@ -45,14 +46,14 @@ loop-again c =
     let a = c .before .before .before .before .args in
     let l = c .before .before .loop in
     let e = ap length (c .node-name .ensures .0) in
-    let p = records-in (a .m .now) (a .n) (omega arith) idBytes (l .i) (omega arith) in
+    let p = records-in (a .m .now) (a .n) (omega arith) ID-BYTES (l .i) (omega arith) in
     (omega arith, omega (arith, e, p), omega arith)
 
 returns : tie.Need-returns Inv-loop μ-loop
 returns c =
     let a = c .before .before .before .args in
     let l = c .before .loop in
-    let p = records-end (a .m .now) (a .n) (omega arith) idBytes (l .i) (omega arith) in
+    let p = records-end (a .m .now) (a .n) (omega arith) ID-BYTES (l .i) (omega arith) in
     (omega (arith, p), omega arith)
 
 pub records-length-spec : {M : Type 1} → statement M

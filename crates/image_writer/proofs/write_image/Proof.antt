@@ -1,11 +1,11 @@
--- `images::write_image` meets its contract. Assumes nothing.
+-- `image_writer::write_image` meets its contract. Assumes nothing.
 use native.Mathlib.Omega.{arith}
+use Rattle.filesystem.specs.Tables.{ID-BYTES}
 use Rattle.filesystem.specs.Image.{imageLength}
-use Rattle.images.specs.Width.{idBytes}
-use Rattle.images.specs.Written.{image-written}
+use Rattle.image_writer.specs.Written.{image-written}
 use borrow.Author.Needs.{needs}
-use Rattle.images.proofs.write_image.Statement.{statement}
-use Rattle.images.proofs.write_image.Tie as tie
+use Rattle.image_writer.proofs.write_image.Statement.{statement}
+use Rattle.image_writer.proofs.write_image.Tie as tie
 
 first-page-requires : tie.Need-first-page-requires
 first-page-requires c κs = search needs
@@ -46,7 +46,7 @@ same-length c = search needs
 returns : tie.Need-returns
 returns c =
     let a = c .before .before .before .before .before .before .before .before .before .before .before .before .before .before .before .before .before .before .before .before .args in
-    image-written idBytes (a .n) (a .out .now) (a .m .now) (c .before .before .before .before .before .before .before .before .before .before .before .write-records .result) (c .before .before .before .before .before .before .before .before .before .before .before .before .before .before .before .before .before .first-page .result) (c .before .before .before .digests .result .now)
+    image-written ID-BYTES (a .n) (a .out .now) (a .m .now) (c .before .before .before .before .before .before .before .before .before .before .before .write-records .result) (c .before .before .before .before .before .before .before .before .before .before .before .before .before .before .before .before .before .first-page .result) (c .before .before .before .digests .result .now)
     (omega arith) (omega arith) (omega arith) (c .before .before .before .before .before .before .before .before .before .before .before .before .before .before .before .before .before .before .before .before .pre .3)
     (c .before .before .before .before .before .before .before .before .before .before .before .write-records .ensures .1) (c .before .before .before .before .before .before .before .before .before .before .before .before .before .before .before .before .before .first-page .ensures .0) (c .before .before .before .digests .ensures .0) (c .before .before .before .digests .ensures .1)
     (c .before .before .before .before .before .before .before .before .before .before .before .before .before .before .before .put-number .ensures) (c .before .before .before .before .before .before .before .before .before .before .before .write-records .ensures .0) (c .before .before .before .before .before .before .before .put-number2 .ensures) (c .before .before .put .ensures)

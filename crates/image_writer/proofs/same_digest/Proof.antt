@@ -1,11 +1,11 @@
--- `images::same_digest` meets its contract. Assumes nothing.
+-- `image_writer::same_digest` meets its contract. Assumes nothing.
 use Prim.Native.Nat.{ℕ}
 use mathlib.Core.Path.{ap, _∙_}
 use mathlib.Core.List.{List}
 use Rattle.lists.specs.Equal.{equal}
 use borrow.Author.Needs.{needs}
-use Rattle.images.proofs.same_digest.Statement.{statement}
-use Rattle.images.proofs.same_digest.Tie as tie
+use Rattle.image_writer.proofs.same_digest.Statement.{statement}
+use Rattle.image_writer.proofs.same_digest.Tie as tie
 
 seal-requires : tie.Need-seal-requires
 seal-requires c κs = search needs

@@ -1,9 +1,9 @@
--- `images::image_length` meets its contract. Assumes nothing.
+-- `image_writer::image_length` meets its contract. Assumes nothing.
 use native.Mathlib.Omega.{arith}
 use Rattle.filesystem.specs.Image.{imageLength}
 use borrow.Author.Needs.{needs}
-use Rattle.images.proofs.image_length.Statement.{statement}
-use Rattle.images.proofs.image_length.Tie as tie
+use Rattle.image_writer.proofs.image_length.Statement.{statement}
+use Rattle.image_writer.proofs.image_length.Tie as tie
 
 first-page-requires : tie.Need-first-page-requires
 first-page-requires c κs = search needs

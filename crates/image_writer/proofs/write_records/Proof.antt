@@ -1,4 +1,4 @@
--- `images::write_records` meets its contract. The invariant says what remains to be done. Assumes nothing.
+-- `image_writer::write_records` meets its contract. The invariant says what remains to be done. Assumes nothing.
 use native.Mathlib.Omega.{arith}
 use Prim.Native.Nat.{_+_, _-_, _≤_}
 use mathlib.Core.Path.{_≡_, refl, _∙_}
@@ -6,19 +6,19 @@ use lib.ListN.{length, drop}
 use Rattle.lists.specs.Form.{put-all}
 use Rattle.lists.specs.Parts.{overwrite}
 use Rattle.filesystem.specs.Image.{nodeForm, recordsLength}
-use Rattle.images.specs.Width.{idBytes, nodesIn}
-use Rattle.images.specs.Written.{records-in, records-end}
+use Rattle.image_writer.specs.Width.{nodesIn}
+use Rattle.image_writer.specs.Written.{records-in, records-end}
 use Prim.Native.Nat.{_<_}
-use Rattle.filesystem.specs.Tables.{NODES}
-use Rattle.images.specs.Written.{record-next, records-done}
+use Rattle.filesystem.specs.Tables.{ID-BYTES, NODES}
+use Rattle.image_writer.specs.Written.{record-next, records-done}
 use borrow.Author.Needs.{needs}
-use Rattle.images.proofs.write_records.Statement.{statement}
-use Rattle.images.proofs.write_records.Tie as tie
+use Rattle.image_writer.proofs.write_records.Statement.{statement}
+use Rattle.image_writer.proofs.write_records.Tie as tie
 
 abbrev Inv-loop : tie.InvT-loop
 Inv-loop m n out₀ at next₀ i₀ out next i =
-    (i ≤ n) × (length out ≡ length out₀) × (overwrite out next (put-all (nodeForm idBytes) (drop i (nodesIn n m))) ≡ overwrite out₀ at (put-all (nodeForm idBytes) (nodesIn n m)))
-    × (next + recordsLength idBytes (drop i (nodesIn n m)) ≡ at + recordsLength idBytes (nodesIn n m))
+    (i ≤ n) × (length out ≡ length out₀) × (overwrite out next (put-all (nodeForm ID-BYTES) (drop i (nodesIn n m))) ≡ overwrite out₀ at (put-all (nodeForm ID-BYTES) (nodesIn n m)))
+    × (next + recordsLength ID-BYTES (drop i (nodesIn n m)) ≡ at + recordsLength ID-BYTES (nodesIn n m))
 
 abbrev μ-loop : tie.MeasureT-loop
 μ-loop m n out₀ at next₀ i₀ out next i = n - i
@@ -30,7 +30,7 @@ write-record-requires : tie.Need-write-record-requires Inv-loop μ-loop
 write-record-requires c κs =
     let a = c .before .before .before .before .before .args in
     let l = c .before .before .loop in
-    let p = records-in (a .m .now) (a .n) (omega arith) idBytes (l .i) (omega arith) in
+    let p = records-in (a .m .now) (a .n) (omega arith) ID-BYTES (l .i) (omega arith) in
     (omega arith, omega arith, omega (arith, p, l .inv .3, l .inv .1))
 
 add-i : tie.Need-add-i Inv-loop μ-loop
@@ -46,8 +46,8 @@ loop-again c =
     let r = c .before .before .write-record in
     let h : a .n ≤ NODES = omega arith in
     let i : l .i < a .n = omega arith in
-    let p = records-in (a .m .now) (a .n) h idBytes (l .i) i in
-    (omega arith, omega arith, record-next (a .m .now) (a .n) h idBytes (l .i) i (l .out) (l .next) (omega (arith, p, l .inv .3, l .inv .1)) (r .ensures .0) (r .ensures .1) ∙ l .inv .2, omega (arith, p, l .inv .3, r .ensures .1))
+    let p = records-in (a .m .now) (a .n) h ID-BYTES (l .i) i in
+    (omega arith, omega arith, record-next (a .m .now) (a .n) h ID-BYTES (l .i) i (l .out) (l .next) (omega (arith, p, l .inv .3, l .inv .1)) (r .ensures .0) (r .ensures .1) ∙ l .inv .2, omega (arith, p, l .inv .3, r .ensures .1))
 
 same-length : tie.Need-same-length Inv-loop μ-loop
 same-length c = search needs
@@ -57,8 +57,8 @@ returns c =
     let a = c .before .before .before .before .args in
     let l = c .before .loop in
     let h : a .n ≤ NODES = omega arith in
-    let p = records-end (a .m .now) (a .n) h idBytes (l .i) (omega arith) in
-    (records-done (a .m .now) (a .n) h idBytes (l .i) (omega arith) (l .out) (l .next) ∙ l .inv .2, omega (arith, p, l .inv .3))
+    let p = records-end (a .m .now) (a .n) h ID-BYTES (l .i) (omega arith) in
+    (records-done (a .m .now) (a .n) h ID-BYTES (l .i) (omega arith) (l .out) (l .next) ∙ l .inv .2, omega (arith, p, l .inv .3))
 
 pub write-records-spec : {M : Type 1} → statement M
 write-records-spec =

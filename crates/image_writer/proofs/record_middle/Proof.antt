@@ -1,12 +1,12 @@
--- `images::record_middle` meets its contract. Assumes nothing.
+-- `image_writer::record_middle` meets its contract. Assumes nothing.
 use native.Mathlib.Omega.{arith}
 use Prim.Native.Nat.{_%_}
 use mathlib.Core.Path.{_≡_}
 use Rattle.lists.specs.LittleEndian.{encode}
-use Rattle.images.specs.Width.{middle}
+use Rattle.image_writer.specs.Width.{middle}
 use borrow.Author.Needs.{needs}
-use Rattle.images.proofs.record_middle.Statement.{statement}
-use Rattle.images.proofs.record_middle.Tie as tie
+use Rattle.image_writer.proofs.record_middle.Statement.{statement}
+use Rattle.image_writer.proofs.record_middle.Tie as tie
 
 bytes4-requires : tie.Need-bytes4-requires
 bytes4-requires c κs = search needs
