@@ -2,9 +2,11 @@
  * time of each is printed with its ratio to plain C at -O2. OpenSSL reads OPENSSL_ia32cap as it starts, so each of its two
  * settings runs in a process of its own that waits for its turn. */
 #define _GNU_SOURCE
+#include <fcntl.h>
 #include <stdio.h>
 #include <stdlib.h>
 #include <string.h>
+#include <sys/wait.h>
 #include <time.h>
 #include <unistd.h>
 #include "../include/guard_sha256.h"
@@ -33,13 +35,17 @@ static double once(void (*f)(const uint8_t *, size_t, uint8_t *), size_t n, uint
 }
 
 struct answer { double ns; uint8_t digest[32]; };
-struct worker { int to, from; };
+struct worker { int to, from; pid_t id; };
 
+/* A worker ends when its input does, so no other process may hold the writing end: every end closes at exec but the worker's own two, which dup2 made. */
 static struct worker start(const char *cap) {
     int in[2], out[2];
-    if (pipe(in) || pipe(out))
+    if (pipe2(in, O_CLOEXEC) || pipe2(out, O_CLOEXEC))
         exit(2);
-    if (fork() == 0) {
+    pid_t id = fork();
+    if (id < 0)
+        exit(2);
+    if (id == 0) {
         dup2(in[0], 0);
         dup2(out[1], 1);
         if (cap)
@@ -51,7 +57,13 @@ static struct worker start(const char *cap) {
     }
     close(in[0]);
     close(out[1]);
-    return (struct worker){in[1], out[0]};
+    return (struct worker){in[1], out[0], id};
+}
+
+static void end(struct worker w) {
+    close(w.to);
+    close(w.from);
+    waitpid(w.id, NULL, 0);
 }
 
 static struct answer ask(struct worker w, int which) {
@@ -100,5 +112,7 @@ int main(int argc, char **argv) {
         for (int k = 0; k < KINDS; k++)
             printf("  %-30s %9.0f ns  %5.2f\n", names[k], least[k], least[k] / least[1]);
     }
+    end(without);
+    end(with);
     return 0;
 }

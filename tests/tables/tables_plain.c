@@ -1,7 +1,6 @@
 /* Straightforward C on the rows of the guard's tables. */
-#include <stddef.h>
-#include <stdint.h>
 #include <string.h>
+#include "entries.h"
 
 struct node {
     uint64_t id, parent;
@@ -10,8 +9,6 @@ struct node {
     uint8_t length;
     uint8_t name[33];
 } __attribute__((packed));
-
-enum { NODES_AT = 128, DIGESTS_AT = 15232 };
 
 static uint32_t pages(uint32_t size) { return (size + 1023) / 1024; }
 

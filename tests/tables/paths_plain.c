@@ -1,9 +1,6 @@
 /* Straightforward C on the guard's rows, for comparison. */
-#include <stddef.h>
-#include <stdint.h>
 #include <string.h>
-
-enum { NODES_AT = 128, WIDTH = 56 };
+#include "entries.h"
 
 static uint64_t number(const uint8_t *b)
 {

@@ -1,0 +1,110 @@
+/* tables compare: each case by the proved code and by plain C must answer the same and leave the same memory and image.
+ * tables ours|plain CASE: one call on full tables, to be counted. */
+#include <stdio.h>
+#include <stdlib.h>
+#include <string.h>
+#include "entries.h"
+
+static uint8_t m[SIZE], row[WIDTH], name[32], digest[32], image[44776];
+
+/* 256 nodes of one parent, with names that differ in one byte, `from_end` before their end; the first has one page, the others three or four */
+static void fill(size_t name_len, size_t from_end)
+{
+    memset(name, 'a', sizeof name);
+    for (int i = 0; i < NODES; i++) {
+        uint8_t *r = m + NODES_AT + WIDTH * i;
+        r[0] = i + 1;
+        r[8] = 1;
+        r[16] = 1;
+        r[17] = 7;
+        r[18 + 1] = i == 0 ? 4 : i % 2 ? 12 : 16;
+        r[22] = name_len;
+        memset(r + 23, 'a', name_len);
+        r[23 + name_len - from_end] = i;
+    }
+    for (int i = DIGESTS_AT; i < SIZE; i++)
+        m[i] = i * 7;
+    name[name_len - from_end] = 255;
+    for (int i = 0; i < WIDTH; i++)
+        row[i] = i < 18 || i > 21 ? 100 + i : 0; /* a new node's size is 0 */
+}
+
+/* the root and 255 files in it, names of 32 bytes, 1,024 pages: the longest image */
+static size_t longest(void)
+{
+    fill(32, 1);
+    for (int i = 0; i < NODES; i++) {
+        uint8_t *r = m + NODES_AT + WIDTH * i;
+        r[1] = (i + 1) >> 8;
+        r[8] = i != 0;
+        r[16] = i == 0 ? 2 : 1;
+        r[18 + 1] = i == 0 ? 0 : i == 255 ? 32 : 16;
+        r[22] = i == 0 ? 0 : 32;
+        r[23 + 30] = i == '/' ? 'b' : 'a';
+        r[23 + 31] = i == '/' ? 'b' : i;
+    }
+    return setup_image(m, NODES, image);
+}
+
+static const char *const cases[] = {"find1", "find7", "find28", "middle28", "add", "remove", "digest", "image", "sound", "load"};
+enum { CASES = sizeof cases / sizeof *cases };
+
+/* one case on tables of its own making: what the function answers */
+static size_t run(int ours, const char *op)
+{
+    memset(m, 0, sizeof m);
+    memset(image, 0, sizeof image);
+    memset(digest, 9, sizeof digest);
+    if (strcmp(op, "image") == 0 || strcmp(op, "sound") == 0 || strcmp(op, "load") == 0) {
+        size_t n = longest();
+        if (n != sizeof image)
+            exit(2);
+        if (strcmp(op, "sound") == 0)
+            return ours ? ours_is_sound(image, n) : (size_t)plain_is_sound(image, n);
+        if (strcmp(op, "load") == 0) {
+            memset(m, 0, sizeof m);
+            return ours ? ours_load(image, n, m, SIZE) : plain_load(image, n, m, SIZE);
+        }
+        memset(image, 0, sizeof image);
+        return ours ? ours_write_image(m, SIZE, NODES, image, sizeof image) : plain_write_image(m, SIZE, NODES, image, sizeof image);
+    }
+    size_t l = strcmp(op, "find1") == 0 ? 1 : strcmp(op, "find7") == 0 ? 7 : 28;
+    fill(l, strcmp(op, "middle28") == 0 ? 11 : 1);
+    if (strcmp(op, "add") == 0)
+        ours ? ours_add(m, SIZE, 200, row) : plain_add(m, SIZE, 200, row);
+    else if (strcmp(op, "remove") == 0)
+        ours ? ours_remove(m, SIZE, NODES, 0) : plain_remove(m, SIZE, NODES, 0);
+    else if (strcmp(op, "digest") == 0)
+        ours ? ours_put_digest(m, SIZE, 1023, digest) : plain_put_digest(m, SIZE, 1023, digest);
+    else
+        return ours ? ours_find(m, SIZE, NODES, 1, name, l) : plain_find(m, SIZE, NODES, 1, name, l);
+    return 0;
+}
+
+static int compare(void)
+{
+    static uint8_t m1[sizeof m], image1[sizeof image];
+    for (int i = 0; i < CASES; i++) {
+        size_t r = run(1, cases[i]);
+        memcpy(m1, m, sizeof m);
+        memcpy(image1, image, sizeof image);
+        if (run(0, cases[i]) != r || memcmp(m1, m, sizeof m) || memcmp(image1, image, sizeof image))
+            return printf("tables: %s differs from C\n", cases[i]), 1;
+        if (strcmp(cases[i], "sound") == 0 && r != 1)
+            return printf("tables: the longest image is judged unsound\n"), 2;
+    }
+    printf("tables: the same answer and memory as C in %d cases\n", CASES);
+    return 0;
+}
+
+int main(int argc, char **argv)
+{
+    if (argc == 2 && strcmp(argv[1], "compare") == 0)
+        return compare();
+    for (int i = 0; argc == 3 && i < CASES; i++)
+        if (strcmp(argv[2], cases[i]) == 0) {
+            run(strcmp(argv[1], "ours") == 0, cases[i]);
+            return 0;
+        }
+    return 2;
+}
