@@ -3,7 +3,7 @@
 #include <stddef.h>
 #include <stdint.h>
 
-enum { SIZE = 52352, NODES_AT = 128, WIDTH = 56, NODES = 256, DIGESTS_AT = 15232 };
+enum { SIZE = 52672, NODES_AT = 256, WIDTH = 56, NODES = 256, DIGESTS_AT = 15552 };
 
 size_t ours_find(const uint8_t *m, size_t length, size_t n, uint64_t parent, const uint8_t *name, size_t name_length);
 size_t plain_find(const uint8_t *m, size_t length, size_t n, uint64_t parent, const uint8_t *name, size_t name_length);
