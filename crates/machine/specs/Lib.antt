@@ -2,6 +2,7 @@ pub mod Machine
 pub mod ValidLaws
 pub mod StateProperties
 pub mod StepOutcomes
+pub mod EventLaws
 pub mod StepLengths
 pub mod Trials
 pub mod Tree

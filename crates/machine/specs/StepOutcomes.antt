@@ -39,7 +39,7 @@ module _ (c : Config) (S : Store) where
   abbrev Onward : Result S → Type 0
   Onward r = onward (r .outcome .answer) ≡ true
 
-  pages-onward : (s : State S) (k o : ℕ) (q : Change) (i : ℕ) → Onward (pagesFrom c S s k o q i)
+  pub pages-onward : (s : State S) (k o : ℕ) (q : Change) (i : ℕ) → Onward (pagesFrom c S s k o q i)
   unfolding pagesFrom onPage askStore pagesStored finishChange onward
   pages-onward s k o q i =
       pick-ind Onward (ltb i (last q)) (λ _. pick-ind Onward (fetches q (sizeAt c S s k) i) (λ _. refl) (λ _. refl)) (λ _. pick-ind Onward (cuts q) (λ _. refl) (λ _. refl))

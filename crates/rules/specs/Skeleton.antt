@@ -59,6 +59,21 @@ requestBytes (stopped n) = []
 unfoldable pub atFront : List ℕ → List ℕ → List ℕ
 atFront bytes buffer = bytes ++ drop (length bytes) buffer
 
+-- The caller's buffers after a call or a reply: bytes at the front of one, the other untouched; after a refusal or a stop both are. A save's
+-- own buffer, likewise.
+pub record Buffers : Type 0 where
+  pub answer : List ℕ
+  pub request : List ℕ
+
+unfoldable pub buffersAfter : Answer → Buffers → Buffers
+buffersAfter (done n b) x = record { answer = atFront b (x .answer); request = x .request }
+buffersAfter (ask q) x = record { answer = x .answer; request = atFront q (x .request) }
+buffersAfter (refused n) x = x
+buffersAfter (stopped n) x = x
+
+unfoldable pub imageAfter : Answer → List ℕ → List ℕ
+imageAfter a buffer = atFront (answerBytes a) buffer
+
 -- the least lengths of the two buffers: the longest listing, the longest request
 unfoldable pub answerLength : Config → ℕ
 answerLength c = (NODES - 1) * (c .width + (2 + NAME-BYTES))
