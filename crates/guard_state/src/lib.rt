@@ -12,8 +12,8 @@ ghost use Rattle.tables.specs.View.{viewOf};
 ghost use Rattle.guard_state.specs.State.{numbersOf, stateOf, clearedHead, gatheredNone};
 ghost use Rattle.guard_state.specs.Waits.{waits, ends, stops, restingState};
 
-pub mod header;
 pub mod calls;
+pub mod header;
 
 // The header's numbers.
 pub struct Guard {

@@ -71,8 +71,7 @@ module _ (c : Config) (S : Store) where
   stopped-for-good s [] h = (none, refl)
   stopped-for-good s (e ∷ es) h =
       let q = after-stop c S s e h in
-      let ih = stopped-for-good s es h in
-      (
+      let ih = stopped-for-good s es h in (
         both (ap (λ r. r .outcome) q) (subst (λ (x : State S). All (λ (o : Outcome). o ≡ plain (refused 5)) (outcomes c S x es)) (sym (ap (λ r. r .state) q)) (ih .0)),
         ap (λ (r : Result S). final c S (r .state) es) q ∙ ih .1,
       )

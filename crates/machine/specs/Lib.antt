@@ -3,6 +3,7 @@ pub mod ValidLaws
 pub mod StateProperties
 pub mod StepOutcomes
 pub mod EventLaws
+pub mod LoadLaws
 pub mod StepLengths
 pub mod Trials
 pub mod Tree

@@ -82,27 +82,33 @@ module _ (c : Config) where
       ∙ parse-print (c .width) (ns, flatten (g .contents)) (and-both _ _ (n .sound) (eq-eqb _ _ (length-flatten ns (g .contents) (h .pages .counted))))
       (record { names = n .named; digests = all-flatten (h .pages .digested) })
 
-  -- so a load of it, at once, is done and changes nothing
-  module _ (g : State (guard c)) (h : Holds g) (running : g .skeleton .stopped ≡ false) (quiet : g .skeleton .pending ≡ idle) (closed : g .skeleton .tables .opens ≡ []) where
-    abbrev image : List ℕ
-    image = imageOf c (guard c) g
+  -- so another guard that runs, waits for nothing and has no file open loads it
+  module _ (g h : State (guard c)) (v : Holds g) (running : h .skeleton .stopped ≡ false) (quiet : h .skeleton .pending ≡ idle)
+      (closed : h .skeleton .tables .opens ≡ []) where
+    abbrev saved : List ℕ
+    saved = imageOf c (guard c) g
 
-    judged : judge c (g .skeleton) (load image (c .digest image)) ≡ loading (g .skeleton .tables .nodes, flatten (g .contents)) (c .digest image)
+    pub load-judged : judge c (h .skeleton) (load saved (c .digest saved)) ≡ loading (g .skeleton .tables .nodes, flatten (g .contents)) (c .digest saved)
     unfolding judge eventChecks eventAction isIdle isNone imageOr
-    judged =
-        let e = loads-again g h in
+    load-judged =
+        let e = loads-again g v in
         decide-passed refuse _ _
         (both running
         (both (ap (λ p. not (isIdle p)) quiet)
         (both (ap (λ (os : List OpenFile). ltb 0 (length os)) closed)
-        (both (ap not (equal-refl (c .digest image)))
+        (both (ap not (equal-refl (c .digest saved)))
         (both (ap isNone e) none)))))
-        ∙ ap (λ i. loading (imageOr i) (c .digest image)) e
+        ∙ ap (λ i. loading (imageOr i) (c .digest saved)) e
+
+  -- and the same guard, at once: that is done and changes nothing
+  module _ (g : State (guard c)) (h : Holds g) (running : g .skeleton .stopped ≡ false) (quiet : g .skeleton .pending ≡ idle) (closed : g .skeleton .tables .opens ≡ []) where
+    abbrev image : List ℕ
+    image = imageOf c (guard c) g
 
     pub load-keeps : step c (guard c) g (load image (c .digest image)) ≡ record { outcome = plain (done 0 []); state = cleared c (guard c) g }
     unfolding step apply
     load-keeps =
-        ap (λ m. apply c (guard c) g m) judged
+        ap (λ m. apply c (guard c) g m) (load-judged g g h running quiet closed)
         ∙ (λ x. record {
           outcome = plain (done 0 []);
           state = record {

@@ -14,7 +14,6 @@ use Rattle.lists.specs.LittleEndian.{encode}
 use Rattle.lists.specs.Checks.{decide-ind}
 use Rattle.filesystem.specs.Tables.{DATA-BYTES, PAGE-BYTES}
 use Rattle.filesystem.specs.ImageLaws.{Digest}
-
 use Rattle.rules.specs.Pages.{pageAt, pagePart, Change, writing, first, last, fetches, sizeSent, cuts, numberOf}
 use Rattle.rules.specs.Requests.{storeLength, cutRequest, reading}
 use Rattle.rules.specs.Skeleton.{Config, Event, reply, EventBytes, done, answerBytes, requestBytes, answerLength, requestLength}

@@ -17,14 +17,16 @@ returns c =
     let p = r .before .before .before .before in
     let n = p .before .before in
     let a = n .before .before .before .args in
-    let f : length (memOf (a .m .now) .nodes) ≡ 256 = length-nodes (a .m .now) in
-    ((
-      λ q.
-          r .rest .ensures .0 q
-          ∙ ap (λ s. restingState q (viewOf 1 0 s)) (p .put-node .ensures .0)
-          ∙ rw (n .node-row .ensures) (rests-fresh q (memOf (a .m .now)) (omega arith)),
-      c .load .ensures,
-    ), omega arith)
+    let f : length (memOf (a .m .now) .nodes) ≡ 256 = length-nodes (a .m .now) in (
+      (
+        λ q.
+            r .rest .ensures .0 q
+            ∙ ap (λ s. restingState q (viewOf 1 0 s)) (p .put-node .ensures .0)
+            ∙ rw (n .node-row .ensures) (rests-fresh q (memOf (a .m .now)) (omega arith)),
+        c .load .ensures,
+      ),
+      omega arith,
+    )
 
 pub fresh-spec : {M : Type 1} → statement M
 fresh-spec = tie.close (tie.spec (λ c. search needs) (λ c κs. search needs) (λ c κs. search needs) (λ c κs. search needs) (λ c κs. search needs) (λ c. search needs) returns)
