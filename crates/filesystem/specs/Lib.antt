@@ -10,3 +10,4 @@ pub mod ImageLaws
 pub mod Climb
 pub mod SoundLaws
 pub mod LongestImage
+pub mod WalkLaws

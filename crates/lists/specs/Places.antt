@@ -9,7 +9,7 @@ use lib.Dec.{leb, ltb}
 use lib.ListN.{length, getD, set}
 use lib.Seq.{map-set-same}
 use borrow.Author.Tests.{leb-true, leb-false, ltb-true, ltb-false, not-true}
-use Rattle.lists.specs.Pick.{pick, pick-false}
+use Rattle.lists.specs.Pick.{pick, pick-true, pick-false}
 use Rattle.lists.specs.Equal.{Is, isT, isF, is, and-fst, and-snd, and-both, or-fst, or-snd, or-both}
 use Rattle.lists.specs.All.{All, both, none, all-append, all-take, all-drop}
 use Rattle.lists.specs.Cells.{tab}
@@ -51,6 +51,25 @@ module _ {A : Type 0} (f : A → Bool) (z : A) where
   place-only xs k h e only =
       let l = place-least xs k e in
       only (place f xs) (omega arith) (place-passes f xs z (omega arith))
+
+  -- one that is there is found there, whatever stands behind; else the first behind that passes is
+  pub place-front : (xs ys : List A) → place f xs < length xs → place f (xs ++ ys) ≡ place f xs
+  unfolding place
+  place-front [] ys h = absurd (omega arith)
+  place-front (x ∷ xs) ys h = go (is (f x)) (place-front xs ys)
+    where
+      go : Is (f x) → (place f xs < length xs → place f (xs ++ ys) ≡ place f xs) → place f (x ∷ xs ++ ys) ≡ place f (x ∷ xs)
+      go (isT e) ih = pick-true _ _ _ e ∙ sym (pick-true _ _ _ e)
+      go (isF e) ih = let z : place f (x ∷ xs) ≡ suc (place f xs) = pick-false _ _ _ e in pick-false _ _ _ e ∙ ap suc (ih (omega arith)) ∙ sym z
+
+  pub place-behind : (xs : List A) (y : A) (ys : List A) → length xs ≤ place f xs → f y ≡ true → place f (xs ++ (y ∷ ys)) ≡ length xs
+  unfolding place
+  place-behind [] y ys h e = pick-true _ _ _ e
+  place-behind (x ∷ xs) y ys h e = go (is (f x)) (λ l. place-behind xs y ys l e)
+    where
+      go : Is (f x) → (length xs ≤ place f xs → place f (xs ++ (y ∷ ys)) ≡ length xs) → place f (x ∷ xs ++ (y ∷ ys)) ≡ suc (length xs)
+      go (isT t) ih = let z : place f (x ∷ xs) ≡ 0 = pick-true _ _ _ t in absurd (omega arith)
+      go (isF t) ih = let z : place f (x ∷ xs) ≡ suc (place f xs) = pick-false _ _ _ t in pick-false _ _ _ t ∙ ap suc (ih (omega arith))
 
   -- none passes exactly where the place is past the end
   pub place-none : (xs : List A) → ((k : ℕ) → k < length xs → f (getD xs k z) ≡ false) → length xs ≤ place f xs
@@ -158,6 +177,14 @@ skip-mono zero i j h = omega arith
 skip-mono (suc k) i zero h = absurd (omega arith)
 skip-mono (suc k) zero (suc j) h = omega arith
 skip-mono (suc k) (suc i) (suc j) h = let z = skip-mono k i j (omega arith) in omega arith
+
+pub skip-same : (k i j : ℕ) → skip k i ≡ skip k j → i ≡ j
+skip-same k i j e = go (is (ltb i j)) (is (ltb j i))
+  where
+    go : Is (ltb i j) → Is (ltb j i) → i ≡ j
+    go (isT l) m = let z = skip-mono k i j (ltb-true i j l) in absurd (omega arith)
+    go (isF l) (isT m) = let z = skip-mono k j i (ltb-true j i m) in absurd (omega arith)
+    go (isF l) (isF m) = omega (arith, ltb-false i j l, ltb-false j i m)
 
 pub skip-below : (k i n : ℕ) → suc i < n → skip k i < n
 unfolding skip
