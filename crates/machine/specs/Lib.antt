@@ -4,6 +4,7 @@ pub mod StateProperties
 pub mod StepOutcomes
 pub mod EventLaws
 pub mod LoadLaws
+pub mod PosixLaws
 pub mod StepLengths
 pub mod Trials
 pub mod Tree
