@@ -48,13 +48,14 @@ def deep(path_length):
     return nodes
 
 
-def longest():
-    """256 nodes, every name of 32 bytes, 1,024 pages: 44,776 bytes."""
-    sizes = [MAX_SIZE] * 16 + [0] * 239
+FULL = [MAX_SIZE] * 16  # 1,024 pages
+
+
+def crowd(*sizes):
+    """256 nodes, every name of 32 bytes, the first files with these sizes: with 1,024 pages the longest image."""
+    sizes += (0,) * (255 - len(sizes))
     return [root(), *(Node(i, 1, FILE, 7, size, b"%032d" % i) for i, size in enumerate(sizes, start=2))]
 
-
-FULL = [MAX_SIZE] * 16
 
 # rule: (sound, broken alone)
 EDGES = {

@@ -1,6 +1,6 @@
 """Lists of events from a seed.
 
-A list starts fresh or in a tree that stands at a limit, then goes on with calls that mostly fit what the guard holds,
+A list starts fresh, with a few open files or in a tree that stands at a limit, then goes on with calls that mostly fit what the guard holds,
 with numbers near the edges that document 01 names. How often something goes wrong (a form, a buffer, a reply, an image,
 an event at the wrong time) is drawn once for each list, so that some lists are long and honest and others end soon.
 A stop is followed by a few more events.
@@ -8,35 +8,38 @@ A stop is followed by a few more events.
 
 from random import Random
 
-from . import calls, rules
+from . import calls
 from .edges import EDGES, FULL, ZEROS, deep, files, image
 from .events import Call, Done, Load, Reply, Save
 from .image import write_image
+from .lies import WRONG
 from .recording import Recording
 from .rules import (
-    ANSWER, DIRECTORY, FILE, MAX_COUNT, MAX_NAME, MAX_NODES, MAX_OPEN, MAX_PATH, MAX_SIZE, PAGE, REQUEST,
-    READ_RIGHT, WRITE_RIGHT,
+    ANSWER, CHMOD, CLOSE, CREATE, DIRECTORY, FILE, MAX_COUNT, MAX_NAME, MAX_NODES, MAX_OPEN, MAX_PATH, MAX_SIZE,
+    MKDIR, OPEN, PAGE, READ, READDIR, READ_RIGHT, REMOVE, REQUEST, RMDIR, SEEK, STAT, TRUNCATE, WRITE, WRITE_RIGHT,
 )
 from .tree import digest
 
 NAMES = [b"a", b"b", b"c", b"...", b"\xff\n ", b"n" * MAX_NAME]
-WORLDS = {
-    "255 nodes": files(*[0] * (MAX_NODES - 2)),
-    "33 files": files(*[3] * (MAX_OPEN + 1)),
-    "a file of 65,535 bytes": files(MAX_SIZE - 1, 3),
-    "1,023 pages": files(*FULL[1:], MAX_SIZE - PAGE, 0),
-    "1,024 pages": files(*FULL[1:], MAX_SIZE - 1, 0),
-    "a path of 222 bytes": deep(222),
-}
 LONGEST_IMAGE = 44_776
 
+# a tree at a limit, how many of its last files are opened, and the calls that the list then leans to
+WORLDS = [
+    (files(*[0] * (MAX_NODES - 2)), 2, [CREATE, MKDIR, CHMOD]),
+    (files(*[3] * (MAX_OPEN + 1)), MAX_OPEN - 1, [OPEN]),
+    (files(MAX_SIZE - 1, 3), 2, [WRITE, READ]),
+    (files(*FULL[1:], MAX_SIZE - PAGE, 0), 2, [WRITE, SEEK]),
+    (files(*FULL[1:], MAX_SIZE - 1, 0), 2, [WRITE, TRUNCATE]),
+    (deep(222), 0, [CREATE, MKDIR]),
+]
 
-def generate(seed, length=60):
+
+def generate(seed, length=50):
     """A recording of at least this many events, unless a stop ends it."""
     return Generator(Random(seed)).run(length)
 
 
-def generate_for_desk(seed, length=60):
+def generate_for_desk(seed, length=50):
     """The same with calls and replies alone, and buffers that are long enough."""
     return Generator(Random(seed), desk=True).run(length)
 
@@ -51,10 +54,12 @@ class Generator:
         rate = lambda *rates: random.choice(rates)
         self.bad_form = rate(0, 0.05, 0.3)
         self.bad_time = rate(0, 0.02, 0.1)
-        self.lie = rate(0, 0, 0.05, 0.2)
+        self.lie = rate(0, 0.2, 0.5)
+        self.lies_about = rate(*WRONG, *[CREATE, OPEN, OPEN, WRITE, STAT], *[READ, READDIR] * 5)
         self.bad_buffer = 0 if desk else rate(0, 0.02, 0.1)
         self.images = 0 if desk else rate(0, 0.05, 0.3)
-        self.weights = [rate(1, 1, 2, 6) for _ in MAKERS]
+        self.weights = {kind: rate(1, 1, 2, 6) for kind in MAKERS}
+        self.weights[self.lies_about] += 50 * self.lie
 
     def chance(self, rate):
         return self.random.random() < rate
@@ -64,6 +69,7 @@ class Generator:
 
     def run(self, length):
         self.start()
+        length += len(self.recording.steps)
         while not self.guard.stopped and len(self.recording.steps) < length:
             self.event()
         if self.guard.stopped:
@@ -72,18 +78,36 @@ class Generator:
         return self.recording
 
     def start(self):
-        """Fresh, or a tree at a limit: by one load, or at the desk by calls."""
-        if self.chance(0.6):
-            return
-        name, nodes = self.pick(*WORLDS.items())
+        self.pick(self.stay_fresh, self.make_files, self.make_files, self.enter_world)()
+
+    def stay_fresh(self):
+        pass
+
+    def make_files(self):
+        """Two directories and files in one of them, written up to about a page's edge, most of them left open."""
+        self.recording.do(calls.mkdir(7, b"/a"))
+        self.recording.do(calls.mkdir(7, b"/b"))
+        for name in NAMES[: self.pick(1, 2, 3)]:
+            path = b"/a/" + name
+            handle = self.recording.do(calls.create(6, path)).number
+            self.recording.do(calls.open_(READ_RIGHT | WRITE_RIGHT, path))
+            size = self.pick(5, PAGE - 1, PAGE, PAGE + 1, 2 * PAGE + 5)
+            self.recording.do(calls.write(handle, self.random.randbytes(size)))
+            self.recording.do(calls.close(handle) if self.chance(0.3) else calls.seek(handle, self.place(handle)))
+        self.recording.do(calls.chmod(self.pick(7, 7, 5, 3), b"/a"))
+
+    def enter_world(self):
+        """A tree at a limit: by one load, or at the desk by calls."""
+        nodes, opened, leaning = self.pick(*WORLDS)
         if self.desk:
             build(self.recording, nodes)
         else:
             self.load_sound(image(nodes))
-        opened = self.guard.nodes[1:MAX_OPEN] if name == "33 files" else self.guard.nodes[-2:]
-        for node in opened:
+        for node in self.guard.nodes[len(nodes) - opened :]:
             self.recording.do(calls.open_(READ_RIGHT | WRITE_RIGHT, self.path_of(node)))
             self.recording.do(calls.seek(node.id, node.size))
+        for kind in leaning:
+            self.weights[kind] += 10
 
     def event(self):
         at_a_bad_time = self.chance(self.bad_time)
@@ -98,9 +122,15 @@ class Generator:
 
     def reply(self):
         reply = self.recording.truth
-        if self.guard.pending and self.chance(self.lie):
-            reply = self.pick(*self.recording.lies().values())
+        if self.guard.pending and self.recording.request[0] == self.lies_about and self.chance(self.lie):
+            reply = self.wrong_reply()
         self.recording.send(Reply(reply, *self.buffers()))
+
+    def wrong_reply(self):
+        """Mostly of the right length: another one stops the guard whatever it says."""
+        lies = list(self.recording.lies().values())
+        right_length = [lie for lie in lies if len(lie) == len(self.recording.truth)]
+        return self.pick(*(right_length if right_length and self.chance(0.8) else lies))
 
     def buffers(self):
         short = self.pick((ANSWER - 1, REQUEST), (ANSWER, REQUEST - 1), (0, 0))
@@ -112,7 +142,7 @@ class Generator:
         if self.chance(0.8) and not self.guard.pending:
             for handle in list(self.guard.open_files):
                 self.recording.do(calls.close(handle))
-        self.pick(self.save, self.save, self.load_saved, self.load_saved, self.load_edge, self.load_damaged)()
+        self.pick(self.save, self.save, self.load_saved, self.load_edge, self.load_edge, self.load_damaged)()
 
     def save(self):
         exact = len(write_image(self.guard.nodes, [page for node in self.guard.nodes for page in node.pages]))
@@ -128,7 +158,8 @@ class Generator:
         self.recording.send(Load(data, digest(data)))
 
     def load_edge(self):
-        self.load_sound(self.pick(*self.pick(*EDGES.values())))
+        sound, broken = self.pick(*EDGES.values())
+        self.load_sound(self.pick(sound, broken, broken, broken))
 
     def load_damaged(self):
         """A digest that differs or has another length, of an image that is sound or not."""
@@ -140,45 +171,48 @@ class Generator:
     # calls
 
     def call(self):
-        maker = self.random.choices(list(MAKERS), self.weights)[0]
-        if maker in BY_HANDLE and not self.guard.open_files and self.chance(0.9):
-            maker = self.pick(calls.create, calls.open_)
-        data = MAKERS[maker](self, maker)
+        kind = self.random.choices(list(self.weights), self.weights.values())[0]
+        if kind in BY_HANDLE and not self.guard.open_files and self.chance(0.9):
+            kind = self.pick(CREATE, OPEN)
+        data = MAKERS[kind](self, kind)
         if self.chance(self.bad_form):
             data = self.damaged(data)
         self.recording.send(Call(data, *self.buffers()))
 
     def damaged(self, data):
-        other_kind = bytes([self.pick(0, 14, 255, *rules.FIELDS)])
+        other_kind = bytes([self.pick(0, 14, 255, *MAKERS)])
         other_second = bytes([self.pick(0, 4, 8, 255)])
         return self.pick(
             data[:-1], data + b"\0", data + b"/", data + b"/.", data + b"//a", other_kind + data[1:],
-            data[:1] + other_second + data[2:], data[:2] + data[3:], data + b"n" * (MAX_NAME + 1), b"",
+            data[:1] + other_second + data[2:], data[:1] + other_second + data[2:], data[:2] + data[3:],
+            data + b"n" * (MAX_NAME + 1), b"",
         )
 
-    def path_call(self, maker):
-        return maker(self.path(maker))
+    def path_call(self, kind):
+        return bytes([kind]) + self.path(kind)
 
-    def mode_call(self, maker):
-        return maker(self.pick(7, 7, 7, 6, 5, 3, self.random.randrange(8)), self.path(maker))
+    def mode_call(self, kind):
+        return bytes([kind, self.pick(7, 7, 7, 5, 3, self.random.randrange(8))]) + self.path(kind)
 
-    def open_call(self, maker):
-        return maker(self.pick(1, 2, 3, 3), self.path(maker))
+    def open_call(self, kind):
+        return calls.open_(self.pick(1, 2, 3, 3), self.path(kind))
 
-    def close_call(self, maker):
-        return maker(self.handle())
+    def close_call(self, kind):
+        return calls.close(self.handle())
 
-    def seek_call(self, maker):
+    def seek_call(self, kind):
         handle = self.handle()
-        return maker(handle, self.place(handle))
+        return calls.seek(handle, self.place(handle))
 
-    def read_call(self, maker):
+    def read_call(self, kind):
         handle = self.handle()
+        if self.cursor(handle) == self.size(handle):
+            self.recording.call(calls.seek(handle, self.place(handle)))
         left = self.size(handle) - self.cursor(handle)
         counts = [0, 1, left, left + 1, PAGE, MAX_COUNT, MAX_COUNT + 1, self.random.randrange(2 * PAGE)]
-        return maker(handle, self.pick(*counts))
+        return calls.read(handle, self.pick(*counts))
 
-    def write_call(self, maker):
+    def write_call(self, kind):
         handle = self.handle()
         size, cursor = self.size(handle), self.cursor(handle)
         in_page = PAGE - cursor % PAGE
@@ -187,11 +221,11 @@ class Generator:
             lengths += [MAX_SIZE - cursor, MAX_SIZE - cursor + 1]
         if self.chance(0.1):
             lengths = [MAX_COUNT, MAX_COUNT + 1]
-        return maker(handle, self.random.randbytes(max(0, self.pick(*lengths))))
+        return calls.write(handle, self.random.randbytes(min(max(0, self.pick(*lengths)), MAX_COUNT + 1)))
 
-    def truncate_call(self, maker):
+    def truncate_call(self, kind):
         handle = self.handle()
-        return maker(handle, self.place(handle))
+        return calls.truncate(handle, self.place(handle))
 
     # what calls name
 
@@ -220,21 +254,25 @@ class Generator:
             node = next(parent for parent in self.guard.nodes if parent.id == node.parent)
         return path or b"/"
 
-    def path(self, maker):
+    def path(self, kind):
         """A path that mostly fits the call."""
         if self.chance(0.05):
             return self.pick(b"/", self.edge_path(MAX_PATH), self.edge_path(MAX_PATH + 1), b"/a/" + b"n" * (MAX_NAME + 1))
-        wanted = {calls.open_: [FILE], calls.remove: [FILE], calls.rmdir: [DIRECTORY], calls.readdir: [DIRECTORY]}
-        kinds = [FILE, DIRECTORY] if self.chance(0.1) else wanted.get(maker, [FILE, DIRECTORY])
-        if maker in (calls.create, calls.mkdir) and self.chance(0.9) or self.chance(0.1):
+        if kind in (CREATE, MKDIR) and self.chance(0.9) or self.chance(0.1):
             return self.child_path()
-        nodes = [node for node in self.guard.nodes if node.kind in kinds]
+        wanted = {OPEN: FILE, REMOVE: FILE, RMDIR: DIRECTORY, READDIR: DIRECTORY}
+        other = kind not in wanted or self.chance(0.3)
+        nodes = [node for node in self.guard.nodes if other or node.kind == wanted[kind]]
         closed = [node for node in nodes if node.id not in self.guard.open_files]
-        return self.path_of(self.pick(*(self.pick(closed, nodes) or self.guard.nodes)))
+        return self.path_of(self.some_node(self.pick(closed, nodes) or self.guard.nodes))
+
+    def some_node(self, nodes):
+        """The first and the last more often than others: limits are met there."""
+        return self.pick(nodes[0], nodes[-1], self.pick(*nodes), self.pick(*nodes))
 
     def child_path(self):
         directories = [node for node in self.guard.nodes if node.kind == DIRECTORY]
-        parent = self.pick(*directories) if self.chance(0.9) else self.pick(*self.guard.nodes)
+        parent = self.some_node(directories if self.chance(0.9) else self.guard.nodes)
         path = self.path_of(parent).rstrip(b"/") + b"/" + self.pick(*NAMES)
         return path + b"/" + self.pick(*NAMES) if self.chance(0.05) else path
 
@@ -247,13 +285,12 @@ class Generator:
 
 
 MAKERS = {
-    calls.create: Generator.mode_call, calls.mkdir: Generator.mode_call, calls.chmod: Generator.mode_call,
-    calls.open_: Generator.open_call, calls.close: Generator.close_call, calls.seek: Generator.seek_call,
-    calls.read: Generator.read_call, calls.write: Generator.write_call, calls.truncate: Generator.truncate_call,
-    calls.remove: Generator.path_call, calls.rmdir: Generator.path_call, calls.readdir: Generator.path_call,
-    calls.stat: Generator.path_call,
+    CREATE: Generator.mode_call, MKDIR: Generator.mode_call, OPEN: Generator.open_call, CLOSE: Generator.close_call,
+    SEEK: Generator.seek_call, READ: Generator.read_call, WRITE: Generator.write_call,
+    TRUNCATE: Generator.truncate_call, REMOVE: Generator.path_call, RMDIR: Generator.path_call,
+    CHMOD: Generator.mode_call, READDIR: Generator.path_call, STAT: Generator.path_call,
 }
-BY_HANDLE = (calls.close, calls.seek, calls.read, calls.write, calls.truncate)
+BY_HANDLE = (CLOSE, SEEK, READ, WRITE, TRUNCATE)
 
 
 def build(recording, nodes):

@@ -17,7 +17,7 @@ class LyingHost(Host):
 
     def reply(self, request):
         truth = super().reply(request)
-        self.old_replies = [truth, *self.old_replies[:20]]
+        self.old_replies = [truth, *self.old_replies[:2]]
         return truth
 
     def store(self, fields):
@@ -47,7 +47,7 @@ def wrong_lengths(truth):
     yield "empty", b""
     yield "short", truth[:-1]
     yield "long", truth + b"\0"
-    yield "twice", truth + truth
+    yield "long and wrong", b"\xff" + truth
 
 
 def wrong_ids(host, request, truth):
@@ -137,8 +137,10 @@ def wrong_listings(host, request, truth):
     yield "another name", first[:-1] + bytes([first[-1] ^ 1]) + rest
     yield "a longer name", first[: ID + 1] + bytes([first[ID + 1] + 1]) + first[ID + 2 :] + rest
     if len(entries) > 1:
-        yield "one twice and one missing", first + first + b"".join(entries[2:])
-        yield "two names exchanged", exchanged(first, entries[1]) + b"".join(entries[2:])
+        second, others = entries[1], b"".join(entries[2:])
+        yield "first twice, second missing", first + first + others
+        yield "second twice, first missing", second + second + others
+        yield "two names exchanged", exchanged(first, second) + others
 
 
 def flipped_kind(entry):

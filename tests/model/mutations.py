@@ -16,7 +16,7 @@ from . import events
 from .generate import generate
 
 PACKAGE = Path(__file__).parent
-SEEDS = range(400)
+SEEDS = range(800)
 
 # what the mutation does: (module, the text, what stands there instead)
 MUTATIONS = {
@@ -234,23 +234,28 @@ class Mutant:
 
 
 def differs(make_guard, recording):
-    """Whether a guard answers a recording in another way; one that breaks does."""
+    """Whether a guard answers a recording in another way or ends with other tables; one that breaks does."""
     guard = make_guard()
     try:
-        return any(guard.step(event) != outcome for event, outcome in recording.steps)
+        answered = all(guard.step(event) == outcome for event, outcome in recording.steps)
+        return not answered or guard.tables() != recording.guard.tables()
     except Exception:
         return True
 
 
 def caught_by(name, recordings):
-    """The number of the first recording that tells a mutation from the clean model, or None."""
+    """The seed whose recording tells a mutation from the clean model, or None; that recording is then tried first."""
     with tempfile.TemporaryDirectory() as directory:
         guard = Mutant(name, directory).guard()
-        return next((i for i, recording in enumerate(recordings) if differs(guard, recording)), None)
+        for i, (seed, recording) in enumerate(recordings):
+            if differs(guard, recording):
+                recordings.insert(0, recordings.pop(i))
+                return seed
+    return None
 
 
 def main():
-    recordings = [generate(seed) for seed in SEEDS]
+    recordings = [(seed, generate(seed)) for seed in SEEDS]
     for name in MUTATIONS:
         print(f"{name}: {caught_by(name, recordings)}")
 
