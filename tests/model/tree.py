@@ -14,7 +14,7 @@ Each call is a coroutine: its refusals in document 01's order, then its requests
 change of the tables. The pending call is the coroutine, and how far it has come is where it stands.
 """
 
-from dataclasses import astuple, dataclass, replace
+from dataclasses import dataclass, replace
 from hashlib import sha256
 
 from . import rules
@@ -108,8 +108,8 @@ class Machine:
 
     def tables(self):
         """What is compared after a list: nodes in order, open files by handle, each page's digest."""
-        nodes = [astuple(replace(node, pages=self.digests_of(node))) for node in self.nodes]
-        return nodes, sorted((handle, *astuple(file)) for handle, file in self.open_files.items())
+        nodes = [{**vars(node), "pages": self.digests_of(node)} for node in self.nodes]
+        return nodes, {handle: dict(vars(file)) for handle, file in self.open_files.items()}
 
     # events
 
