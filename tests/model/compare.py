@@ -50,8 +50,9 @@ def lines_of(recording):
 
 def damaged(random, line):
     return random.choice([
-        b"", line[:1], line[:-1], line + b"0", line + b" ", b" " + line, line + b"\r", line + b"\0", b"\t".join(line.split()),
-        b"a" + line[1:], line.upper(), line[:2] + b"A" + line[3:], line.replace(b" ", b""), line.replace(b" ", b"  "),
+        b"", line[:1], line[:-1], line + b"0", line + b" ", b" " + line, line + b"\r", line + b"\0",
+        line.replace(b" ", b"\t"), line.replace(b" ", b""), line.replace(b" ", b"  "),
+        b"a" + line[1:], line.upper(), line[:2] + b"A" + line[3:],
         b"c " + b"00" * (MAX_BYTES + 1), b"r " + b"00" * MAX_BYTES, b"\xff" * 10,
     ])
 
@@ -70,7 +71,7 @@ def differs(command, lines):
 def shortened(command, lines):
     """A list that still differs, and no longer does with any one line left out."""
     size = len(lines)
-    while size := size // 2 or (size == 1 and 0):
+    while size := size // 2:
         at = 0
         while at < len(lines):
             shorter = lines[:at] + lines[at + size :]

@@ -9,9 +9,10 @@ import re
 import sys
 
 from .events import Call, Reply
+from .rules import ANSWER
 from .tree import tree
 
-MAX_BYTES = 9690
+MAX_BYTES = ANSWER  # of a call or reply: as many as the longest listing
 LINE = re.compile(rb"([cr]) ((?:[0-9a-f]{2}){0,%d})" % MAX_BYTES)
 EVENTS = {b"c": Call, b"r": Reply}
 

@@ -1,9 +1,9 @@
 """Lists of events from a seed.
 
-A list starts fresh, with a few open files or in a tree that stands at a limit, then goes on with calls that mostly fit what the guard holds,
-with numbers near the edges that document 01 names. How often something goes wrong (a form, a buffer, a reply, an image,
-an event at the wrong time) is drawn once for each list, so that some lists are long and honest and others end soon.
-A stop is followed by a few more events.
+A list starts fresh, with a few open files or in a tree that stands at a limit, then goes on with calls that mostly fit
+what the guard holds, with numbers near the edges that document 01 names. How often something goes wrong (a form, a
+buffer, a reply, an image, an event at the wrong time) is drawn once for each list, and so is the request about which
+the host lies: some lists are long and honest, others end soon. A stop is followed by a few more events.
 """
 
 from random import Random
@@ -11,7 +11,7 @@ from random import Random
 from . import calls
 from .edges import EDGES, FULL, ZEROS, deep, files, image
 from .events import Call, Done, Load, Reply, Save
-from .image import write_image
+from .image import LONGEST, write_image
 from .lies import WRONG
 from .recording import Recording
 from .rules import (
@@ -21,7 +21,6 @@ from .rules import (
 from .tree import digest
 
 NAMES = [b"a", b"b", b"c", b"...", b"\xff\n ", b"n" * MAX_NAME]
-LONGEST_IMAGE = 44_776
 
 # a tree at a limit, how many of its last files are opened, and the calls that the list then leans to
 WORLDS = [
@@ -51,14 +50,13 @@ class Generator:
         self.recording = Recording(random)
         self.guard = self.recording.guard
         self.saves = []
-        rate = lambda *rates: random.choice(rates)
-        self.bad_form = rate(0, 0.05, 0.3)
-        self.bad_time = rate(0, 0.02, 0.1)
-        self.lie = rate(0, 0.2, 0.5)
-        self.lies_about = rate(*WRONG, *[CREATE, OPEN, OPEN, WRITE, STAT], *[READ, READDIR] * 5)
-        self.bad_buffer = 0 if desk else rate(0, 0.02, 0.1)
-        self.images = 0 if desk else rate(0, 0.05, 0.3)
-        self.weights = {kind: rate(1, 1, 2, 6) for kind in MAKERS}
+        self.bad_form = self.pick(0, 0.05, 0.2)
+        self.bad_time = self.pick(0, 0.02, 0.1)
+        self.lie = self.pick(0, 0.2, 0.5)
+        self.lies_about = self.pick(*WRONG, *[CREATE, OPEN, WRITE, STAT] * 2, *[READ, READDIR] * 5)
+        self.bad_buffer = 0 if desk else self.pick(0, 0.02, 0.1)
+        self.images = 0 if desk else self.pick(0, 0.05, 0.3)
+        self.weights = {kind: self.pick(1, 1, 2, 6) for kind in MAKERS}
         self.weights[self.lies_about] += 50 * self.lie
 
     def chance(self, rate):
@@ -78,15 +76,16 @@ class Generator:
         return self.recording
 
     def start(self):
-        self.pick(self.stay_fresh, self.make_files, self.make_files, self.enter_world)()
+        self.pick(self.stay_fresh, *[self.make_files] * 4, self.enter_world, self.enter_world)()
 
     def stay_fresh(self):
         pass
 
     def make_files(self):
-        """Two directories and files in one of them, written up to about a page's edge, most of them left open."""
-        self.recording.do(calls.mkdir(7, b"/a"))
-        self.recording.do(calls.mkdir(7, b"/b"))
+        """A few directories, and files in one of them, written up to about a page's edge, most of them left open."""
+        for path in (b"/a", b"/a/d", b"/b"):
+            self.recording.do(calls.mkdir(7, path))
+        self.recording.do(calls.create(7, b"/a/d/x"))
         for name in NAMES[: self.pick(1, 2, 3)]:
             path = b"/a/" + name
             handle = self.recording.do(calls.create(6, path)).number
@@ -130,7 +129,7 @@ class Generator:
         """Mostly of the right length: another one stops the guard whatever it says."""
         lies = list(self.recording.lies().values())
         right_length = [lie for lie in lies if len(lie) == len(self.recording.truth)]
-        return self.pick(*(right_length if right_length and self.chance(0.8) else lies))
+        return self.pick(*(right_length if right_length and self.chance(0.7) else lies))
 
     def buffers(self):
         short = self.pick((ANSWER - 1, REQUEST), (ANSWER, REQUEST - 1), (0, 0))
@@ -146,7 +145,7 @@ class Generator:
 
     def save(self):
         exact = len(write_image(self.guard.nodes, [page for node in self.guard.nodes for page in node.pages]))
-        outcome = self.recording.send(Save(self.pick(exact, exact - 1, LONGEST_IMAGE, 0)))
+        outcome = self.recording.send(Save(self.pick(exact, exact - 1, LONGEST, 0)))
         if isinstance(outcome, Done):
             self.saves.append((outcome.data, outcome.digest))
 
@@ -244,8 +243,9 @@ class Generator:
         """A position or size near an edge, at the most one byte beyond the size or far beyond it."""
         size = self.size(handle)
         edge = PAGE * self.random.randrange(size // PAGE + 1)
-        places = [0, size, size, size + 1, size - 1, edge, edge - 1, edge + 1, (1 << 32) + size // 2, self.random.randrange(size + 1)]
-        return max(0, self.pick(*places))
+        anywhere = self.random.randrange(size + 1)
+        beyond = (1 << 32) + anywhere
+        return max(0, self.pick(0, size, size, size + 1, size - 1, edge, edge - 1, edge + 1, anywhere, beyond))
 
     def path_of(self, node):
         path = b""
@@ -257,7 +257,8 @@ class Generator:
     def path(self, kind):
         """A path that mostly fits the call."""
         if self.chance(0.05):
-            return self.pick(b"/", self.edge_path(MAX_PATH), self.edge_path(MAX_PATH + 1), b"/a/" + b"n" * (MAX_NAME + 1))
+            long_name = b"/a/" + b"n" * (MAX_NAME + 1)
+            return self.pick(b"/", self.edge_path(MAX_PATH), self.edge_path(MAX_PATH + 1), long_name)
         if kind in (CREATE, MKDIR) and self.chance(0.9) or self.chance(0.1):
             return self.child_path()
         wanted = {OPEN: FILE, REMOVE: FILE, RMDIR: DIRECTORY, READDIR: DIRECTORY}

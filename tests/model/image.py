@@ -6,6 +6,8 @@ from .rules import (
 )
 
 DIGEST = 32
+RECORD = ID + ID + 1 + 1 + 4 + 1  # a node's record without its name
+LONGEST = 4 + RECORD + (MAX_NODES - 1) * (RECORD + MAX_NAME) + 4 + MAX_PAGES * DIGEST  # 44,776
 
 
 def write_image(nodes, digests):

@@ -1,7 +1,7 @@
 """Hosts that lie: the wrong replies of the source papers' attack lists, and of document 01's traps.
 
-A lying host is an honest one that remembers: the pages that were overwritten and the replies it gave. `lies` gives every
-wrong reply that it knows to the pending request, each under a name. Each is wrong for certain, so a guard must stop.
+A lying host is an honest one that remembers: the pages that were overwritten and the replies it gave. `lies` gives
+every wrong reply that it knows to the pending request, each under a name. Each is wrong for certain: a guard must stop.
 """
 
 from . import rules

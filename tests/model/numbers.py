@@ -61,7 +61,8 @@ def n22_malformed_fields(s):
         b"", b"\0/f", b"\x0e/f", b"\xff/f", b"\x01", b"\x01\x07", b"\x0d",
         calls.create(8, b"/a"), calls.mkdir(8, b"/a"), calls.chmod(8, b"/f"), calls.chmod(255, b"/f"),
         calls.open_(0, b"/f"), calls.open_(4, b"/f"), calls.open_(255, b"/f"),
-        calls.close(handle)[:-1], calls.close(handle) + b"\0", calls.seek(handle, 0)[:-1], calls.seek(handle, 0) + b"\0",
+        calls.close(handle)[:-1], calls.close(handle) + b"\0",
+        calls.seek(handle, 0)[:-1], calls.seek(handle, 0) + b"\0",
         calls.read(handle, 0)[:-1], calls.read(handle, 0) + b"\0", calls.read(handle, 4097), calls.read(99, 4097),
         calls.write(handle, b"")[:-1], calls.write(handle, bytes(4097)), calls.write(99, bytes(4097)),
         calls.truncate(handle, 0)[:-1], calls.truncate(handle, 0) + b"\0",
@@ -331,7 +332,8 @@ def both_34_and_a_stop(s):
 def both_22_and_36(s):
     for call in (
         calls.create(8, b"/" + LONG), calls.open_(0, b"/" + LONG), calls.stat(LONG), calls.stat(b"/" + LONG + b"/"),
-        calls.stat(b"/../" + LONG), calls.stat(b"/" + LONG + b"\0"), calls.stat(b"/" * 256), calls.stat(b"/a" * 127 + b"//"),
+        calls.stat(b"/../" + LONG), calls.stat(b"/" + LONG + b"\0"), calls.stat(b"/" * 256),
+        calls.stat(b"/a" * 127 + b"//"),
     ):
         s.expect("refused 22", call)
 

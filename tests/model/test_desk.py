@@ -30,8 +30,8 @@ class Desk(unittest.TestCase):
     def test_bad_lines(self):
         for line in (
             b"", b"c", b"r", b"x", b" ", b"c0d2f", b"c  0d2f", b" c 0d2f", b"c 0d2f ", b"c 0d2", b"c 0D2F", b"C 0d2f",
-            b"c\t0d2f", b"c 0d2f\r", b"c 0d2f\0", b"\0", b"c 0g", b"c 0d 2f", b"\xff\xfe", b"s 23", b"c " + b"00" * 9691,
-            b"c " + b"0" * 19381, b"c " + b"0" * 100_000,
+            b"c\t0d2f", b"c 0d2f\r", b"c 0d2f\0", b"\0", b"c 0g", b"c 0d 2f", b"\xff\xfe", b"s 23",
+            b"c " + b"00" * 9691, b"c " + b"0" * 19381, b"c " + b"0" * 100_000,
         ):
             with self.subTest(line[:20]):
                 self.assertEqual(desk.answers([line]), ["bad line"])
@@ -44,6 +44,7 @@ class Desk(unittest.TestCase):
             self.assertEqual(desk.answers([line]), [answer])
 
     def test_a_bad_line_never_reaches_the_guard(self):
-        lines = [b"c 0d2f", b"r 0", b"r 01000000020700000000", b"c 0d2f", b"r ", b"r 0", b"c 0d2f"]
-        expected = ["ask 0d2f", "bad line", "done 0 01000000020700000000", "ask 0d2f", "stopped 1", "bad line", "refused 5"]
-        self.assertEqual(desk.answers(lines), expected)
+        stat = "01000000020700000000"
+        lines = ["c 0d2f", "r 0", f"r {stat}", "c 0d2f", "r ", "r 0", "c 0d2f"]
+        answers = ["ask 0d2f", "bad line", f"done 0 {stat}", "ask 0d2f", "stopped 1", "bad line", "refused 5"]
+        self.assertEqual(desk.answers(map(str.encode, lines)), answers)

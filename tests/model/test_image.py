@@ -3,7 +3,8 @@
 import unittest
 
 from .edges import EDGES, FULL, crowd, image, sample
-from .image import read_image, write_image
+from .image import LONGEST, read_image, write_image
+from .rules import Node
 
 
 class Images(unittest.TestCase):
@@ -16,6 +17,7 @@ class Images(unittest.TestCase):
     def test_longest(self):
         longest = image(crowd(*FULL))
         self.assertEqual(len(longest), 44_776)
+        self.assertEqual(LONGEST, 44_776)
         self.assertIsNotNone(read_image(longest))
 
     def test_reads_back(self):
@@ -34,6 +36,4 @@ class Images(unittest.TestCase):
         file = "02000000 01000000 01 06 01040000 01 61"
         data = bytes.fromhex(f"02000000 {root} {file} 02000000") + bytes(32) + b"\xff" * 32
         nodes = read_image(data)
-        self.assertEqual([(n.id, n.parent, n.kind, n.mode, n.size, n.name) for n in nodes],
-                         [(1, 0, 2, 7, 0, b""), (2, 1, 1, 6, 1025, b"a")])
-        self.assertEqual(nodes[1].pages, [bytes(32), b"\xff" * 32])
+        self.assertEqual(nodes, [Node(1, 0, 2, 7, 0, b""), Node(2, 1, 1, 6, 1025, b"a", [bytes(32), b"\xff" * 32])])
