@@ -24,13 +24,21 @@ def is_for_desk(event):
     return isinstance(event, (Call, Reply)) and (event.answer_len, event.request_len) == (ANSWER, REQUEST)
 
 
+def all_lists(seeds):
+    """The options that repeat a list, and its lines."""
+    for lines in scripted_lists():
+        yield "--count 0", lines
+    for seed in seeds:
+        yield f"--first {seed} --count 1", generated_lines(seed)
+
+
 def scripted_lists():
-    """The scripts that deskrun can be fed, with their names."""
+    """The scripts that deskrun can be fed."""
     for script in SCRIPTS:
         recording = Script()
         script(recording)
         if all(map(is_for_desk, recording.events)):
-            yield script.__name__, lines_of(recording)
+            yield lines_of(recording)
 
 
 def generated_lines(seed):
@@ -70,15 +78,22 @@ def differs(command, lines):
 
 def shortened(command, lines):
     """A list that still differs, and no longer does with any one line left out."""
-    size = len(lines)
-    while size := size // 2:
-        at = 0
-        while at < len(lines):
-            shorter = lines[:at] + lines[at + size :]
-            if differs(command, shorter):
-                lines = shorter
-            else:
-                at += size
+    before, size = None, len(lines)
+    while before != lines or size > 1:
+        before, size = lines, max(size // 2, 1)
+        lines = without_parts(command, lines, size)
+    return lines
+
+
+def without_parts(command, lines, size):
+    """The list without those parts of this size that a difference does not need."""
+    at = 0
+    while at < len(lines):
+        shorter = lines[:at] + lines[at + size :]
+        if differs(command, shorter):
+            lines = shorter
+        else:
+            at += size
     return lines
 
 
@@ -100,10 +115,7 @@ def main():
     parser.add_argument("command", nargs=argparse.REMAINDER)
     options = parser.parse_args()
     total = 0
-    seeds = range(options.first, options.first + options.count)
-    generated = ((f"--first {seed} --count 1", generated_lines(seed)) for seed in seeds)
-    scripted = (("--count 0", lines) for _, lines in scripted_lists())
-    for repeat, lines in (item for lists in (scripted, generated) for item in lists):
+    for repeat, lines in all_lists(range(options.first, options.first + options.count)):
         total += len(lines)
         if differs(options.command, lines):
             report(options.command, lines, repeat)

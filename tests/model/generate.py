@@ -126,10 +126,10 @@ class Generator:
         self.recording.send(Reply(reply, *self.buffers()))
 
     def wrong_reply(self):
-        """Mostly of the right length: another one stops the guard whatever it says."""
+        """Mostly of the right length, where another stops the guard whatever it says."""
         lies = list(self.recording.lies().values())
         right_length = [lie for lie in lies if len(lie) == len(self.recording.truth)]
-        return self.pick(*(right_length if right_length and self.chance(0.7) else lies))
+        return self.pick(*(right_length if self.lies_about != READDIR and self.chance(0.7) else lies))
 
     def buffers(self):
         short = self.pick((ANSWER - 1, REQUEST), (ANSWER, REQUEST - 1), (0, 0))
@@ -179,12 +179,13 @@ class Generator:
         self.recording.send(Call(data, *self.buffers()))
 
     def damaged(self, data):
-        other_kind = bytes([self.pick(0, 14, 255, *MAKERS)])
-        other_second = bytes([self.pick(0, 4, 8, 255)])
+        """A call with one fault; some are still right, and some have two."""
+        other_kind = bytes([self.pick(0, 14, 255, *MAKERS)]) + data[1:]
+        other_mode = data[:1] + bytes([self.pick(0, 4, 8, 255)]) + data[2:]
+        long = data + b"n" * (MAX_NAME + 1)
         return self.pick(
-            data[:-1], data + b"\0", data + b"/", data + b"/.", data + b"//a", other_kind + data[1:],
-            data[:1] + other_second + data[2:], data[:1] + other_second + data[2:], data[:2] + data[3:],
-            data + b"n" * (MAX_NAME + 1), b"",
+            b"", other_kind, other_mode, other_mode, data[:-1], data[:2] + data[3:], data + b"\0", data + b"/",
+            data + b"/.", data + b"//a", long, long + b"/",
         )
 
     def path_call(self, kind):
@@ -295,7 +296,7 @@ BY_HANDLE = (CLOSE, SEEK, READ, WRITE, TRUNCATE)
 
 
 def build(recording, nodes):
-    """Brings a fresh guard by calls to the tree of these nodes, which are all of mode 7 and of zeros."""
+    """Brings a fresh guard by calls to the tree of these nodes, with zeros in its files."""
     paths = {nodes[0].id: b""}
     for node in nodes[1:]:
         path = paths[node.id] = paths[node.parent] + b"/" + node.name

@@ -111,7 +111,7 @@ MUTATIONS = {
     "36 before 22": added(
         "tree.on_call",
         "refuse(22",
-        "refuse(36, event.data[:1] == b'\\r' and rules.is_long(event.data[1:]))",
+        "refuse(36, event.data[:1] in (b'\\t', b'\\n', b'\\f', b'\\r') and rules.is_long(event.data[1:]))",
     ),
     "36 after the walk": added("tree.on_call", "refuse(36", "self.walk(call.names or (), last_may_be_absent=True)"),
     # the walk
