@@ -17,6 +17,7 @@ from . import events
 from .generate import generate
 
 PACKAGE = Path(__file__).parent
+COPIED = ["__init__", "events", "rules", "image", "tree", "desk"]
 SEEDS = range(1000)
 
 
@@ -429,13 +430,15 @@ def mutated(source, function, change):
 
 
 class Mutant:
-    """A copy of the model in a directory, with one mutation."""
+    """A copy of the model, as far as a desk needs it, in a directory and with one mutation."""
 
     def __init__(self, name, directory):
         place, change = MUTATIONS[name]
         module, _, function = place.partition(".")
         self.package = Path(directory) / "model"
-        shutil.copytree(PACKAGE, self.package, ignore=shutil.ignore_patterns("__pycache__"))
+        self.package.mkdir()
+        for copied in COPIED:
+            shutil.copy(PACKAGE / f"{copied}.py", self.package)
         file = self.package / f"{module}.py"
         clean = file.read_text()
         file.write_text(mutated(clean, function, change))
