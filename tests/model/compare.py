@@ -8,6 +8,7 @@ the command that repeats it; the status is then 1.
 """
 
 import argparse
+import shlex
 import subprocess
 import sys
 from random import Random, SystemRandom
@@ -105,7 +106,7 @@ def report(command, lines, repeat):
         print(line.decode("ascii", "backslashreplace"))
         our, their = ours[i], theirs[i] if i < len(theirs) else "(nothing)"
         print(f"    {our}" if our == their else f"    model: {our}\n    program: {their}")
-    print(f"repeat: python3 -m model.compare {repeat} {' '.join(command)}")
+    print(f"repeat: python3 -m model.compare {repeat} {shlex.join(command)}")
 
 
 def main():
