@@ -1,0 +1,100 @@
+"""Images at the edge of soundness: for each rule one that only just keeps it, and one that breaks it alone.
+
+Every page is of zeros, so that a host can hold the tree of any sound one.
+"""
+
+from dataclasses import replace
+
+from .image import write_image
+from .rules import DIRECTORY, FILE, MAX_SIZE, PAGE, Node, pages_of, put, root
+from .tree import digest
+
+ZEROS = digest(bytes(PAGE))
+
+
+def image(nodes, tail=b""):
+    return write_image(nodes, [ZEROS] * sum(pages_of(node.size) for node in nodes)) + tail
+
+
+def sample(**changes):
+    """A small tree in which the file `f` is changed: /, /d, /d/f, /g, /d/e."""
+    nodes = [
+        root(),
+        Node(2, 1, DIRECTORY, 7, 0, b"d"),
+        Node(3, 2, FILE, 6, PAGE + 1, b"f"),
+        Node(4, 1, FILE, 4, 10, b"g"),
+        Node(5, 2, DIRECTORY, 0, 0, b"e"),
+    ]
+    nodes[2] = replace(nodes[2], **changes)
+    return nodes
+
+
+def changed_root(**changes):
+    return [replace(root(), **changes)]
+
+
+def files(*sizes):
+    """Files in the root with these sizes."""
+    return [root(), *(Node(i, 1, FILE, 7, size, b"%d" % i) for i, size in enumerate(sizes, start=2))]
+
+
+def deep(path_length):
+    """Directories with names of 32 bytes down to a path of this length."""
+    nodes, left = [root()], path_length
+    while left:
+        name = b"n" * min(32, left - 1)
+        nodes.append(Node(nodes[-1].id + 1, nodes[-1].id, DIRECTORY, 7, 0, name))
+        left -= 1 + len(name)
+    return nodes
+
+
+FULL = [MAX_SIZE] * 16  # 1,024 pages
+
+
+def crowd(*sizes):
+    """256 nodes, every name of 32 bytes, the first files with these sizes: with 1,024 pages the longest image."""
+    sizes += (0,) * (255 - len(sizes))
+    return [root(), *(Node(i, 1, FILE, 7, size, b"%032d" % i) for i, size in enumerate(sizes, start=2))]
+
+
+# rule: (sound, broken alone)
+EDGES = {
+    "the root's id is 1": (image(changed_root()), image(changed_root(id=2))),
+    "the root's parent is 0": (image(changed_root()), image(changed_root(parent=1))),
+    "the root is a directory": (image(changed_root()), image(changed_root(kind=FILE))),
+    "the root has no name": (image(changed_root()), image(changed_root(name=b"r"))),
+    "the root's mode": (image(changed_root(mode=0)), image(changed_root(mode=8))),
+    "the root's size is 0": (image(changed_root()), image(changed_root(size=1))),
+    "an id isn't 0": (image(sample(id=0xFFFF_FFFF)), image(sample(id=0))),
+    "ids differ": (image(sample(id=6)), image(sample(id=4))),
+    "an id isn't the root's": (image(sample()), image(sample(id=1))),
+    "the parent exists": (image(sample(parent=1)), image(sample(parent=9))),
+    "the parent is earlier": (image(sample(parent=2)), image(sample(parent=5))),
+    "the parent is another": (image(sample(parent=2)), image(sample(parent=3))),
+    "the parent is a directory": (image(files(0, 0)), image([*files(0, 0), Node(9, 3, FILE, 7, 0, b"a")])),
+    "the root's parent holds nothing": (image(sample(parent=1)), image(sample(parent=0))),
+    "kind 1": (image(sample(kind=FILE)), image(sample(kind=0))),
+    "kind 2": (image(sample(kind=DIRECTORY, size=0)), image(sample(kind=3, size=0))),
+    "the mode": (image(sample(mode=7)), image(sample(mode=8))),
+    "a directory's size is 0": (image(sample(kind=DIRECTORY, size=0)), image(sample(kind=DIRECTORY))),
+    "a file's size": (image(sample(size=MAX_SIZE)), image(sample(size=MAX_SIZE + 1))),
+    "a name has a byte": (image(sample(name=b" ")), image(sample(name=b""))),
+    "a name has 32 bytes": (image(sample(name=b"n" * 32)), image(sample(name=b"n" * 33))),
+    "a name isn't .": (image(sample(name=b"...")), image(sample(name=b"."))),
+    "a name isn't ..": (image(sample(name=b"..a")), image(sample(name=b".."))),
+    "no slash in a name": (image(sample(name=b"a.b")), image(sample(name=b"a/b"))),
+    "no 0 in a name": (image(sample(name=b"a\1b")), image(sample(name=b"a\0b"))),
+    "sibling names differ": (image(sample(name=b"g")), image(sample(name=b"e"))),
+    "a path has 255 bytes": (image(deep(255)), image(deep(256))),
+    "a node": (image([root()]), put(0, 4) + put(0, 4)),
+    "256 nodes": (image(files(*[0] * 255)), image(files(*[0] * 256))),
+    "1,024 pages": (image(files(*FULL)), image(files(*FULL, 1))),
+    "no digest too few": (image(files(1)), write_image(files(1), [])),
+    "no digest too many": (image(files(1)), write_image(files(1), [ZEROS] * 2)),
+    "no node too few": (image(files(1)), put(1, 4) + image(files(1))[4:]),
+    "no node too many": (image(files(1)), put(3, 4) + image(files(1))[4:]),
+    "the second count": (image(files()), image(files())[:-4] + put(1, 4)),
+    "nothing follows": (image(files(1)), image(files(1), tail=b"\0")),
+    "nothing is cut": (image(files(1)), image(files(1))[:-1]),
+    "not empty": (image([root()]), b""),
+}

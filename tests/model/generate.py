@@ -1,0 +1,309 @@
+"""Lists of events from a seed.
+
+A list starts fresh, with a few open files or in a tree that stands at a limit, then goes on with calls that mostly fit
+what the guard holds, with numbers near the edges that document 01 names. How often something goes wrong (a form, a
+buffer, a reply, an image, an event at the wrong time) is drawn once for each list, and so is the request about which
+the host lies: some lists are long and honest, others end soon. A stop is followed by a few more events.
+"""
+
+from random import Random
+
+from . import calls
+from .edges import EDGES, FULL, ZEROS, deep, files, image
+from .events import Call, Done, Load, Reply, Save
+from .image import LONGEST, write_image
+from .lies import WRONG
+from .recording import Recording
+from .rules import (
+    ANSWER, CHMOD, CLOSE, CREATE, DIRECTORY, FILE, MAX_COUNT, MAX_NAME, MAX_NODES, MAX_OPEN, MAX_PATH, MAX_SIZE,
+    MKDIR, OPEN, PAGE, READ, READDIR, READ_RIGHT, REMOVE, REQUEST, RMDIR, SEEK, STAT, TRUNCATE, WRITE, WRITE_RIGHT,
+)
+from .tree import digest
+
+NAMES = [b"a", b"b", b"c", b"...", b"\xff\n ", b"n" * MAX_NAME]
+
+# a tree at a limit, how many of its last files are opened, and the calls that the list then leans to
+WORLDS = [
+    (files(*[0] * (MAX_NODES - 2)), 2, [CREATE, MKDIR, CHMOD]),
+    (files(*[3] * (MAX_OPEN + 1)), MAX_OPEN - 1, [OPEN]),
+    (files(MAX_SIZE - 1, 3), 2, [WRITE, READ]),
+    (files(*FULL[1:], MAX_SIZE - PAGE, 0), 2, [WRITE, SEEK]),
+    (files(*FULL[1:], MAX_SIZE - 1, 0), 2, [WRITE, TRUNCATE]),
+    (deep(222), 0, [CREATE, MKDIR]),
+]
+
+
+def generate(seed, length=50):
+    """A recording of at least this many events, unless a stop ends it."""
+    return Generator(Random(seed)).run(length)
+
+
+def generate_for_desk(seed, length=50):
+    """The same with calls and replies alone, and buffers that are long enough."""
+    return Generator(Random(seed), desk=True).run(length)
+
+
+class Generator:
+    def __init__(self, random, desk=False):
+        self.random = random
+        self.desk = desk
+        self.recording = Recording(random)
+        self.guard = self.recording.guard
+        self.saves = []
+        self.bad_form = self.pick(0, 0.05, 0.2)
+        self.bad_time = self.pick(0, 0.02, 0.1)
+        self.lie = self.pick(0, 0.2, 0.5)
+        self.lies_about = self.pick(*WRONG, *[CREATE, OPEN, WRITE, STAT] * 2, *[READ, READDIR] * 5)
+        self.bad_buffer = 0 if desk else self.pick(0, 0.02, 0.1)
+        self.images = 0 if desk else self.pick(0, 0.05, 0.3)
+        self.weights = {kind: self.pick(1, 1, 2, 6) for kind in MAKERS}
+        self.weights[self.lies_about] += 50 * self.lie
+
+    def chance(self, rate):
+        return self.random.random() < rate
+
+    def pick(self, *choices):
+        return self.random.choice(choices)
+
+    def run(self, length):
+        self.start()
+        length += len(self.recording.steps)
+        while not self.guard.stopped and len(self.recording.steps) < length:
+            self.event()
+        if self.guard.stopped:
+            for _ in range(self.pick(1, 4)):
+                self.event()
+        return self.recording
+
+    def start(self):
+        self.pick(self.stay_fresh, *[self.make_files] * 4, self.enter_world, self.enter_world)()
+
+    def stay_fresh(self):
+        pass
+
+    def make_files(self):
+        """A few directories, and files in one of them, written up to about a page's edge, most of them left open."""
+        for path in (b"/a", b"/a/d", b"/b"):
+            self.recording.do(calls.mkdir(7, path))
+        self.recording.do(calls.create(7, b"/a/d/x"))
+        for name in NAMES[: self.pick(1, 2, 3)]:
+            path = b"/a/" + name
+            handle = self.recording.do(calls.create(6, path)).number
+            self.recording.do(calls.open_(READ_RIGHT | WRITE_RIGHT, path))
+            size = self.pick(5, PAGE - 1, PAGE, PAGE + 1, 2 * PAGE + 5)
+            self.recording.do(calls.write(handle, self.random.randbytes(size)))
+            self.recording.do(calls.close(handle) if self.chance(0.3) else calls.seek(handle, self.place(handle)))
+        self.recording.do(calls.chmod(self.pick(7, 7, 5, 3), b"/a"))
+
+    def enter_world(self):
+        """A tree at a limit: by one load, or at the desk by calls."""
+        nodes, opened, leaning = self.pick(*WORLDS)
+        if self.desk:
+            build(self.recording, nodes)
+        else:
+            self.load_sound(image(nodes))
+        for node in self.guard.nodes[len(nodes) - opened :]:
+            self.recording.do(calls.open_(READ_RIGHT | WRITE_RIGHT, self.path_of(node)))
+            self.recording.do(calls.seek(node.id, node.size))
+        for kind in leaning:
+            self.weights[kind] += 10
+
+    def event(self):
+        at_a_bad_time = self.chance(self.bad_time)
+        if bool(self.guard.pending) != at_a_bad_time:
+            self.reply()
+        elif self.chance(self.images):
+            self.save_or_load()
+        else:
+            self.call()
+
+    # replies
+
+    def reply(self):
+        reply = self.recording.truth
+        if self.guard.pending and self.recording.request[0] == self.lies_about and self.chance(self.lie):
+            reply = self.wrong_reply()
+        self.recording.send(Reply(reply, *self.buffers()))
+
+    def wrong_reply(self):
+        """Mostly of the right length, where another stops the guard whatever it says."""
+        lies = list(self.recording.lies().values())
+        right_length = [lie for lie in lies if len(lie) == len(self.recording.truth)]
+        return self.pick(*(right_length if self.lies_about != READDIR and self.chance(0.7) else lies))
+
+    def buffers(self):
+        short = self.pick((ANSWER - 1, REQUEST), (ANSWER, REQUEST - 1), (0, 0))
+        return short if self.chance(self.bad_buffer) else (ANSWER, REQUEST)
+
+    # images
+
+    def save_or_load(self):
+        if self.chance(0.8) and not self.guard.pending:
+            for handle in list(self.guard.open_files):
+                self.recording.do(calls.close(handle))
+        self.pick(self.save, self.save, self.load_saved, self.load_edge, self.load_edge, self.load_damaged)()
+
+    def save(self):
+        exact = len(write_image(self.guard.nodes, [page for node in self.guard.nodes for page in node.pages]))
+        outcome = self.recording.send(Save(self.pick(exact, exact - 1, LONGEST, 0)))
+        if isinstance(outcome, Done):
+            self.saves.append((outcome.data, outcome.digest))
+
+    def load_saved(self):
+        if self.saves:
+            self.recording.send(Load(*self.pick(*self.saves)))
+
+    def load_sound(self, data):
+        self.recording.send(Load(data, digest(data)))
+
+    def load_edge(self):
+        sound, broken = self.pick(*EDGES.values())
+        self.load_sound(self.pick(sound, broken, broken, broken))
+
+    def load_damaged(self):
+        """A digest that differs or has another length, of an image that is sound or not."""
+        data = self.pick(*(data for data, _ in self.saves), image(files(1)), b"")
+        right = digest(data)
+        wrong = self.pick(right[:-1], right + b"\0", b"", bytes([right[0] ^ 1]) + right[1:], ZEROS)
+        self.recording.send(Load(data, wrong))
+
+    # calls
+
+    def call(self):
+        kind = self.random.choices(list(self.weights), self.weights.values())[0]
+        if kind in BY_HANDLE and not self.guard.open_files and self.chance(0.9):
+            kind = self.pick(CREATE, OPEN)
+        data = MAKERS[kind](self, kind)
+        if self.chance(self.bad_form):
+            data = self.damaged(data)
+        self.recording.send(Call(data, *self.buffers()))
+
+    def damaged(self, data):
+        """A call with one fault; some are still right, and some have two."""
+        other_kind = bytes([self.pick(0, 14, 255, *MAKERS)]) + data[1:]
+        other_mode = data[:1] + bytes([self.pick(0, 4, 8, 255)]) + data[2:]
+        long = data + b"n" * (MAX_NAME + 1)
+        return self.pick(
+            b"", other_kind, other_mode, other_mode, data[:-1], data[:2] + data[3:], data + b"\0", data + b"/",
+            data + b"/.", data + b"//a", long, long + b"/",
+        )
+
+    def path_call(self, kind):
+        return bytes([kind]) + self.path(kind)
+
+    def mode_call(self, kind):
+        return bytes([kind, self.pick(7, 7, 7, 5, 3, self.random.randrange(8))]) + self.path(kind)
+
+    def open_call(self, kind):
+        return calls.open_(self.pick(1, 2, 3, 3), self.path(kind))
+
+    def close_call(self, kind):
+        return calls.close(self.handle())
+
+    def seek_call(self, kind):
+        handle = self.handle()
+        return calls.seek(handle, self.place(handle))
+
+    def read_call(self, kind):
+        handle = self.handle()
+        if self.cursor(handle) == self.size(handle):
+            self.recording.call(calls.seek(handle, self.place(handle)))
+        left = self.size(handle) - self.cursor(handle)
+        counts = [0, 1, left, left + 1, PAGE, MAX_COUNT, MAX_COUNT + 1, self.random.randrange(2 * PAGE)]
+        return calls.read(handle, self.pick(*counts))
+
+    def write_call(self, kind):
+        handle = self.handle()
+        size, cursor = self.size(handle), self.cursor(handle)
+        in_page = PAGE - cursor % PAGE
+        lengths = [0, 1, 5, in_page, in_page + 1, size - cursor, size - cursor - 1, self.random.randrange(2 * PAGE)]
+        if MAX_SIZE - cursor < MAX_COUNT:
+            lengths += [MAX_SIZE - cursor, MAX_SIZE - cursor + 1]
+        if self.chance(0.1):
+            lengths = [MAX_COUNT, MAX_COUNT + 1]
+        return calls.write(handle, self.random.randbytes(min(max(0, self.pick(*lengths)), MAX_COUNT + 1)))
+
+    def truncate_call(self, kind):
+        handle = self.handle()
+        return calls.truncate(handle, self.place(handle))
+
+    # what calls name
+
+    def handle(self):
+        held = list(self.guard.open_files)
+        others = [0, 1, self.random.randrange(1 << 32), self.pick(*self.guard.nodes).id]
+        return self.pick(*held) if held and self.chance(0.9) else self.pick(*others)
+
+    def size(self, handle):
+        return next((node.size for node in self.guard.nodes if node.id == handle), 0)
+
+    def cursor(self, handle):
+        return self.guard.open_files[handle].cursor if handle in self.guard.open_files else 0
+
+    def place(self, handle):
+        """A position or size near an edge, at the most one byte beyond the size or far beyond it."""
+        size = self.size(handle)
+        edge = PAGE * self.random.randrange(size // PAGE + 1)
+        anywhere = self.random.randrange(size + 1)
+        beyond = (1 << 32) + anywhere
+        return max(0, self.pick(0, size, size, size + 1, size - 1, edge, edge - 1, edge + 1, anywhere, beyond))
+
+    def path_of(self, node):
+        path = b""
+        while node.parent:
+            path = b"/" + node.name + path
+            node = next(parent for parent in self.guard.nodes if parent.id == node.parent)
+        return path or b"/"
+
+    def path(self, kind):
+        """A path that mostly fits the call."""
+        if self.chance(0.05):
+            long_name = b"/a/" + b"n" * (MAX_NAME + 1)
+            return self.pick(b"/", self.edge_path(MAX_PATH), self.edge_path(MAX_PATH + 1), long_name)
+        if kind in (CREATE, MKDIR) and self.chance(0.9) or self.chance(0.1):
+            return self.child_path()
+        wanted = {OPEN: FILE, REMOVE: FILE, RMDIR: DIRECTORY, READDIR: DIRECTORY}
+        other = kind not in wanted or self.chance(0.3)
+        nodes = [node for node in self.guard.nodes if other or node.kind == wanted[kind]]
+        closed = [node for node in nodes if node.id not in self.guard.open_files]
+        return self.path_of(self.some_node(self.pick(closed, nodes) or self.guard.nodes))
+
+    def some_node(self, nodes):
+        """The first and the last more often than others: limits are met there."""
+        return self.pick(nodes[0], nodes[-1], self.pick(*nodes), self.pick(*nodes))
+
+    def child_path(self):
+        directories = [node for node in self.guard.nodes if node.kind == DIRECTORY]
+        parent = self.some_node(directories if self.chance(0.9) else self.guard.nodes)
+        path = self.path_of(parent).rstrip(b"/") + b"/" + self.pick(*NAMES)
+        return path + b"/" + self.pick(*NAMES) if self.chance(0.05) else path
+
+    def edge_path(self, length):
+        """A path of this length with right components, below the deepest directory where that is long."""
+        start = max((self.path_of(node) for node in self.guard.nodes), key=len).rstrip(b"/")
+        while length - len(start) > MAX_NAME + 1:
+            start += b"/" + b"n" * min(MAX_NAME, length - len(start) - 3)
+        return start + b"/" + b"m" * (length - len(start) - 1)
+
+
+MAKERS = {
+    CREATE: Generator.mode_call, MKDIR: Generator.mode_call, OPEN: Generator.open_call, CLOSE: Generator.close_call,
+    SEEK: Generator.seek_call, READ: Generator.read_call, WRITE: Generator.write_call,
+    TRUNCATE: Generator.truncate_call, REMOVE: Generator.path_call, RMDIR: Generator.path_call,
+    CHMOD: Generator.mode_call, READDIR: Generator.path_call, STAT: Generator.path_call,
+}
+BY_HANDLE = (CLOSE, SEEK, READ, WRITE, TRUNCATE)
+
+
+def build(recording, nodes):
+    """Brings a fresh guard by calls to the tree of these nodes, with zeros in its files."""
+    paths = {nodes[0].id: b""}
+    for node in nodes[1:]:
+        path = paths[node.id] = paths[node.parent] + b"/" + node.name
+        make = calls.create if node.kind == FILE else calls.mkdir
+        recording.do(make(node.mode, path))
+        if node.size:
+            handle = recording.do(calls.open_(WRITE_RIGHT, path)).number
+            for at in range(0, node.size, MAX_COUNT):
+                recording.do(calls.write(handle, bytes(min(MAX_COUNT, node.size - at))))
+            recording.do(calls.close(handle))

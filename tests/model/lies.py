@@ -1,0 +1,160 @@
+"""Hosts that lie: the wrong replies of the source papers' attack lists, and of document 01's traps.
+
+A lying host is an honest one that remembers: the pages that were overwritten and the replies it gave. `lies` gives
+every wrong reply that it knows to the pending request, each under a name. Each is wrong for certain: a guard must stop.
+"""
+
+from . import rules
+from .host import Host
+from .rules import DIRECTORY, FILE, ID, MAX_DESCRIPTOR, PAGE, put, unsigned
+
+
+class LyingHost(Host):
+    def __init__(self, random):
+        super().__init__(random)
+        self.old_pages = []
+        self.old_replies = []
+
+    def reply(self, request):
+        truth = super().reply(request)
+        self.old_replies = [truth, *self.old_replies[:2]]
+        return truth
+
+    def store(self, fields):
+        descriptor, page = unsigned(fields[:4]), unsigned(fields[4:8])
+        file = self.open_files[descriptor]
+        self.old_pages = [(file.id, page, file.page(page)), *self.old_pages[:20]]
+        return super().store(fields)
+
+    def lies(self, request, truth):
+        """Wrong replies by name; the host has obeyed the request and has the truth already."""
+        kind = request[0]
+        wrong = dict(WRONG[kind](self, request, truth))
+        if kind != rules.READDIR:
+            wrong.update(wrong_lengths(truth))
+        wrong.update(self.replies_to_others(kind, truth))
+        return {name: reply for name, reply in wrong.items() if reply != truth}
+
+    def replies_to_others(self, kind, truth):
+        """Another request's right reply, where it cannot be right for this one as well."""
+        chosen_by_host = kind in (rules.CREATE, rules.MKDIR, rules.OPEN, rules.READDIR)
+        for age, reply in enumerate(self.old_replies):
+            if len(reply) != len(truth) or not chosen_by_host:
+                yield f"another reply, {age} before", reply
+
+
+def wrong_lengths(truth):
+    yield "empty", b""
+    yield "short", truth[:-1]
+    yield "long", truth + b"\0"
+    yield "long and wrong", b"\xff" + truth
+
+
+def wrong_ids(host, request, truth):
+    yield "id 0", put(0, ID)
+    yield "the root's id", put(1, ID)
+    for i, entry in enumerate(host.root.everything()):
+        yield f"held id {i}", put(entry.id, ID)
+
+
+def wrong_descriptors(host, request, truth):
+    for name, descriptor in (
+        ("descriptor too large", MAX_DESCRIPTOR + 1),
+        ("largest number", 2**31 - 1),
+        ("descriptor -1", -1),
+        ("an error number", -2),
+        ("smallest number", -(2**31)),
+    ):
+        yield name, put(descriptor, 4)
+    for descriptor in host.open_files:
+        yield f"held descriptor {descriptor}", put(descriptor, 4)
+
+
+def wrong_statuses(host, request, truth):
+    for status in (0, 1, -1, -2, -28, PAGE, PAGE - 1, 2 * PAGE, -PAGE, 2**31 - 1, -(2**31), 256, 1 << 16, 1 << 24):
+        yield f"status {status}", put(status, 4)
+
+
+def wrong_pages(host, request, truth):
+    file, page = host.open_files[unsigned(request[1:5])], unsigned(request[5:9])
+    yield "zeros", bytes(PAGE)
+    yield "a changed bit", flipped(truth, host.random.randrange(PAGE))
+    yield "first byte changed", flipped(truth, 0)
+    yield "last byte changed", flipped(truth, PAGE - 1)
+    yield "shifted", truth[1:] + truth[:1]
+    end = len(file.data) - page * PAGE
+    if end < PAGE:
+        yield "a byte past the end", flipped(truth, end)
+    for other in range(rules.pages_of(len(file.data))):
+        yield f"page {other}", file.page(other)
+    for other in host.root.everything():
+        if other.data and other is not file:
+            yield f"page of file {other.id}", other.page(page)
+    for age, (id, other, data) in enumerate(host.old_pages):
+        if (id, other) == (file.id, page):
+            yield f"stale page, {age} before", data
+
+
+def flipped(data, at):
+    return data[:at] + bytes([data[at] ^ 1]) + data[at + 1 :]
+
+
+def wrong_stats(host, request, truth):
+    id, kind, mode, size = unsigned(truth[:ID]), truth[ID], truth[ID + 1], unsigned(truth[ID + 2 :])
+
+    def reply(id=id, kind=kind, mode=mode, size=size):
+        return put(id, ID) + bytes([kind, mode]) + put(size, 4)
+
+    yield "another id", reply(id=id ^ 1)
+    yield "another kind", reply(kind=FILE + DIRECTORY - kind)
+    yield "another mode", reply(mode=mode ^ 1)
+    yield "a larger size", reply(size=size + 1)
+    yield "size 0", reply(size=0)
+    for entry in host.root.everything():
+        yield f"node {entry.id}'s", reply(entry.id, entry.kind, entry.mode, len(entry.data))
+
+
+def wrong_listings(host, request, truth):
+    entries = rules.split_listing(truth)
+    invented = put(0x00AB_CDEF, ID) + bytes([FILE, 1]) + b"~"
+    yield "an invented entry", truth + invented
+    yield "a byte goes on", truth + b"\0"
+    yield "an empty entry goes on", truth + bytes(ID + 2)
+    yield "goes on past every buffer", truth + invented * (rules.ANSWER // len(invented) + 1)
+    for directory in host.root.everything():
+        if directory.entries and len(host.readdir_of(directory)) != len(truth):
+            yield f"directory {directory.id}'s", host.readdir_of(directory)
+    if not entries:
+        return
+    first, rest = entries[0], b"".join(entries[1:])
+    yield "nothing", b""
+    yield "an entry is missing", rest
+    yield "an entry twice", truth + first
+    yield "cut short", truth[:-1]
+    yield "an entry replaced", rest + invented
+    yield "another id", flipped(first, 0) + rest
+    yield "another kind", flipped_kind(first) + rest
+    yield "another name", first[:-1] + bytes([first[-1] ^ 1]) + rest
+    yield "a longer name", first[: ID + 1] + bytes([first[ID + 1] + 1]) + first[ID + 2 :] + rest
+    if len(entries) > 1:
+        second, others = entries[1], b"".join(entries[2:])
+        yield "first twice, second missing", first + first + others
+        yield "second twice, first missing", second + second + others
+        yield "two names exchanged", exchanged(first, second) + others
+
+
+def flipped_kind(entry):
+    return entry[:ID] + bytes([FILE + DIRECTORY - entry[ID]]) + entry[ID + 1 :]
+
+
+def exchanged(one, other):
+    """Two entries, each with the other's id."""
+    return other[:ID] + one[ID:] + one[:ID] + other[ID:]
+
+
+WRONG = {
+    rules.CREATE: wrong_ids, rules.MKDIR: wrong_ids, rules.OPEN: wrong_descriptors, rules.READ: wrong_pages,
+    rules.READDIR: wrong_listings, rules.STAT: wrong_stats, rules.CLOSE: wrong_statuses,
+    rules.WRITE: wrong_statuses, rules.TRUNCATE: wrong_statuses, rules.REMOVE: wrong_statuses,
+    rules.RMDIR: wrong_statuses, rules.CHMOD: wrong_statuses,
+}

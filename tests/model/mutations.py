@@ -1,0 +1,484 @@
+"""Wrong models: at least one for each rule, made by changing one place in the model's text.
+
+The generated lists must tell each from the clean model. One that they do not tell apart means that a guard with that
+fault would pass the comparison, so the generator has to get better.
+
+    python3 -m model.mutations      prints each mutation with a seed that catches it
+"""
+
+import ast
+import importlib.util
+import shutil
+import sys
+import tempfile
+from pathlib import Path
+
+from . import events
+from .generate import generate
+
+PACKAGE = Path(__file__).parent
+COPIED = ["__init__", "events", "rules", "image", "tree", "desk"]
+SEEDS = range(1000)
+
+
+def replaced(place, text, instead):
+    """A piece of text is another."""
+    return place, lambda source: source.replace(once(source, text), instead)
+
+
+def dropped(place, text):
+    """The line with this text is left out."""
+    return place, lambda source: source.replace(line_with(source, text), "")
+
+
+def delayed(place, first, second):
+    """The line with the first text stands behind the line with the second."""
+
+    def change(source):
+        line, later = line_with(source, first), line_with(source, second)
+        return source.replace(line, "").replace(later, later + line)
+
+    return place, change
+
+
+def added(place, text, line):
+    """A line stands before the line with this text."""
+
+    def change(source):
+        found = line_with(source, text)
+        indent = found[: len(found) - len(found.lstrip())]
+        return source.replace(found, f"{indent}{line}\n{found}")
+
+    return place, change
+
+
+def once(source, text):
+    assert source.count(text) == 1, f"{text!r} stands {source.count(text)} times"
+    return text
+
+
+def line_with(source, text):
+    lines = [line for line in source.splitlines(keepends=True) if text in line]
+    assert len(lines) == 1, f"{text!r} stands on {len(lines)} lines"
+    return once(source, lines[0])
+
+
+# A place is a module, or a module and one of its functions.
+MUTATIONS = {
+    # numbers of every event
+    "a stopped guard takes calls": dropped("tree.on_call", "refuse(5"),
+    "a stopped guard takes replies": dropped("tree.on_reply", "refuse(5"),
+    "a stopped guard takes saves": dropped("tree.on_save", "refuse(5"),
+    "a stopped guard takes loads": dropped("tree.on_load", "refuse(5"),
+    "61 before 5": delayed("tree.on_reply", "refuse(5", "refuse(61"),
+    "save while a request is pending": dropped("tree.on_save", "refuse(114"),
+    "load while a request is pending": dropped("tree.on_load", "refuse(114"),
+    "34 before 114": delayed("tree.on_call", "refuse(114", "refuse(34"),
+    "34 before 61": delayed("tree.on_reply", "refuse(61", "refuse(34"),
+    "22 before 34": delayed("tree.on_call", "refuse(34", "refuse(22"),
+    "a call's answer buffer is never judged": replaced("tree.on_call", "event.answer_len < ANSWER or ", ""),
+    "a reply's request buffer is never judged": replaced("tree.on_reply", " or event.request_len < REQUEST", ""),
+    "a request buffer of 1,036": replaced("rules", "REQUEST = 1 + 4", "REQUEST = 4"),
+    "an answer buffer of 9,689": replaced(
+        "tree.on_reply",
+        "event.answer_len < ANSWER",
+        "event.answer_len < ANSWER - 1",
+    ),
+    "a reply refused 34 drops the request": added(
+        "tree.on_reply",
+        "refuse(34",
+        "self.pending = self.pending if event.answer_len else None",
+    ),
+    # forms
+    "mode 8": replaced("rules", "mode <= MAX_MODE", "mode <= MAX_MODE + 1"),
+    "rights 0": replaced("rules", "1 <= rights <= 3", "rights <= 3"),
+    "rights 4": replaced("rules", "1 <= rights <= 3", "1 <= rights <= 4"),
+    "a count of 4,097": replaced("rules", "count <= MAX_COUNT", "count <= MAX_COUNT + 1"),
+    "a write of 4,097": replaced("rules", "len(data) <= MAX_COUNT", "len(data) <= MAX_COUNT + 1"),
+    "bytes after the last field": replaced("rules.read_call", "right and not rest", "right"),
+    "a position is cut to four bytes": replaced(
+        "tree.seek",
+        "call.position > node.size",
+        "call.position % 2**32 > node.size",
+    ),
+    "a slash at the end": replaced("rules.read_path", "map(is_name, names)", "map(is_name, names[:-1])"),
+    "no first slash": replaced("rules.read_path", 'first == b"" and names', "names"),
+    "the name .": replaced("rules.is_name", 'b".", ', ""),
+    "the name ..": replaced("rules.is_name", ', b".."', ""),
+    "a name with 0": replaced("rules.is_name", " and 0 not in name", ""),
+    "a path of 256": replaced("rules.is_long", "len(path) > MAX_PATH", "len(path) > MAX_PATH + 1"),
+    "no path of 255": replaced("rules.is_long", "len(path) > MAX_PATH", "len(path) >= MAX_PATH"),
+    "a component of 33": replaced("rules.is_long", "len(name) > MAX_NAME", "len(name) > MAX_NAME + 1"),
+    "36 before 22": added(
+        "tree.on_call",
+        "refuse(22",
+        "refuse(36, event.data[:1] in (b'\\t', b'\\n', b'\\f', b'\\r') and rules.is_long(event.data[1:]))",
+    ),
+    "36 after the walk": added("tree.on_call", "refuse(36", "self.walk(call.names or (), last_may_be_absent=True)"),
+    # the walk
+    "a walk goes through files": dropped("tree.walk", "refuse(20"),
+    "13 before 20 on the walk": delayed("tree.walk", "refuse(20", "refuse(13"),
+    "the search bit is skipped": dropped("tree.walk", "refuse(13"),
+    "the root needs no search bit": replaced("tree.walk", "not node.mode", "parent and not node.mode"),
+    "2 before 13": delayed("tree.walk", "refuse(13", "refuse(2,"),
+    "the walk looks for the write bit": replaced("tree.walk", "SEARCH_BIT", "WRITE_BIT"),
+    # calls by path
+    "create on a name that exists": replaced("tree.create", "node is not None", "parent is None"),
+    "13 before 17": added("tree.create", "refuse(17", "refuse(13, parent and not parent.mode & WRITE_BIT)"),
+    "create asks the parent's bit 4": replaced("tree.create", "WRITE_BIT", "READ_BIT"),
+    "28 before 13": delayed("tree.create", "refuse(13", "refuse(28"),
+    "257 nodes": replaced("tree.create", "== MAX_NODES", "== MAX_NODES + 1"),
+    "255 nodes": replaced("tree.create", "== MAX_NODES", ">= MAX_NODES - 1"),
+    "mkdir makes a file": replaced("tree.create", "FILE if call.kind == rules.CREATE else DIRECTORY", "FILE"),
+    "a new node stands first": replaced("tree.create", "append(", "insert(1, "),
+    "a new node has mode 7": replaced("tree.create", "call.mode", "7"),
+    "open of a directory": dropped("tree.open", "refuse(21"),
+    "13 before 21": delayed("tree.open", "refuse(21", "refuse(13"),
+    "open looks at no mode": dropped("tree.open", "refuse(13"),
+    "both rights need one bit": replaced("rules.covers", "reads and writes", "reads or writes"),
+    "write needs bit 1": replaced("rules.covers", "WRITE_BIT", "SEARCH_BIT"),
+    "16 before 13 at open": delayed("tree.open", "refuse(13", "refuse(16"),
+    "24 before 16": delayed("tree.open", "refuse(16", "refuse(24"),
+    "33 open files": replaced("tree.open", "== MAX_OPEN", "== MAX_OPEN + 1"),
+    "31 open files": replaced("tree.open", "== MAX_OPEN", ">= MAX_OPEN - 1"),
+    "a file is open twice": dropped("tree.open", "refuse(16"),
+    "open is done with the descriptor": replaced("tree.open", "Done(node.id)", "Done(descriptor)"),
+    "open starts at the end": replaced(
+        "tree.open",
+        "OpenFile(descriptor, call.rights)",
+        "OpenFile(descriptor, call.rights, node.size)",
+    ),
+    "open gives every right": replaced("tree.open", "OpenFile(descriptor, call.rights)", "OpenFile(descriptor, 3)"),
+    "remove of an empty directory": replaced(
+        "tree.remove",
+        "node.kind == DIRECTORY",
+        "parent is None or self.children(node)",
+    ),
+    "13 before 21 at remove": replaced(
+        "tree.remove",
+        "refuse(21, ",
+        "refuse(13, parent and not parent.mode & WRITE_BIT)\n        refuse(21, ",
+    ),
+    "remove asks the file's bit 2": replaced("tree.remove", "parent.mode", "node.mode"),
+    "16 before 13 at remove": delayed("tree.remove", "refuse(13", "refuse(16"),
+    "remove of an open file": dropped("tree.remove", "refuse(16"),
+    "remove is done with a place": replaced(
+        "tree.remove",
+        "self.nodes.remove(node)\n        return Done(0)",
+        "place = self.nodes.index(node)\n        self.nodes.remove(node)\n        return Done(place)",
+    ),
+    "the last node fills the gap": replaced(
+        "tree.remove",
+        "self.nodes.remove(node)",
+        "self.nodes[self.nodes.index(node)] = self.nodes[-1]\n        self.nodes.pop()",
+    ),
+    "rmdir of a file": dropped("tree.rmdir", "refuse(20"),
+    "39 before 16": added("tree.rmdir", "refuse(16", "refuse(39, self.children(node))"),
+    "13 before 20 at rmdir": delayed("tree.rmdir", "refuse(20", "refuse(13"),
+    "39 before 13": delayed("tree.rmdir", "refuse(13", "refuse(39"),
+    "rmdir asks the directory's bit 2": replaced("tree.rmdir", "parent.mode", "node.mode"),
+    "rmdir of a full directory": dropped("tree.rmdir", "refuse(39"),
+    "chmod touches the rights of a handle": added(
+        "tree.chmod",
+        "node.mode = call.mode",
+        "vars(self.open_files.get(node.id, OpenFile(0, 0)))['rights'] = call.mode >> 1 & 3",
+    ),
+    "chmod asks bit 2": added("tree.chmod", "yield", "refuse(13, not node.mode & WRITE_BIT)"),
+    "chmod of the root is refused": replaced(
+        "tree.chmod",
+        "yield from",
+        "refuse(16, node.parent == 0)\n        yield from",
+    ),
+    "chmod of an open file is refused": added("tree.chmod", "yield", "refuse(16, node.id in self.open_files)"),
+    "chmod changes nothing": dropped("tree.chmod", "node.mode = call.mode"),
+    "readdir of a file": dropped("tree.readdir", "refuse(20"),
+    "13 before 20 at readdir": delayed("tree.readdir", "refuse(20", "refuse(13"),
+    "readdir asks no bit": dropped("tree.readdir", "refuse(13"),
+    "readdir is done with the length": replaced("tree.readdir", "len(entries), reply", "len(reply), reply"),
+    "stat asks bit 4": added("tree.stat", "reply = yield", "refuse(13, not node.mode & READ_BIT)"),
+    "stat is done with 0": replaced("tree.stat", "Done(node.size, reply)", "Done(0, reply)"),
+    "stat gives no bytes": replaced("tree.stat", "Done(node.size, reply)", "Done(node.size)"),
+    # calls by handle
+    "close needs a right": replaced("tree.close", "self.opened(call.handle)", "self.opened(call.handle, READ_RIGHT)"),
+    "close keeps the file open": dropped("tree.close", "del "),
+    "close sends the handle": replaced("tree.close", "file.descriptor", "call.handle & 0x7FFF_FFFF"),
+    "seek needs a right": replaced("tree.seek", "self.opened(call.handle)", "self.opened(call.handle, READ_RIGHT)"),
+    "seek below the size only": replaced("tree.seek", "> node.size", ">= max(node.size, 1)"),
+    "seek beyond the size": replaced("tree.seek", "> node.size", "> node.size + 1"),
+    "22 before 9": added("tree.seek", "self.opened", "refuse(22, call.position > MAX_SIZE)"),
+    "seek leaves the cursor": dropped("tree.seek", "file.cursor ="),
+    "read through a write-only handle": replaced("tree.read", ", READ_RIGHT", ""),
+    "a read of no bytes needs no right": replaced("tree.read", "READ_RIGHT", "READ_RIGHT if call.count else 0"),
+    "a read leaves the cursor": dropped("tree.read", "file.cursor = end"),
+    "a read gives the page from its start": replaced("tree.read", "start % PAGE", "0"),
+    "a read at a page's inside fetches for no bytes": replaced(
+        "rules.pages_between",
+        " if start < end else range(0)",
+        "",
+    ),
+    "a read at the end is refused": added("tree.read", "pages = []", "refuse(22, call.count and start == node.size)"),
+    "a read checks its first page only": replaced("tree.fetch", "stop(5, ", "stop(5, page == file.cursor // PAGE and "),
+    "write through a read-only handle": replaced("tree.write", ", WRITE_RIGHT", ""),
+    "a write of no bytes needs no right": replaced("tree.write", "WRITE_RIGHT", "WRITE_RIGHT if call.data else 0"),
+    "a write that fetches needs the right to read": replaced(
+        "tree.write",
+        "data = yield from",
+        "refuse(9, not file.rights & READ_RIGHT)\n                data = yield from",
+    ),
+    "a write leaves the cursor": dropped("tree.write", "file.cursor = end"),
+    "a write is done with the new size": replaced("tree.write", "return Done(len(call.data))", "return Done(size)"),
+    "a write may pass 65,536": replaced("tree.write", "end > MAX_SIZE", "end > MAX_SIZE + 1"),
+    "a write may not reach 65,536": replaced("tree.write", "end > MAX_SIZE", "end >= MAX_SIZE"),
+    "27 and 28 exchanged": delayed("tree.write", "refuse(27", "refuse(28"),
+    "1,025 pages": replaced("tree.write", "> MAX_PAGES", "> MAX_PAGES + 1"),
+    "1,023 pages": replaced("tree.write", "> MAX_PAGES", ">= MAX_PAGES"),
+    "28 counts the file's pages twice": replaced("tree.write", " - pages_of(node.size)", ""),
+    "28 counts each page written as new": replaced(
+        "tree.write",
+        "- pages_of(node.size) + pages_of(size)",
+        "+ len(pages_between(start, end))",
+    ),
+    "a write fetches every page": replaced(
+        "tree.write",
+        "not rules.is_overwritten(page, node.size, start, end)",
+        "page < len(node.pages)",
+    ),
+    "a write fetches no page": replaced("tree.write", "not rules.is_overwritten(page, node.size, start, end)", "False"),
+    "a write fetches for bytes past the end": replaced(
+        "rules.is_overwritten",
+        "last <= end",
+        "(page + 1) * PAGE <= end",
+    ),
+    "a write forgets what it fetched": replaced("tree.write", "rules.overlay(data,", "rules.overlay(bytes(PAGE),"),
+    "a store sends the size at the end": replaced("tree.write", "max(node.size, written_so_far)", "size"),
+    "a store sends the end of the bytes": replaced("tree.write", "max(node.size, written_so_far)", "written_so_far"),
+    "a store sends the old size": replaced("tree.write", "max(node.size, written_so_far)", "node.size"),
+    "a store with its fields exchanged": replaced(
+        "rules.store_request",
+        "put(page, 4) + put(size, 4)",
+        "put(size, 4) + put(page, 4)",
+    ),
+    "a fetch with its fields exchanged": replaced(
+        "rules.fetch_request",
+        "put(descriptor, 4) + put(page, 4)",
+        "put(page, 4) + put(descriptor, 4)",
+    ),
+    "a write changes the tables before its end": added(
+        "tree.write",
+        "stored.append",
+        "node.pages[page : page + 1] = [self.store.keep(data)]",
+    ),
+    "a write cuts the file": replaced("tree.write", "max(node.size, end)", "end if call.data else node.size"),
+    "truncate through a read-only handle": replaced("tree.truncate", ", WRITE_RIGHT", ""),
+    "truncation beyond the size": replaced(
+        "tree.truncate",
+        "refuse(22, call.size > node.size)",
+        "refuse(22, call.size > node.size + 1)",
+    ),
+    "truncation's store with the new size": replaced("tree.truncate", "page, node.size, data", "page, call.size, data"),
+    "truncation stores no zeros": replaced("tree.truncate", "bytes(PAGE - inside)", "data[inside:]"),
+    "truncation on a page edge stores": replaced("tree.truncate", " and inside:", ":"),
+    "truncation to the same size cuts": replaced(
+        "tree.truncate",
+        "if call.size < node.size:",
+        "if call.size <= node.size:",
+    ),
+    "cut with its fields exchanged": replaced(
+        "rules.cut_request",
+        "put(descriptor, 4) + put(size, 4)",
+        "put(size, 4) + put(descriptor, 4)",
+    ),
+    "truncation leaves the cursor": dropped("tree.truncate", "file.cursor ="),
+    "truncation puts the cursor at the end": replaced("tree.truncate", "min(file.cursor, call.size)", "call.size"),
+    "truncation is done with the size": replaced("tree.truncate", "Done(0)", "Done(call.size)"),
+    # replies
+    "a status of another length": dropped("tree.ask_status", "stop(1"),
+    "2 before 1": delayed("tree.ask_status", "stop(1", "stop(2"),
+    "a status is unsigned": replaced("tree.ask_status", "!= expected", "> expected"),
+    "any status but a negative one": replaced("tree.ask_status", "!= expected", "< 0"),
+    "a store's status is 0": replaced("tree.store_page", "expected=PAGE", "expected=0"),
+    "an id of another length": dropped("tree.ask_id", "stop(1"),
+    "id 0": replaced("tree.ask_id", "id == 0 or ", ""),
+    "a held id": replaced("tree.ask_id", "node.id == id for", "id == 1 for"),
+    "the root's id": replaced("tree.ask_id", "in self.nodes)", "in self.nodes[1:])"),
+    "an id may not be large": replaced("tree.ask_id", "id == 0 or", "id == 0 or id >> 31 or"),
+    "a descriptor of another length": dropped("tree.ask_descriptor", "stop(1"),
+    "descriptor 1,024": replaced("tree.ask_descriptor", "<= MAX_DESCRIPTOR", "<= MAX_DESCRIPTOR + 1"),
+    "no descriptor 1,023": replaced("tree.ask_descriptor", "<= MAX_DESCRIPTOR", "< MAX_DESCRIPTOR"),
+    "no descriptor 0": replaced("tree.ask_descriptor", "not 0 <=", "not 0 <"),
+    "a negative descriptor": replaced(
+        "tree.ask_descriptor",
+        "not 0 <= descriptor <= MAX_DESCRIPTOR",
+        "descriptor > MAX_DESCRIPTOR",
+    ),
+    "a descriptor that another file has": dropped("tree.ask_descriptor", "file.descriptor == descriptor"),
+    "every page": dropped("tree.fetch", "stop(5"),
+    "a digest of the bytes up to the end": replaced(
+        "tree.fetch",
+        "keep(reply)",
+        "keep(reply[: node.size - page * PAGE].ljust(PAGE, b'\\0'))",
+    ),
+    "a page of another length is a wrong page": dropped("tree.fetch", "stop(1"),
+    "a page of another place": replaced("tree.fetch", "!= node.pages[page]", "not in node.pages"),
+    "a stop is forgotten": dropped("tree.advance", "self.stopped = True"),
+    "every stat": dropped("tree.stat", "stop(6"),
+    "a stat's mode is not looked at": replaced(
+        "tree.stat",
+        "reply != rules.stat_reply(node)",
+        "reply != rules.stat_reply(replace(node, mode=reply[ID + 1]))",
+    ),
+    "a stat's size is not looked at": replaced(
+        "tree.stat",
+        "reply != rules.stat_reply(node)",
+        "reply[:6] != rules.stat_reply(node)[:6]",
+    ),
+    "a stat's length is not looked at": dropped("tree.stat", "stop(1"),
+    "a listing is only counted": replaced(
+        "tree.readdir",
+        "sorted(entries) != sorted(map(rules.entry, self.children(node)))",
+        "len(entries) != len(self.children(node))",
+    ),
+    "a listing's entries count once": replaced(
+        "tree.readdir",
+        "sorted(entries) != sorted(map(rules.entry, self.children(node)))",
+        "set(entries) != set(map(rules.entry, self.children(node)))",
+    ),
+    "one twice and one missing": replaced(
+        "tree.readdir",
+        "sorted(entries) != sorted(map(rules.entry, self.children(node)))",
+        "len(entries) != len(self.children(node)) or set(entries) - set(map(rules.entry, self.children(node)))",
+    ),
+    "a listing in the order of creation": replaced(
+        "tree.readdir",
+        "sorted(entries) != sorted(map(rules.entry, self.children(node)))",
+        "entries != list(map(rules.entry, self.children(node)))",
+    ),
+    # saves, loads, the image
+    "save never refused 34": dropped("tree.on_save", "refuse(34"),
+    "save needs a byte more": replaced("tree.on_save", "> event.buffer_len", ">= event.buffer_len"),
+    "save needs the longest buffer": replaced(
+        "tree.on_save",
+        "len(image) > event.buffer_len",
+        "event.buffer_len < 44_776",
+    ),
+    "save with open files": dropped("tree.on_save", "refuse(16"),
+    "34 before 16": delayed("tree.on_save", "refuse(16", "refuse(34"),
+    "load with open files": dropped("tree.on_load", "refuse(16"),
+    "74 before 16": delayed("tree.on_load", "refuse(16", "refuse(74"),
+    "84 before 74": delayed("tree.on_load", "refuse(74", "refuse(84"),
+    "84 for 74": replaced("tree.on_load", "refuse(74, ", "refuse(84, "),
+    "74 for 84": replaced("tree.on_load", "refuse(84, ", "refuse(74, "),
+    "a part of a digest": replaced(
+        "tree.on_load",
+        "len(event.digest) != DIGEST or digest(event.image) != event.digest",
+        "not digest(event.image).startswith(event.digest)",
+    ),
+    "a digest with more behind": replaced(
+        "tree.on_load",
+        "len(event.digest) != DIGEST or digest(event.image) != event.digest",
+        "digest(event.image) != event.digest[:DIGEST]",
+    ),
+    "a load changes nothing": dropped("tree.on_load", "self.nodes ="),
+    "the digests of an image in reverse": replaced("image.read_image", "iter(digests)", "iter(digests[::-1])"),
+    "an image's parent before its id": replaced(
+        "image.record",
+        "put(node.id, ID) + put(node.parent, ID)",
+        "put(node.parent, ID) + put(node.id, ID)",
+    ),
+    "an image of 257 nodes": replaced("image.is_sound", "<= MAX_NODES", "<= MAX_NODES + 1"),
+    "an image of 255 nodes": replaced("image.is_sound", "<= MAX_NODES", "< MAX_NODES"),
+    "an image's root of any id": replaced("image.is_root", "(node.id, ", "(1, "),
+    "an image's root of any parent": replaced("image.is_root", "node.parent, ", "0, "),
+    "an image's root of any kind": replaced("image.is_root", "node.kind, ", "DIRECTORY, "),
+    "an image's root with a name": replaced("image.is_root", "node.name)", 'b"")'),
+    "an image's root of mode 7": replaced("image.is_root", "(node.id, ", "(node.mode // 7, "),
+    "an image's mode 8": replaced("image.within_limits", "<= MAX_MODE", "<= MAX_MODE + 1"),
+    "an image's kind 3": replaced("image.within_limits", "DIRECTORY: 0", "DIRECTORY: 0, 3: 0"),
+    "an image's directory of a size": replaced("image.within_limits", "DIRECTORY: 0", "DIRECTORY: MAX_SIZE"),
+    "an image's file of 65,537": replaced("image.within_limits", "FILE: MAX_SIZE", "FILE: MAX_SIZE + 1"),
+    "an image's file of 65,535": replaced("image.within_limits", "FILE: MAX_SIZE", "FILE: MAX_SIZE - 1"),
+    "an image's name of 33": replaced("image.is_sound", "<= MAX_NAME", "<= MAX_NAME + 1"),
+    "an image's name of any form": replaced("image.is_sound", "is_name(node.name) and ", ""),
+    "an image's name with a slash": replaced("rules.is_name", ' and b"/" not in name', ""),
+    "an image's id 0": dropped("image.is_sound", "0 not in"),
+    "an image's ids twice": dropped("image.is_sound", "{node.id for"),
+    "an image's parent is a file": replaced("image.parents_come_first", "node.kind == DIRECTORY", "node.kind"),
+    "an image's parent is later": replaced(
+        "image.parents_come_first",
+        "{nodes[0].id}",
+        "{node.id for node in nodes if node.kind == DIRECTORY}",
+    ),
+    "an image's sibling names twice": dropped("image.is_sound", "(node.parent, node.name)"),
+    "an image's names differ everywhere": replaced("image.is_sound", "(node.parent, node.name)", "node.name"),
+    "an image's path of 256": dropped("image.is_sound", "MAX_PATH"),
+    "no image's path of 255": replaced("image.is_sound", "<= MAX_PATH", "< MAX_PATH"),
+    "an image's second count is larger": replaced("image.is_sound", "digest_count == sum", "digest_count >= sum"),
+    "an image of 1,025 pages": dropped("image.is_sound", "MAX_PAGES"),
+    "an image goes on": replaced("image.read_image", "reader.at != len(data) or ", ""),
+}
+
+
+def mutated(source, function, change):
+    """A module's text with a change in one function, or anywhere where none is named."""
+    if not function:
+        return change(source)
+    functions = [node for node in ast.walk(ast.parse(source)) if isinstance(node, ast.FunctionDef)]
+    [found] = [node for node in functions if node.name == function]
+    lines = source.splitlines(keepends=True)
+    first, last = found.lineno - 1, found.end_lineno
+    return "".join([*lines[:first], change("".join(lines[first:last])), *lines[last:]])
+
+
+class Mutant:
+    """A copy of the model, as far as a desk needs it, in a directory and with one mutation."""
+
+    def __init__(self, name, directory):
+        place, change = MUTATIONS[name]
+        module, _, function = place.partition(".")
+        self.package = Path(directory) / "model"
+        self.package.mkdir()
+        for copied in COPIED:
+            shutil.copy(PACKAGE / f"{copied}.py", self.package)
+        file = self.package / f"{module}.py"
+        clean = file.read_text()
+        file.write_text(mutated(clean, function, change))
+        assert file.read_text() != clean, name
+
+    def guard(self):
+        """The function that makes the mutant's guard; events and outcomes are the clean model's."""
+        for name in [name for name in sys.modules if name.partition(".")[0] == "mutant"]:
+            del sys.modules[name]
+        spec = importlib.util.spec_from_file_location(
+            "mutant", self.package / "__init__.py", submodule_search_locations=[str(self.package)]
+        )
+        sys.modules["mutant"] = importlib.util.module_from_spec(spec)
+        sys.modules["mutant.events"] = events
+        return importlib.import_module("mutant.tree").guard
+
+
+def differs(make_guard, recording):
+    """Whether a guard answers a recording in another way or ends with other tables."""
+    guard = make_guard()
+    answered = all(guard.step(event) == outcome for event, outcome in recording.steps)
+    return not answered or guard.tables() != recording.guard.tables()
+
+
+def caught_by(name, recordings):
+    """The seed of a recording that tells a mutation from the clean model, or None; that one is then tried first."""
+    with tempfile.TemporaryDirectory() as directory:
+        guard = Mutant(name, directory).guard()
+        for i, (seed, recording) in enumerate(recordings):
+            if differs(guard, recording):
+                recordings.insert(0, recordings.pop(i))
+                return seed
+    return None
+
+
+def main():
+    recordings = [(seed, generate(seed)) for seed in SEEDS]
+    for name in MUTATIONS:
+        print(f"{name}: {caught_by(name, recordings)}")
+
+
+if __name__ == "__main__":
+    main()

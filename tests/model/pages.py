@@ -1,0 +1,220 @@
+"""Requests and right replies, written out by hand: which pages a call fetches and stores, in which order and with
+which sizes, and what is left afterwards. Document 01, 'Requests and replies'."""
+
+from . import calls
+from .edges import FULL, crowd
+from .events import Load, Reply, Save
+from .rules import ANSWER, PAGE, put
+
+A, B, C = (bytes([byte]) * PAGE for byte in b"ABC")
+STORED = put(PAGE, 4)
+DONE = put(0, 4)
+
+
+def fetch(page):
+    return "ask " + (b"\6" + put(7, 4) + put(page, 4)).hex()
+
+
+def store(page, size, data):
+    return "ask " + (b"\7" + put(7, 4) + put(page, 4) + put(size, 4) + data.ljust(PAGE, b"\0")).hex()
+
+
+def cut(size):
+    return "ask " + (b"\x08" + put(7, 4) + put(size, 4)).hex()
+
+
+def opened(s, data=b""):
+    """The file /a with id 2 and descriptor 7, filled and with its cursor at 0."""
+    s.host.new_descriptor = lambda: 7
+    s.expect_end("done 2", calls.create(7, b"/a"))
+    s.expect_end("done 2", calls.open_(3, b"/a"))
+    s.do(calls.write(2, data))
+    s.expect("done 0", calls.seek(2, 0))
+
+
+def write_new(s):
+    opened(s)
+    s.expect(store(0, 3, b"abc"), calls.write(2, b"abc"))
+    s.expect("done 3", Reply(STORED))
+    s.expect(fetch(0), calls.write(2, b"de"))
+    s.expect(store(0, 5, b"abcde"), Reply(b"abc".ljust(PAGE, b"\0")))
+    s.expect("done 2", Reply(STORED))
+
+
+def write_over_everything(s):
+    """No byte below the old end is left, so nothing is fetched."""
+    opened(s, b"abc")
+    s.expect(store(0, 3, b"xyz"), calls.write(2, b"xyz"))
+    s.expect("done 3", Reply(STORED))
+
+
+def write_over_all_but_the_last(s):
+    opened(s, b"abc")
+    s.expect(fetch(0), calls.write(2, b"xy"))
+    s.expect(store(0, 3, b"xyc"), Reply(b"abc".ljust(PAGE, b"\0")))
+    s.expect("done 2", Reply(STORED))
+
+
+def write_over_pages(s):
+    """The first page is kept in part, the second overwritten, the third kept in part: fetched are the outer two."""
+    opened(s, A + B + C[:10])
+    s.expect("done 1023", calls.seek(2, PAGE - 1))
+    s.expect(fetch(0), calls.write(2, b"x" * (PAGE + 2)))
+    s.expect(store(0, 2 * PAGE + 10, A[:-1] + b"x"), Reply(A))
+    s.expect(store(1, 2 * PAGE + 10, b"x" * PAGE), Reply(STORED))
+    s.expect(fetch(2), Reply(STORED))
+    s.expect(store(2, 2 * PAGE + 10, b"x" + C[1:10]), Reply(C[:10].ljust(PAGE, b"\0")))
+    s.expect("done 1026", Reply(STORED))
+    s.expect(fetch(2), calls.read(2, 100))
+    s.expect(f"done 9 {C[:9].hex()}", Reply((b"x" + C[1:10]).ljust(PAGE, b"\0")))
+
+
+def write_beyond_the_end(s):
+    """The size sent grows with the bytes written so far."""
+    opened(s, A[:1000])
+    s.expect("done 1000", calls.seek(2, 1000))
+    s.expect(fetch(0), calls.write(2, b"x" * 2000))
+    s.expect(store(0, PAGE, A[:1000] + b"x" * 24), Reply(A[:1000].ljust(PAGE, b"\0")))
+    s.expect(store(1, 2 * PAGE, b"x" * PAGE), Reply(STORED))
+    s.expect(store(2, 3000, b"x" * 952), Reply(STORED))
+    s.expect("done 2000", Reply(STORED))
+    s.expect("ask 0d2f61", calls.stat(b"/a"))
+    s.expect("done 3000 020000000107b80b0000", Reply(bytes.fromhex("020000000107b80b0000")))
+
+
+def write_through_a_write_only_handle(s):
+    handle = s.file(b"/a", b"abc", rights=2)
+    s.expect("done 1", calls.seek(handle, 1))
+    s.expect_end("done 1", calls.write(handle, b"x"))
+
+
+def read_five_pages(s):
+    opened(s, A + B + C + A)
+    s.expect("done 4096", calls.seek(2, 4 * PAGE))
+    s.expect(store(4, 4 * PAGE + 2, b"xy"), calls.write(2, b"xy"))
+    s.expect("done 2", Reply(STORED))
+    s.expect("done 1", calls.seek(2, 1))
+    s.expect(fetch(0), calls.read(2, 4096))
+    for page, data in enumerate((A, B, C, A), start=1):
+        s.expect(fetch(page), Reply(data))
+    s.expect(f"done 4096 {(A[1:] + B + C + A).hex()}78", Reply(b"xy".ljust(PAGE, b"\0")))
+    s.expect(fetch(4), calls.read(2, 4096))
+    s.expect("done 1 79", Reply(b"xy".ljust(PAGE, b"\0")))
+    s.expect("done 0", calls.read(2, 4096))
+
+
+def truncate_inside_a_page(s):
+    opened(s, A + B + C[:10])
+    s.expect("done 2000", calls.seek(2, 2000))
+    s.expect(fetch(1), calls.truncate(2, PAGE + 1))
+    s.expect(store(1, 2 * PAGE + 10, b"B"), Reply(B))
+    s.expect(cut(PAGE + 1), Reply(STORED))
+    s.expect("done 0", Reply(DONE))
+    s.expect("done 0", calls.read(2, 100))
+    s.expect("refused 22", calls.seek(2, PAGE + 2))
+    s.expect("done 1024", calls.seek(2, PAGE))
+    s.expect(fetch(1), calls.read(2, 100))
+    s.expect("done 1 42", Reply(b"B".ljust(PAGE, b"\0")))
+
+
+def truncate_on_an_edge(s):
+    opened(s, A + B[:10])
+    s.expect("done 10", calls.seek(2, 10))
+    s.expect(cut(PAGE), calls.truncate(2, PAGE))
+    s.expect("done 0", Reply(DONE))
+    s.expect("done 0", calls.truncate(2, PAGE))
+    s.expect(fetch(0), calls.read(2, 1))
+    s.expect("done 1 41", Reply(A))
+    s.expect(cut(0), calls.truncate(2, 0))
+    s.expect("done 0", Reply(DONE))
+    s.expect(store(0, 1, b"x"), calls.write(2, b"x"))
+
+
+def nothing_sent(s):
+    opened(s, b"abc")
+    for call in (calls.read(2, 0), calls.write(2, b""), calls.truncate(2, 3), calls.seek(2, 0)):
+        s.expect("done 0", call)
+    s.expect("done 3", calls.seek(2, 3))
+    s.expect("done 0", calls.read(2, 5))
+
+
+def ids(s):
+    """Every id but 0 and those held is good, also that of a removed node."""
+    for id in (2, 0xFFFF_FFFF, 0xFFFF_FFE4, 0x8000_0000):
+        s.expect("ask", calls.mkdir(7, b"/%d" % id))
+        s.expect(f"done {id}", Reply(put(id, 4)))
+    s.expect_end("done 0", calls.rmdir(b"/4294967295"))
+    s.expect("ask", calls.create(7, b"/a"))
+    s.expect("done 4294967295", Reply(put(0xFFFF_FFFF, 4)))
+    s.expect("ask", calls.open_(3, b"/a"))
+    s.expect("done 4294967295", Reply(put(0, 4)))
+    s.expect("ask 0400000000", calls.close(0xFFFF_FFFF))
+
+
+def descriptors(s):
+    """Every descriptor from 0 to 1,023 is good, also that of a closed file."""
+    for name in (b"/a", b"/b"):
+        s.do(calls.create(7, name))
+    for name, handle, descriptor in ((b"/a", 2, 1023), (b"/b", 3, 0)):
+        s.host.new_descriptor = lambda: descriptor
+        s.expect_end(f"done {handle}", calls.open_(1, name))
+    s.expect("ask 04ff030000", calls.close(2))
+    s.expect("done 0", Reply(DONE))
+    s.expect("ask", calls.open_(1, b"/a"))
+    s.expect("done 2", Reply(put(1023, 4)))
+
+
+def listings(s):
+    s.expect("ask 0c2f", calls.readdir(b"/"))
+    s.expect("done 0", Reply(b""))
+    s.do(calls.mkdir(7, b"/d"))
+    s.expect("ask", calls.readdir(b"/d"))
+    s.expect("done 0", Reply(b""))
+    s.expect("ask", calls.stat(b"/d"))
+    s.expect("done 0 " + s.truth.hex(), Reply(s.truth))
+
+
+def longest_listing(s):
+    s.load(crowd())
+    s.expect("ask", calls.readdir(b"/"))
+    assert len(s.truth) == ANSWER
+    s.expect("done 255", Reply(s.truth))
+
+
+def rights_outlive_chmod(s):
+    handle = s.file(b"/a", b"abc")
+    s.expect_end("done 0", calls.chmod(0, b"/a"))
+    s.expect("done 0", calls.seek(handle, 0))
+    s.expect_end("done 3 616263", calls.read(handle, 3))
+    s.expect_end("done 1", calls.write(handle, b"d"))
+
+
+def saves_and_loads(s):
+    """A load goes back to the nodes, modes and pages of its save."""
+    handle = s.file(b"/a", A + b"x")
+    s.do(calls.close(handle))
+    first = s.send(Save(1000))
+    s.do(calls.open_(2, b"/a"))
+    s.do(calls.write(handle, b"y"))
+    s.do(calls.close(handle))
+    s.do(calls.chmod(4, b"/a"))
+    second = s.send(Save(1000))
+    for saved, data, mode in ((first, A, 7), (second, b"y" + A[1:], 4)):
+        s.expect("done 0", Load(saved.data, saved.digest))
+        s.expect_end(f"done 1025 {put(handle, 4).hex()}010{mode}01040000", calls.stat(b"/a"))
+        s.do(calls.open_(1, b"/a"))
+        s.expect_end(f"done 1024 {data.hex()}", calls.read(handle, PAGE))
+        s.do(calls.close(handle))
+
+
+def longest_image(s):
+    s.load(crowd(*FULL))
+    s.expect("refused 34", Save(44_775))
+    s.expect("done 44776", Save(44_776))
+
+
+PAGES = [
+    write_new, write_over_everything, write_over_all_but_the_last, write_over_pages, write_beyond_the_end,
+    write_through_a_write_only_handle, read_five_pages, truncate_inside_a_page, truncate_on_an_edge, nothing_sent, ids,
+    descriptors, listings, longest_listing, rights_outlive_chmod, saves_and_loads, longest_image,
+]

@@ -1,0 +1,60 @@
+"""Demand 3 on samples: the guard answers as the reference tree does, and never stops under an honest host."""
+
+import unittest
+from random import Random
+
+from .edges import image, sample
+from .events import Done, Load, Save, Stopped
+from .generate import Generator
+from .script import Script, load_of
+from .transcripts import SCRIPTS
+from .tree import guard, tree
+
+SEEDS = range(10_000, 10_150)
+
+
+def of_saves(steps):
+    """The events up to the first load of an image that no save of the list gave."""
+    saved, events = set(), []
+    for event, outcome in steps:
+        if isinstance(event, Save) and isinstance(outcome, Done):
+            saved.add(outcome.digest)
+        if isinstance(event, Load) and isinstance(outcome, Done) and event.digest not in saved:
+            break
+        events.append(event)
+    return events
+
+
+class Agreement(unittest.TestCase):
+    def agree(self, events):
+        one, other = guard(), tree()
+        for event in events:
+            self.assertEqual(one.step(event), other.step(event))
+        self.assertEqual(one.tables(), other.tables())
+
+    def test_generated(self):
+        for seed in SEEDS:
+            with self.subTest(seed):
+                self.agree(of_saves(Generator(Random(seed)).run(80).steps))
+
+    def test_scripted(self):
+        for script in SCRIPTS:
+            with self.subTest(script.__name__):
+                recording = Script()
+                script(recording)
+                self.agree(of_saves(recording.steps))
+
+    def test_honest_host_never_stops(self):
+        for seed in SEEDS:
+            generator = Generator(Random(seed))
+            generator.lie = 0
+            outcomes = [outcome for _, outcome in generator.run(80).steps]
+            self.assertFalse([outcome for outcome in outcomes if isinstance(outcome, Stopped)], seed)
+
+    def test_a_load_of_no_save_parts_them(self):
+        """It is done in both, changes nothing in the tree, and is taken by the guard."""
+        load = load_of(image(sample()))
+        one, other = guard(), tree()
+        self.assertEqual((one.step(load), other.step(load)), (Done(0), Done(0)))
+        self.assertEqual(other.tables(), tree().tables())
+        self.assertEqual(len(one.nodes), len(sample()))

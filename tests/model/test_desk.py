@@ -1,0 +1,50 @@
+"""The line protocol: document 01's sample, and lines of every kind."""
+
+import io
+import sys
+import unittest
+from unittest import mock
+
+from . import desk
+from .trials import DESK_INPUT, DESK_OUTPUT
+
+
+def printed(data):
+    """What the program prints for an input."""
+    out = io.StringIO()
+    with mock.patch.object(sys, "stdin", io.TextIOWrapper(io.BytesIO(data))), mock.patch.object(sys, "stdout", out):
+        desk.main()
+    return out.getvalue().encode()
+
+
+class Desk(unittest.TestCase):
+    def test_sample(self):
+        self.assertEqual(printed(DESK_INPUT), DESK_OUTPUT)
+
+    def test_last_line_without_line_feed(self):
+        self.assertEqual(printed(DESK_INPUT[:-1]), DESK_OUTPUT)
+        self.assertEqual(printed(b""), b"")
+        self.assertEqual(printed(b"\n"), b"bad line\n")
+        self.assertEqual(printed(b"c"), b"bad line\n")
+
+    def test_bad_lines(self):
+        for line in (
+            b"", b"c", b"r", b"x", b" ", b"c0d2f", b"c  0d2f", b" c 0d2f", b"c 0d2f ", b"c 0d2", b"c 0D2F", b"C 0d2f",
+            b"c\t0d2f", b"c 0d2f\r", b"c 0d2f\0", b"\0", b"c 0g", b"c 0d 2f", b"\xff\xfe", b"s 23",
+            b"c " + b"00" * 9691, b"c " + b"0" * 19381, b"c " + b"0" * 100_000,
+        ):
+            with self.subTest(line[:20]):
+                self.assertEqual(desk.answers([line]), ["bad line"])
+
+    def test_good_lines(self):
+        for line, answer in (
+            (b"c ", "refused 22"), (b"r ", "refused 61"), (b"c 0d2f", "ask 0d2f"), (b"c " + b"00" * 9690, "refused 22"),
+            (b"r " + b"00" * 9690, "refused 61"),
+        ):
+            self.assertEqual(desk.answers([line]), [answer])
+
+    def test_a_bad_line_never_reaches_the_guard(self):
+        stat = "01000000020700000000"
+        lines = ["c 0d2f", "r 0", f"r {stat}", "c 0d2f", "r ", "r 0", "c 0d2f"]
+        answers = ["ask 0d2f", "bad line", f"done 0 {stat}", "ask 0d2f", "stopped 1", "bad line", "refused 5"]
+        self.assertEqual(desk.answers(map(str.encode, lines)), answers)

@@ -1,0 +1,17 @@
+"""The generated lists tell every wrong model from the clean one."""
+
+import unittest
+
+from .generate import generate
+from .mutations import MUTATIONS, SEEDS, caught_by, differs
+from .tree import guard
+
+
+class Mutations(unittest.TestCase):
+    def test_every_mutation_is_caught(self):
+        recordings = [(seed, generate(seed)) for seed in SEEDS]
+        survivors = [name for name in MUTATIONS if caught_by(name, recordings) is None]
+        self.assertEqual(survivors, [])
+
+    def test_the_clean_model_is_not(self):
+        self.assertFalse(any(differs(guard, generate(seed)) for seed in SEEDS[:50]))

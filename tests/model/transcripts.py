@@ -1,0 +1,98 @@
+"""Lists of events with their answers as a file, for a program that replays them.
+
+    python3 -m model.transcripts > FILE      the same file each time: every script, every dishonest reply, fixed seeds
+
+One line is one thing; its first character says which. Fields stand one blank apart, numbers are decimal, bytes are
+lower-case hexadecimal, and no bytes are no digits (`c `, `l  `). No line has more than 90,000 characters.
+
+    f NAME              a fresh guard, and buffers of 9,690 and 1,037 bytes; a list of this name begins
+    b ANSWER REQUEST    settings: the lengths of both buffers for the calls and replies that follow
+    c CALL              a call
+    r REPLY             a reply
+    s LENGTH            a save into a buffer of this length
+    l IMAGE DIGEST      a load
+    = ANSWER            below each c, r, s and l: what comes back, in deskrun's words; for a save that is done
+                        `done LENGTH IMAGE DIGEST`
+
+A later kind of event or setting takes a letter of its own, so stored lines stay as they are.
+"""
+
+from . import dishonest, numbers, pages, trials
+from .events import Call, Load, Reply, Save
+from .generate import generate
+from .rules import ANSWER, REQUEST
+from .script import Script
+
+SCRIPTS = [*trials.TRIALS, *numbers.NUMBERS, *numbers.NEIGHBOURS, *pages.PAGES]
+SEEDS = range(100)
+
+
+def recordings():
+    """Every list of the file, with its name."""
+    for script in SCRIPTS:
+        recording = Script()
+        script(recording)
+        yield script.__name__, recording
+    yield from dishonest.dishonest_lists()
+    for seed in SEEDS:
+        yield f"seed {seed}", generate(seed)
+
+
+def write_list(name, steps):
+    """The lines of one list."""
+    yield f"f {name}"
+    buffers = ANSWER, REQUEST
+    for event, outcome in steps:
+        if isinstance(event, (Call, Reply)) and buffers != (event.answer_len, event.request_len):
+            buffers = event.answer_len, event.request_len
+            yield "b {} {}".format(*buffers)
+        yield event_line(event)
+        yield f"= {outcome}"
+
+
+def event_line(event):
+    match event:
+        case Call():
+            return f"c {event.data.hex()}"
+        case Reply():
+            return f"r {event.data.hex()}"
+        case Save():
+            return f"s {event.buffer_len}"
+        case Load():
+            return f"l {event.image.hex()} {event.digest.hex()}"
+
+
+def replay(lines, make_guard):
+    """The answers of guards to the lines of a file, beside those that stand there."""
+    guard, buffers, event = None, (ANSWER, REQUEST), None
+    for line in lines:
+        letter, fields = line[0], line[2:].split(" ")
+        match letter:
+            case "f":
+                guard, buffers = make_guard(), (ANSWER, REQUEST)
+            case "b":
+                buffers = tuple(map(int, fields))
+            case "c":
+                event = Call(bytes.fromhex(fields[0]), *buffers)
+            case "r":
+                event = Reply(bytes.fromhex(fields[0]), *buffers)
+            case "s":
+                event = Save(int(fields[0]))
+            case "l":
+                event = Load(*map(bytes.fromhex, fields))
+            case "=":
+                yield str(guard.step(event)), line[2:]
+
+
+def all_lines():
+    for name, recording in recordings():
+        yield from write_list(name, recording.steps)
+
+
+def main():
+    for line in all_lines():
+        print(line)
+
+
+if __name__ == "__main__":
+    main()
