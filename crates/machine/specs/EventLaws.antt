@@ -12,8 +12,9 @@ use borrow.Author.Tests.{ltb-false}
 use Rattle.lists.specs.Pick.{pick, pick-ind}
 use Rattle.lists.specs.Equal.{or-fst, or-snd}
 use Rattle.lists.specs.All.{All, both, none}
+use Rattle.lists.specs.Search.{without}
 use Rattle.lists.specs.Checks.{Check, Passed, First, decide, decide-passed, decide-first, decide-ind, decide-exactly, decide-append, decide-map}
-use Rattle.filesystem.specs.Tables.{PAGE-BYTES}
+use Rattle.filesystem.specs.Tables.{PAGE-BYTES, Node, Tables}
 use Rattle.filesystem.specs.Image.{imageLength}
 use Rattle.rules.specs.Pages.{Change, first, last, fetches, cuts}
 use Rattle.rules.specs.Requests.{asked, Pending, idle, creating, opening, closing, removing, changing, listing, stating, reading, fetching, storing, cutting}
@@ -63,6 +64,26 @@ module _ (c : Config) (S : Store) where
   pub only-done-changes : (s : State S) (e : Event) → isDoneAnswer (step c S s e .outcome .answer) ≡ false → Unchanged s (step c S s e .state)
   unfolding step
   only-done-changes s e = move-keeps s (judge c (s .skeleton) e)
+
+  -- Clause c: what a rule says is done is done, and nothing else: the tables are the rule's, a request goes out and nothing is said to be done.
+  pub finished : (s : State S) (t : Tables) (n : ℕ) (b : List ℕ)
+      → (apply c S s (finish t n b) .outcome ≡ plain (done n b)) × (apply c S s (finish t n b) .state .skeleton .tables ≡ t)
+  unfolding apply
+  finished s t n b = (refl, refl)
+
+  pub added : (s : State S) (n : Node)
+      → (apply c S s (add n) .outcome ≡ plain (done (n .id) [])) × (apply c S s (add n) .state .skeleton .tables .nodes ≡ s .skeleton .tables .nodes ++ (n ∷ []))
+  unfolding apply
+  added s n = (refl, refl)
+
+  pub deleted : (s : State S) (k : ℕ)
+      → (apply c S s (delete k) .outcome ≡ plain (done 0 [])) × (apply c S s (delete k) .state .skeleton .tables .nodes ≡ without k (s .skeleton .tables .nodes))
+  unfolding apply
+  deleted s k = (refl, refl)
+
+  pub requested : (s : State S) (p : Pending) (q : List ℕ) → (apply c S s (send p q) .outcome ≡ plain (ask q)) × (apply c S s (send p q) .state .skeleton .pending ≡ p)
+  unfolding apply
+  requested s p q = (refl, refl)
 
   -- After a stop every event of every list is refused 5, and changes nothing.
   pub stopped-for-good : (s : State S) (es : List Event) → s .skeleton .stopped ≡ true

@@ -13,7 +13,7 @@ use Rattle.lists.specs.Pick.{pick, pick-false, pick-ind}
 use Rattle.lists.specs.Equal.{or-both}
 use Rattle.lists.specs.All.{All, both, none as all-none, all-append}
 use Rattle.lists.specs.Search.{any, place}
-use Rattle.lists.specs.Checks.{Check, Passed, First, here, decide, decide-ind, decide-exactly}
+use Rattle.lists.specs.Checks.{Check, Passed, First, here, decide, decide-passed, decide-ind, decide-exactly}
 use Rattle.filesystem.specs.Tables.{NODES, OPEN-FILES, NAME-BYTES, PATH-BYTES, Node, Tables, freshTables, nodeAt, findChild}
 use Rattle.filesystem.specs.Paths.{Path, joined, pathBytes, tooLong, childAt, walk, walkChecks, parentChecks, parentOf}
 use Rattle.rules.specs.Calls.{Call, create, mkdir, openAs, close, seek, read, write, truncate, remove, rmdir, chmod, readdir, stat, callBytes, readCall}
@@ -173,6 +173,12 @@ module _ (c : Config) (sk : Skeleton) where
   halt-reason e n =
       decide-ind refuse (λ m. m ≡ halt n → isReason n ≡ true) (eventChecks c sk e) (eventAction c sk e)
       (λ m f q. absurd (let z : _≡_ {A = ℕ} 0 1 = cc in omega arith)) (λ p q. subst Acts q (action-acts e p))
+
+-- Clause c: a reply that no reason stops is acted on.
+pub reply-goes : (c : Config) (sk : Skeleton) (r : List ℕ) (a q : ℕ) → Passed (eventChecks c sk (reply r a q)) → Passed (replyChecks (c .width) (sk .tables) r (sk .pending))
+    → judge c sk (reply r a q) ≡ replyAction (c .width) (sk .tables) r (sk .pending)
+unfolding judge eventAction
+reply-goes c sk r a q p h = decide-passed refuse _ _ p ∙ decide-passed halt _ _ h
 
 -- Clause c: no false 28 or 24, and seek.
 module _ (t : Tables) where
