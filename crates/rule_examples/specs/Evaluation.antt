@@ -1,0 +1,130 @@
+-- How rows are evaluated: on the guard and on the reference tree, by computation.
+use mathlib.Core.Bool.{Bool, true, false, _&&_}
+use mathlib.Core.List.{List, [], _∷_, map}
+use mathlib.Core.Option.{Option, some, none}
+use Prim.Native.Nat.{ℕ, _+_}
+use Prim.Native.String.{String}
+use lib.Dec.{eqb}
+use lib.ListN.{length, getD, take}
+use Rattle.lists.specs.Pick.{pick}
+use Rattle.lists.specs.Equal.{equal}
+use Rattle.lists.specs.Cells.{tab}
+use Rattle.lists.specs.Search.{every, any, unique, place, select, without}
+use Rattle.lists.specs.Rearranged.{isRearranged}
+use Rattle.lists.specs.Signed.{signed}
+use Rattle.lists.specs.LittleEndian.{encode, decode}
+use Rattle.lists.specs.Form.{bind, front, get₂, get-as, put-all, get-all, ended, whole}
+use Rattle.lists.specs.Checks.{decide}
+use Rattle.filesystem.specs.Tables.{Node, OpenFile, pagesFor, pageTotal, nodeAt, openAt, findId, findChild, children, findHandle, findDescriptor, setMode, setSize, setCursor}
+use Rattle.filesystem.specs.Rights.{coverTable, covers}
+use Rattle.filesystem.specs.Paths.{joined, pathBytes, componentForm, onto, split, afterSlash, readPath, tooLong, childAt, walk, walkChecks, parentChecks, parentOf, lastOf}
+use Rattle.filesystem.specs.Image.{nodeForm, imageForm, flatten, divide, climb, pathLength, inLimits, parentsEarlier, soundNodes, sound, print, recordsLength, imageLength, parse}
+use Rattle.rules.specs.Calls.{callBytes, byPath, byNumberAndPath, byHandle, byHandleAndNumber, byHandleAndBytes, readFields, readCall}
+use Rattle.rules.specs.Pages.{pageAt, pageOf, part, resized, splice, overlay, pagePart, first, last, fetches, fill, sizeSent, cuts, bytesAfter, sizeAfter, cursorAfter, numberOf}
+use Rattle.rules.specs.Requests.{closeRequest, fetchRequest, storeRequest, cutRequest, idle}
+use Rattle.rules.specs.Rules.{noRoom, callChecks, readAction, callAction, isNumber, isDescriptor, entryForm, sameEntry, isListing, statBytes, replyChecks, replyAction, isIdle, callOr, imageOr, isNone, eventChecks, eventAction, judge}
+use Rattle.rules.specs.Skeleton.{answerLength, requestLength, Answer, done, ask, refused, stopped, Outcome}
+use Rattle.machine.specs.Machine.{Store, State, readOn, finishChange, pagesStored, askStore, onPage, pagesFrom, apply, step, zeroDigest, replaced, guard}
+use Rattle.machine.specs.Tree.{tree, digestsOf, lookup, goBack}
+use Rattle.rule_examples.specs.Rows as Rows
+use Rattle.rule_examples.specs.Rows.{bytesOf, times, pagesOf, pages, digest, config, Item, World, lent, bytesIn, digestsIn, itsBytes, Expect, isDone, isSaved, asks, begins, carries, isRefused, isStopped, Line, _⇒_, holds, Row}
+
+-- does an answer meet what was expected?
+unfoldable pub answers : Expect → Answer → Bool
+answers (isDone n b) (done m c) = eqb n m && equal b c
+answers (isDone n b) (ask q) = false
+answers (isDone n b) (refused m) = false
+answers (isDone n b) (stopped m) = false
+answers (isSaved b) (done m c) = eqb (length b) m && equal b c
+answers (isSaved b) (ask q) = false
+answers (isSaved b) (refused m) = false
+answers (isSaved b) (stopped m) = false
+answers (asks b) (done m c) = false
+answers (asks b) (ask q) = equal b q
+answers (asks b) (refused m) = false
+answers (asks b) (stopped m) = false
+answers (begins b) (done m c) = false
+answers (begins b) (ask q) = equal b (take (length b) q)
+answers (begins b) (refused m) = false
+answers (begins b) (stopped m) = false
+answers (carries b ps) (done m c) = false
+answers (carries b ps) (ask q) = equal b (take (length b) q) && (eqb (length q) 1037 && every (λ p. eqb (getD q (length b + p .0) 256) (p .1)) ps)
+answers (carries b ps) (refused m) = false
+answers (carries b ps) (stopped m) = false
+answers (isRefused n) (done m c) = false
+answers (isRefused n) (ask q) = false
+answers (isRefused n) (refused m) = eqb n m
+answers (isRefused n) (stopped m) = false
+answers (isStopped n) (done m c) = false
+answers (isStopped n) (ask q) = false
+answers (isStopped n) (refused m) = false
+answers (isStopped n) (stopped m) = eqb n m
+
+-- only a save gives a digest, its image's
+unfoldable pub digestFor : Expect → List ℕ
+digestFor (isDone n b) = []
+digestFor (isSaved b) = digest b
+digestFor (asks b) = []
+digestFor (begins b) = []
+digestFor (carries b ps) = []
+digestFor (isRefused n) = []
+digestFor (isStopped n) = []
+
+abbrev pub meets : Expect → Outcome → Bool
+meets x o = answers x (o .answer) && equal (digestFor x) (o .digest)
+
+-- lists alike, element by element
+unfoldable pub alike : {A B : Type 0} → (A → B → Bool) → List A → List B → Bool
+alike same [] [] = true
+alike same [] (y ∷ ys) = false
+alike same (x ∷ xs) [] = false
+alike same (x ∷ xs) (y ∷ ys) = same x y && alike same xs ys
+
+abbrev pub sameNode : Node → Node → Bool
+sameNode m n =
+    eqb (m .id) (n .id) && (eqb (m .parent) (n .parent) && (eqb (m .kind) (n .kind) && (eqb (m .mode) (n .mode) && (eqb (m .size) (n .size)
+    && equal (m .name) (n .name)))))
+
+abbrev pub sameOpen : OpenFile → OpenFile → Bool
+sameOpen m n =
+    eqb (m .handle) (n .handle) && (eqb (m .descriptor) (n .descriptor) && (eqb (m .rights) (n .rights) && eqb (m .cursor) (n .cursor)))
+
+-- a store, and what it keeps of a file's bytes
+pub record Side : Type 1 where
+  pub store : Store
+  pub keeps : List ℕ → store .Content
+  pub isKept : List ℕ → store .Content → Bool
+
+abbrev pub guardSide : Side
+guardSide = record { store = guard config; keeps = λ b. map digest (pages b); isKept = λ b x. alike equal (map digest (pages b)) x }
+
+abbrev pub treeSide : Side
+treeSide = record { store = tree config; keeps = λ b. b; isKept = equal }
+
+module _ (S : Side) where
+  abbrev pub begun : World → State (S .store)
+  begun w = record {
+    skeleton = record { tables = record { nodes = map (λ i. i .node) (w .items); opens = w .opens }; pending = idle; stopped = false };
+    contents = map (λ i. S .keeps (bytesIn i)) (w .items);
+    progress = S .store .nothing;
+    saves = S .store .unsaved;
+  }
+
+  unfoldable pub isContent : Item → S .store .Content → Bool
+  isContent i x = elim (i .bytes) [ none ↦ true | some b ↦ S .isKept b x ]
+
+  unfoldable pub runs : State (S .store) → List Line → Bool
+  unfolding answers digestFor alike isContent bytesOf times pagesOf lent bytesIn digestsIn itsBytes Rows.joined step judge eventChecks eventAction callChecks callAction readAction replyChecks replyAction isIdle callOr isNone decide pick noRoom apply readOn finishChange pagesStored askStore onPage pagesFrom answerLength requestLength signed isNumber isDescriptor closeRequest fetchRequest storeRequest cutRequest pageAt overlay first last fetches fill sizeSent cuts sizeAfter cursorAfter numberOf callBytes byPath byNumberAndPath byHandle byHandleAndNumber byHandleAndBytes readFields readCall joined pathBytes componentForm onto split afterSlash readPath tooLong childAt walk walkChecks parentChecks parentOf lastOf coverTable covers pagesFor pageTotal nodeAt openAt findId findChild children findHandle findDescriptor setMode setSize setCursor bind front get₂ get-as get-all ended whole encode decode every any place select without tab equal imageOr unique put-all nodeForm imageForm flatten divide climb pathLength inLimits parentsEarlier soundNodes sound print recordsLength imageLength parse pageOf part resized splice pagePart bytesAfter zeroDigest replaced digestsOf lookup goBack entryForm sameEntry isListing statBytes isRearranged
+  runs s [] = true
+  runs s ((e ⇒ x) ∷ ls) = let r = step config (S .store) s e in meets x (r .outcome) && runs (r .state) ls
+  runs s (holds is os ∷ ls) =
+      alike (λ i n. sameNode (i .node) n) is (s .skeleton .tables .nodes)
+      && (alike isContent is (s .contents)
+      && (alike sameOpen os (s .skeleton .tables .opens) && runs s ls))
+
+-- the titles of the rows that do not hold on both
+unfoldable pub wrong : List Row → List String
+unfolding runs pick
+wrong [] = []
+wrong (r ∷ rs) =
+    pick (runs guardSide (begun guardSide (r .start)) (r .lines) && runs treeSide (begun treeSide (r .start)) (r .lines)) (wrong rs) (r .title ∷ wrong rs)
