@@ -3,3 +3,8 @@ pub mod Evaluation
 pub mod Forms
 pub mod CommonOrder
 pub mod Walk
+pub mod NewNodes
+pub mod Opening
+pub mod Removal
+pub mod Looking
+pub mod Handles
