@@ -2,10 +2,10 @@
 use mathlib.Core.Bool.{Bool, true, false, _&&_}
 use mathlib.Core.List.{List, [], _∷_, map}
 use mathlib.Core.Option.{Option, some, none}
-use Prim.Native.Nat.{ℕ, _+_}
+use Prim.Native.Nat.{ℕ, suc}
 use Prim.Native.String.{String}
 use lib.Dec.{eqb}
-use lib.ListN.{length, getD, take}
+use lib.ListN.{length, take}
 use Rattle.lists.specs.Pick.{pick}
 use Rattle.lists.specs.Equal.{equal}
 use Rattle.lists.specs.Cells.{tab}
@@ -27,7 +27,14 @@ use Rattle.rules.specs.Skeleton.{answerLength, requestLength, Answer, done, ask
 use Rattle.machine.specs.Machine.{Store, State, readOn, finishChange, pagesStored, askStore, onPage, pagesFrom, apply, step, zeroDigest, replaced, guard}
 use Rattle.machine.specs.Tree.{tree, digestsOf, lookup, goBack}
 use Rattle.rule_examples.specs.Rows as Rows
-use Rattle.rule_examples.specs.Rows.{bytesOf, times, pagesOf, pages, digest, config, Item, World, lent, bytesIn, digestsIn, itsBytes, Expect, isDone, isSaved, asks, begins, carries, isRefused, isStopped, Line, _⇒_, holds, Row}
+use Rattle.rule_examples.specs.Rows.{bytesOf, times, pagesOf, pages, ends, digest, placed, config, Item, World, lent, bytesIn, digestsIn, itsBytes, Expect, isDone, isSaved, asks, begins, carries, isRefused, isStopped, Line, _⇒_, holds, Row}
+
+-- 1,037 bytes, of which i are passed, with these at these places: in one pass, since a page is costly to make
+unfoldable pub scan : ℕ → List ℕ → List (ℕ × ℕ) → Bool
+scan i [] [] = eqb i 1037
+scan i [] (p ∷ ps) = false
+scan i (b ∷ s) [] = scan (suc i) s []
+scan i (b ∷ s) (p ∷ ps) = elim (eqb i (p .0)) [ true ↦ eqb b (p .1) && scan (suc i) s ps | false ↦ scan (suc i) s (p ∷ ps) ]
 
 -- does an answer meet what was expected?
 unfoldable pub answers : Expect → Answer → Bool
@@ -47,10 +54,10 @@ answers (begins b) (done m c) = false
 answers (begins b) (ask q) = equal b (take (length b) q)
 answers (begins b) (refused m) = false
 answers (begins b) (stopped m) = false
-answers (carries b ps) (done m c) = false
-answers (carries b ps) (ask q) = equal b (take (length b) q) && (eqb (length q) 1037 && every (λ p. eqb (getD q (length b + p .0) 256) (p .1)) ps)
-answers (carries b ps) (refused m) = false
-answers (carries b ps) (stopped m) = false
+answers (carries ps) (done m c) = false
+answers (carries ps) (ask q) = scan 0 q ps
+answers (carries ps) (refused m) = false
+answers (carries ps) (stopped m) = false
 answers (isRefused n) (done m c) = false
 answers (isRefused n) (ask q) = false
 answers (isRefused n) (refused m) = eqb n m
@@ -66,7 +73,7 @@ digestFor (isDone n b) = []
 digestFor (isSaved b) = digest b
 digestFor (asks b) = []
 digestFor (begins b) = []
-digestFor (carries b ps) = []
+digestFor (carries ps) = []
 digestFor (isRefused n) = []
 digestFor (isStopped n) = []
 
@@ -92,29 +99,29 @@ sameOpen m n =
 -- a store, and what it keeps of a file's bytes
 pub record Side : Type 1 where
   pub store : Store
-  pub keeps : List ℕ → store .Content
-  pub isKept : List ℕ → store .Content → Bool
+  pub keeps : (size : ℕ) → List ℕ → store .Content
+  pub isKept : (size : ℕ) → List ℕ → store .Content → Bool
 
 abbrev pub guardSide : Side
-guardSide = record { store = guard config; keeps = λ b. map digest (pages b); isKept = λ b x. alike equal (map digest (pages b)) x }
+guardSide = record { store = guard config; keeps = λ n b. map digest (pages n b); isKept = λ n b x. alike equal (map digest (pages n b)) x }
 
 abbrev pub treeSide : Side
-treeSide = record { store = tree config; keeps = λ b. b; isKept = equal }
+treeSide = record { store = tree config; keeps = λ n b. b; isKept = λ n b x. equal b x }
 
 module _ (S : Side) where
   abbrev pub begun : World → State (S .store)
   begun w = record {
     skeleton = record { tables = record { nodes = map (λ i. i .node) (w .items); opens = w .opens }; pending = idle; stopped = false };
-    contents = map (λ i. S .keeps (bytesIn i)) (w .items);
+    contents = map (λ i. S .keeps (i .node .size) (bytesIn i)) (w .items);
     progress = S .store .nothing;
     saves = S .store .unsaved;
   }
 
   unfoldable pub isContent : Item → S .store .Content → Bool
-  isContent i x = elim (i .bytes) [ none ↦ true | some b ↦ S .isKept b x ]
+  isContent i x = elim (i .bytes) [ none ↦ true | some b ↦ S .isKept (i .node .size) b x ]
 
   unfoldable pub runs : State (S .store) → List Line → Bool
-  unfolding answers digestFor alike isContent bytesOf times pagesOf lent bytesIn digestsIn itsBytes Rows.joined step judge eventChecks eventAction callChecks callAction readAction replyChecks replyAction isIdle callOr isNone decide pick noRoom apply readOn finishChange pagesStored askStore onPage pagesFrom answerLength requestLength signed isNumber isDescriptor closeRequest fetchRequest storeRequest cutRequest pageAt overlay first last fetches fill sizeSent cuts sizeAfter cursorAfter numberOf callBytes byPath byNumberAndPath byHandle byHandleAndNumber byHandleAndBytes readFields readCall joined pathBytes componentForm onto split afterSlash readPath tooLong childAt walk walkChecks parentChecks parentOf lastOf coverTable covers pagesFor pageTotal nodeAt openAt findId findChild children findHandle findDescriptor setMode setSize setCursor bind front get₂ get-as get-all ended whole encode decode every any place select without tab equal imageOr unique put-all nodeForm imageForm flatten divide climb pathLength inLimits parentsEarlier soundNodes sound print recordsLength imageLength parse pageOf part resized splice pagePart bytesAfter zeroDigest replaced digestsOf lookup goBack entryForm sameEntry isListing statBytes isRearranged
+  unfolding scan answers digestFor alike isContent bytesOf times pagesOf ends digest placed lent bytesIn digestsIn itsBytes Rows.joined step judge eventChecks eventAction callChecks callAction readAction replyChecks replyAction isIdle callOr isNone decide pick noRoom apply readOn finishChange pagesStored askStore onPage pagesFrom answerLength requestLength signed isNumber isDescriptor closeRequest fetchRequest storeRequest cutRequest pageAt overlay first last fetches fill sizeSent cuts sizeAfter cursorAfter numberOf callBytes byPath byNumberAndPath byHandle byHandleAndNumber byHandleAndBytes readFields readCall joined pathBytes componentForm onto split afterSlash readPath tooLong childAt walk walkChecks parentChecks parentOf lastOf coverTable covers pagesFor pageTotal nodeAt openAt findId findChild children findHandle findDescriptor setMode setSize setCursor bind front get₂ get-as get-all ended whole encode decode every any place select without tab equal imageOr unique put-all nodeForm imageForm flatten divide climb pathLength inLimits parentsEarlier soundNodes sound print recordsLength imageLength parse pageOf part resized splice pagePart bytesAfter zeroDigest replaced digestsOf lookup goBack entryForm sameEntry isListing statBytes isRearranged
   runs s [] = true
   runs s ((e ⇒ x) ∷ ls) = let r = step config (S .store) s e in meets x (r .outcome) && runs (r .state) ls
   runs s (holds is os ∷ ls) =

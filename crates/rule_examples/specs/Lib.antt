@@ -8,3 +8,10 @@ pub mod Opening
 pub mod Removal
 pub mod Looking
 pub mod Handles
+pub mod Reads
+pub mod Writes
+pub mod Truncations
+pub mod Replies
+pub mod SaveLoad
+pub mod Soundness
+pub mod Limits

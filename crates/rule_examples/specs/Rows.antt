@@ -44,22 +44,27 @@ name n = times n "n"
 abbrev pub under : String → ℕ → String
 under p n = S._++_ p (S._++_ "/" (name n))
 
--- a file's pages, the last with zeros past the end
+-- the pages of a file of this size, zero past the bytes
 unfoldable pub pagesOf : ℕ → List ℕ → List (List ℕ)
 pagesOf zero b = []
 pagesOf (suc n) b = padded (take 1024 b) ∷ pagesOf n (drop 1024 b)
 
-abbrev pub pages : List ℕ → List (List ℕ)
-pages b = pagesOf ((length b + 1023) / 1024) b
+abbrev pub pages : (size : ℕ) → List ℕ → List (List ℕ)
+pages size b = pagesOf ((size + 1023) / 1024) b
 
--- a digest that costs little: the first byte, the last, and the length
-abbrev pub digest : List ℕ → List ℕ
-digest s = getD s 0 0 ∷ getD s (length s - 1) 0 ∷ length s % 256 ∷ length s / 256 % 256 ∷ many 28 0
+-- a digest that costs little: the first byte, the last, and the length, found in one pass
+unfoldable pub ends : (first last length : ℕ) → List ℕ → List ℕ
+ends f l n [] = f ∷ l ∷ n % 256 ∷ n / 256 % 256 ∷ many 28 0
+ends f l n (b ∷ s) = ends f b (suc n) s
+
+unfoldable pub digest : List ℕ → List ℕ
+digest [] = ends 0 0 0 []
+digest (b ∷ s) = ends b b 1 s
 
 abbrev pub config : Config
 config = record { digest = digest; width = 4 }
 
--- Nodes with what is in them. Of a `sized` file the bytes are not looked at.
+-- Nodes with what is in them. A `sparse` file has zeros behind these bytes; of a `sized` one the bytes are not looked at.
 pub record Item : Type 0 where
   pub node : Node
   pub bytes : Option (List ℕ)
@@ -72,6 +77,10 @@ folder i p m n = record { node = node i p 2 m 0 (bytesOf n); bytes = some [] }
 
 abbrev pub file : (id parent mode : ℕ) → String → List ℕ → Item
 file i p m n b = record { node = node i p 1 m (length b) (bytesOf n); bytes = some b }
+
+-- the tree's list ends early, which costs less: what is read past it is 0
+abbrev pub sparse : (id parent mode : ℕ) → String → (size : ℕ) → List ℕ → Item
+sparse i p m n s b = record { node = node i p 1 m s (bytesOf n); bytes = some b }
 
 abbrev pub sized : (id parent mode : ℕ) → String → (size : ℕ) → Item
 sized i p m n s = record { node = node i p 1 m s (bytesOf n); bytes = none }
@@ -180,7 +189,7 @@ bytesIn i = elim (i .bytes) [ none ↦ [] | some b ↦ b ]
 
 unfoldable pub digestsIn : List Item → List (List ℕ)
 digestsIn [] = []
-digestsIn (i ∷ is) = map digest (pages (bytesIn i)) ++ digestsIn is
+digestsIn (i ∷ is) = map digest (pages (i .node .size) (bytesIn i)) ++ digestsIn is
 
 abbrev pub section : List (List ℕ) → List ℕ
 section bs = four (length bs) ++ joined bs
@@ -195,12 +204,12 @@ abbrev pub loads : List ℕ → Event
 loads image = load image (digest image)
 
 -- What is expected: done with a number and bytes; a save's image with its digest; a request of these bytes; one that begins so; one of 1,037 bytes
--- that begins so and then has a page with these bytes at these places; a refusal; a stop.
+-- that has these bytes at these places, in rising order; a refusal; a stop.
 pub data Expect : Type 0 where
   isDone : (number : ℕ) (bytes : List ℕ) → Expect
   isSaved : (image : List ℕ) → Expect
   asks begins : (bytes : List ℕ) → Expect
-  carries : (bytes : List ℕ) (page : List (ℕ × ℕ)) → Expect
+  carries : (places : List (ℕ × ℕ)) → Expect
   isRefused isStopped : (number : ℕ) → Expect
 
 abbrev pub closes : (descriptor : ℕ) → Expect
@@ -213,12 +222,16 @@ fetches d i = asks (6 ∷ (four d ++ four i))
 abbrev pub stores : (descriptor page size : ℕ) → Expect
 stores d i s = begins (7 ∷ (four d ++ (four i ++ four s)))
 
-abbrev pub storesPage : (descriptor page size : ℕ) → List (ℕ × ℕ) → Expect
-storesPage d i s ps = carries (7 ∷ (four d ++ (four i ++ four s))) ps
+unfoldable pub placed : ℕ → List ℕ → List (ℕ × ℕ)
+placed i [] = []
+placed i (b ∷ s) = (i, b) ∷ placed (suc i) s
 
--- in place i the byte b
+abbrev pub storesPage : (descriptor page size : ℕ) → List (ℕ × ℕ) → Expect
+storesPage d i s ps = carries (placed 0 (7 ∷ (four d ++ (four i ++ four s))) ++ ps)
+
+-- in the page's place i the byte b
 abbrev pub has : (i b : ℕ) → ℕ × ℕ
-has i b = (i, b)
+has i b = (13 + i, b)
 
 abbrev pub cutsTo : (descriptor size : ℕ) → Expect
 cutsTo d s = asks (8 ∷ (four d ++ four s))
