@@ -27,13 +27,10 @@ rows =
     ∷ row "a read of all that remains, over a page's edge" (at 1022)
         (read 3 4096 ⇒ fetches 6 0 ∷ givesPage (1 ∷ 2 ∷ 3 ∷ []) ⇒ fetches 6 1 ∷ givesPage nothing ⇒ isDone 8 (many 8 0)
         ∷ holds (root ∷ sized 2 1 7 "a" 3 ∷ sized 3 1 7 "b" 1030 ∷ []) (opened 2 5 1 1022 ∷ opened 3 6 3 1030 ∷ []) ∷ [])
-    -- stop 5 'page', for each page of a read; the tables are those of before the call
-    ∷ row "stop 5: the second page of a read" (at 1023)
-        (read 3 2 ⇒ fetches 6 0 ∷ givesPage (1 ∷ 2 ∷ 3 ∷ []) ⇒ fetches 6 1 ∷ givesPage (9 ∷ []) ⇒ isStopped 5
+    -- stop 5 'page', for each page of a read; 'A page is 1,024 bytes, zero past the file's end'; the tables are those of before the call
+    ∷ row "stop 5: the second page of a read, past the file's end" (at 1023)
+        (read 3 2 ⇒ fetches 6 0 ∷ givesPage (1 ∷ 2 ∷ 3 ∷ []) ⇒ fetches 6 1 ∷ replies (many 1023 0 ++ (1 ∷ [])) ⇒ isStopped 5
         ∷ holds (root ∷ sized 2 1 7 "a" 3 ∷ sized 3 1 7 "b" 1030 ∷ []) (opened 2 5 1 1023 ∷ opened 3 6 3 1023 ∷ []) ∷ [])
-    -- 'A page is 1,024 bytes, zero past the file's end'
-    ∷ row "stop 5: a byte that is not 0 past the end" (at 0)
-        (read 2 1 ⇒ fetches 5 0 ∷ replies (1 ∷ 2 ∷ 3 ∷ (many 1020 0 ++ (1 ∷ []))) ⇒ isStopped 5 ∷ [])
     -- stop 1 'length', before 5
     ∷ row "stop 1: a page of 1,023 bytes" (at 0) (read 2 1 ⇒ fetches 5 0 ∷ replies (1 ∷ 2 ∷ 3 ∷ many 1020 0) ⇒ isStopped 1 ∷ [])
     ∷ row "stop 1: a page of 1,025 bytes" (at 0) (read 2 1 ⇒ fetches 5 0 ∷ replies (1 ∷ 2 ∷ 3 ∷ many 1022 0) ⇒ isStopped 1 ∷ [])
