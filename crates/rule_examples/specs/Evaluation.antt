@@ -26,8 +26,10 @@ use Rattle.rules.specs.Rules.{noRoom, callChecks, readAction, callAction, isNum
 use Rattle.rules.specs.Skeleton.{answerLength, requestLength, Answer, done, ask, refused, stopped, Outcome}
 use Rattle.machine.specs.Machine.{Store, State, readOn, finishChange, pagesStored, askStore, onPage, pagesFrom, apply, step, zeroDigest, replaced, guard}
 use Rattle.machine.specs.Tree.{tree, digestsOf, lookup, goBack}
-use Rattle.rule_examples.specs.Rows as Rows
-use Rattle.rule_examples.specs.Rows.{bytesOf, times, pagesOf, pages, ends, digest, placed, config, Item, World, lent, bytesIn, digestsIn, itsBytes, Expect, isDone, isSaved, asks, begins, carries, isRefused, isStopped, Line, _⇒_, holds, Row}
+use Rattle.rule_examples.specs.Bytes.{bytesOf, times, pagesOf, pages, ends, digest, config}
+use Rattle.rule_examples.specs.Given.{Item, Given, concatenated, bytesIn, digestsIn}
+use Rattle.rule_examples.specs.Rows.{placed, itsBytes, Expect, isDone, isSaved, asks, begins, carries, isRefused, isStopped, Line, _⇒_, holds, Row}
+use Rattle.rule_examples.specs.Events.{lent}
 
 -- 1,037 bytes, of which i are passed, with these at these places: in one pass, since a page is costly to make
 unfoldable pub scan : ℕ → List ℕ → List (ℕ × ℕ) → Bool
@@ -109,7 +111,7 @@ abbrev pub treeSide : Side
 treeSide = record { store = tree config; keeps = λ n b. b; isKept = λ n b x. equal b x }
 
 module _ (S : Side) where
-  abbrev pub begun : World → State (S .store)
+  abbrev pub begun : Given → State (S .store)
   begun w = record {
     skeleton = record { tables = record { nodes = map (λ i. i .node) (w .items); opens = w .opens }; pending = idle; stopped = false };
     contents = map (λ i. S .keeps (i .node .size) (bytesIn i)) (w .items);
@@ -121,7 +123,7 @@ module _ (S : Side) where
   isContent i x = elim (i .bytes) [ none ↦ true | some b ↦ S .isKept (i .node .size) b x ]
 
   unfoldable pub runs : State (S .store) → List Line → Bool
-  unfolding scan answers digestFor alike isContent bytesOf times pagesOf ends digest placed lent bytesIn digestsIn itsBytes Rows.joined step judge eventChecks eventAction callChecks callAction readAction replyChecks replyAction isIdle callOr isNone decide pick noRoom apply readOn finishChange pagesStored askStore onPage pagesFrom answerLength requestLength signed isNumber isDescriptor closeRequest fetchRequest storeRequest cutRequest pageAt overlay first last fetches fill sizeSent cuts sizeAfter cursorAfter numberOf callBytes byPath byNumberAndPath byHandle byHandleAndNumber byHandleAndBytes readFields readCall joined pathBytes componentForm onto split afterSlash readPath tooLong childAt walk walkChecks parentChecks parentOf lastOf coverTable covers pagesFor pageTotal nodeAt openAt findId findChild children findHandle findDescriptor setMode setSize setCursor bind front get₂ get-as get-all ended whole encode decode every any place select without tab equal imageOr unique put-all nodeForm imageForm flatten divide climb pathLength inLimits parentsEarlier soundNodes sound print recordsLength imageLength parse pageOf part resized splice pagePart bytesAfter zeroDigest replaced digestsOf lookup goBack entryForm sameEntry isListing statBytes isRearranged
+  unfolding scan answers digestFor alike isContent bytesOf times pagesOf ends digest placed lent bytesIn digestsIn itsBytes concatenated step judge eventChecks eventAction callChecks callAction readAction replyChecks replyAction isIdle callOr isNone decide pick noRoom apply readOn finishChange pagesStored askStore onPage pagesFrom answerLength requestLength signed isNumber isDescriptor closeRequest fetchRequest storeRequest cutRequest pageAt overlay first last fetches fill sizeSent cuts sizeAfter cursorAfter numberOf callBytes byPath byNumberAndPath byHandle byHandleAndNumber byHandleAndBytes readFields readCall joined pathBytes componentForm onto split afterSlash readPath tooLong childAt walk walkChecks parentChecks parentOf lastOf coverTable covers pagesFor pageTotal nodeAt openAt findId findChild children findHandle findDescriptor setMode setSize setCursor bind front get₂ get-as get-all ended whole encode decode every any place select without tab equal imageOr unique put-all nodeForm imageForm flatten divide climb pathLength inLimits parentsEarlier soundNodes sound print recordsLength imageLength parse pageOf part resized splice pagePart bytesAfter zeroDigest replaced digestsOf lookup goBack entryForm sameEntry isListing statBytes isRearranged
   runs s [] = true
   runs s ((e ⇒ x) ∷ ls) = let r = step config (S .store) s e in meets x (r .outcome) && runs (r .state) ls
   runs s (holds is os ∷ ls) =

@@ -2,19 +2,22 @@
 use mathlib.Core.Path.{_≡_, refl}
 use mathlib.Core.List.{List, [], _∷_, _++_}
 use Prim.Native.String.{String}
-use Rattle.rule_examples.specs.Rows.{bytesOf, four, eight, many, nothing, times, under, folder, file, root, opened, World, world, callOf, create, mkdir, openFor, read, write, remove, rmdir, chmod, readdir, stat, isRefused, fetches, Row, one, passes}
+use Rattle.rule_examples.specs.Bytes.{bytesOf, four, eight, many, nothing, times, under}
+use Rattle.rule_examples.specs.Given.{folder, file, root, opened, Given, given}
+use Rattle.rule_examples.specs.Events.{callOf, create, mkdir, openFor, read, write, remove, rmdir, chmod, readdir, stat}
+use Rattle.rule_examples.specs.Rows.{isRefused, fetches, Row, one, passes}
 use Rattle.rule_examples.specs.Evaluation.{wrong}
 
-abbrev fresh : World
-fresh = world (root ∷ []) []
+abbrev fresh : Given
+fresh = given (root ∷ []) []
 
 -- `/a`, open for reading and writing, the cursor at 1
-abbrev openA : World
-openA = world (root ∷ file 2 1 7 "a" (1 ∷ 2 ∷ 3 ∷ []) ∷ []) (opened 2 5 3 1 ∷ [])
+abbrev openA : Given
+openA = given (root ∷ file 2 1 7 "a" (1 ∷ 2 ∷ 3 ∷ []) ∷ []) (opened 2 5 3 1 ∷ [])
 
 -- `/f` is a file, `/x` a folder without bit 1
-abbrev barred : World
-barred = world (root ∷ file 2 1 7 "f" nothing ∷ folder 3 1 6 "x" ∷ []) []
+abbrev barred : Given
+barred = given (root ∷ file 2 1 7 "f" nothing ∷ folder 3 1 6 "x" ∷ []) []
 
 -- 255 bytes of path, and 256: no component is over 32
 abbrev long : String
@@ -60,6 +63,7 @@ rows =
     ∷ one "write, no handle" openA (callOf (7 ∷ 2 ∷ 0 ∷ 0 ∷ [])) (isRefused 22)
     ∷ one "write 4,096 bytes" openA (write 2 (many 4096 0)) (fetches 5 0)
     ∷ one "write 4,097 bytes" openA (write 2 (many 4097 0)) (isRefused 22)
+    ∷ one "write 4,097 bytes, not open" openA (write 9 (many 4097 0)) (isRefused 22)
     -- '8 truncate: handle (4), size (8)'
     ∷ one "truncate, size of 4 bytes" openA (callOf (8 ∷ (four 2 ++ four 1))) (isRefused 22)
     ∷ one "truncate, a byte behind" openA (callOf (8 ∷ (four 2 ++ (eight 1 ++ (0 ∷ []))))) (isRefused 22)

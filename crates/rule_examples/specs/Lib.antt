@@ -1,5 +1,9 @@
+pub mod Bytes
+pub mod Given
+pub mod Events
 pub mod Rows
 pub mod Evaluation
+pub mod Fresh
 pub mod Forms
 pub mod CommonOrder
 pub mod Walk

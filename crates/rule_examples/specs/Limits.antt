@@ -7,7 +7,10 @@ use mathlib.Core.Bool.{true, false}
 use Rattle.lists.specs.Cells.{tab}
 use Rattle.filesystem.specs.Tables.{Node, pageTotal}
 use Rattle.filesystem.specs.Image.{sound}
-use Rattle.rule_examples.specs.Rows.{bytesOf, many, nothing, Item, file, sized, rootOf, root, opened, World, world, create, mkdir, openFor, write, isDone, isRefused, fetches, stores, Row, one, passes, node}
+use Rattle.rule_examples.specs.Bytes.{bytesOf, many, nothing}
+use Rattle.rule_examples.specs.Given.{Item, file, sized, rootOf, root, opened, Given, given, node}
+use Rattle.rule_examples.specs.Events.{create, mkdir, openFor, write}
+use Rattle.rule_examples.specs.Rows.{isDone, isRefused, fetches, stores, Row, one, passes}
 use Rattle.rule_examples.specs.Evaluation.{wrong}
 
 -- the root and files up to n nodes in all; the last id is n
@@ -19,16 +22,16 @@ abbrev named : (n : ℕ) → List Node
 named n = root .node ∷ tab (n - 1) (λ i. node (i + 2) 1 1 7 0 ((65 + i / 64) ∷ (65 + i % 64) ∷ []))
 
 -- 40 files, of which the first n are open
-abbrev holding : (n : ℕ) → World
-holding n = world (root ∷ file 2 1 7 "first" nothing ∷ (tab 38 (λ i. file (i + 3) 1 7 "f" nothing) ++ (file 41 1 7 "last" nothing ∷ []))) (tab n (λ i. opened (i + 2) i 1 0))
+abbrev holding : (n : ℕ) → Given
+holding n = given (root ∷ file 2 1 7 "first" nothing ∷ (tab 38 (λ i. file (i + 3) 1 7 "f" nothing) ++ (file 41 1 7 "last" nothing ∷ []))) (tab n (λ i. opened (i + 2) i 1 0))
 
 -- n files of 64 pages, and one of this size that is open, the cursor at this place
-abbrev stocked : (n size cursor : ℕ) → World
-stocked n s c = world (root ∷ sized 2 1 7 "a" s ∷ tab n (λ i. sized (i + 3) 1 7 "f" 65536)) (opened 2 5 2 c ∷ [])
+abbrev stocked : (n size cursor : ℕ) → Given
+stocked n s c = given (root ∷ sized 2 1 7 "a" s ∷ tab n (λ i. sized (i + 3) 1 7 "f" 65536)) (opened 2 5 2 c ∷ [])
 
 -- 1,023 pages, and an empty file that is open
-abbrev nearly : World
-nearly = world (root ∷ sized 2 1 7 "a" 0 ∷ sized 20 1 7 "g" 64512 ∷ tab 15 (λ i. sized (i + 3) 1 7 "f" 65536)) (opened 2 5 2 0 ∷ [])
+abbrev nearly : Given
+nearly = given (root ∷ sized 2 1 7 "a" 0 ∷ sized 20 1 7 "g" 64512 ∷ tab 15 (λ i. sized (i + 3) 1 7 "f" 65536)) (opened 2 5 2 0 ∷ [])
 
 -- the sizes of files, as an image
 abbrev filed : (size : ℕ) → List Node
@@ -37,11 +40,11 @@ filed s = root .node ∷ (tab 15 (λ i. node (i + 2) 1 1 7 65536 ((65 + i) ∷ [
 abbrev pub rows : List Row
 rows =
     -- 28 'full: 256 nodes'; 17 and 13 come first
-    passes "no 28: create with 255 nodes" (world (crowd 255) []) (create 7 "/n")
-    ∷ one "28: create with 256 nodes" (world (crowd 256) []) (create 7 "/n") (isRefused 28)
-    ∷ one "28: mkdir with 256 nodes" (world (crowd 256) []) (mkdir 7 "/n") (isRefused 28)
-    ∷ one "17 before 28" (world (crowd 256) []) (create 7 "/f") (isRefused 17)
-    ∷ one "13 before 28" (world (rootOf 5 ∷ crowd 256) []) (create 7 "/n") (isRefused 13)
+    passes "no 28: create with 255 nodes" (given (crowd 255) []) (create 7 "/n")
+    ∷ one "28: create with 256 nodes" (given (crowd 256) []) (create 7 "/n") (isRefused 28)
+    ∷ one "28: mkdir with 256 nodes" (given (crowd 256) []) (mkdir 7 "/n") (isRefused 28)
+    ∷ one "17 before 28" (given (crowd 256) []) (create 7 "/f") (isRefused 17)
+    ∷ one "13 before 28" (given (rootOf 5 ∷ crowd 256) []) (create 7 "/n") (isRefused 13)
     -- 24 'handles: 32 are open'; 16 comes first
     ∷ passes "no 24: open with 31 open" (holding 31) (openFor 1 "/last")
     ∷ one "24: open with 32 open" (holding 32) (openFor 1 "/last") (isRefused 24)

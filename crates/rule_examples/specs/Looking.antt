@@ -2,7 +2,10 @@
 use mathlib.Core.Path.{_≡_, refl}
 use mathlib.Core.List.{List, [], _∷_, _++_}
 use Rattle.filesystem.specs.Tables.{OpenFile}
-use Rattle.rule_examples.specs.Rows.{bytesOf, nothing, Item, folder, file, sized, rootOf, root, opened, World, world, replies, openFor, read, chmod, readdir, stat, says, entry, statOf, isDone, isRefused, asks, fetches, _⇒_, holds, sendsItself, Row, row, one, passes}
+use Rattle.rule_examples.specs.Bytes.{bytesOf, nothing}
+use Rattle.rule_examples.specs.Given.{Item, folder, file, sized, rootOf, root, opened, Given, given}
+use Rattle.rule_examples.specs.Events.{replies, openFor, read, chmod, readdir, stat, says, entry, statOf}
+use Rattle.rule_examples.specs.Rows.{isDone, isRefused, asks, fetches, _⇒_, holds, _then_, end, sendsItself, Row, row, one, passes}
 use Rattle.rule_examples.specs.Evaluation.{wrong}
 
 -- `/n` is a file without any bit; `/b` a folder with all bits but 4; `/d` one with bit 4 alone; `/s` is open for reading
@@ -14,8 +17,8 @@ items =
 abbrev opens : List OpenFile
 opens = opened 8 5 1 2 ∷ []
 
-abbrev w : World
-w = world items opens
+abbrev w : Given
+w = given items opens
 
 abbrev pub rows : List Row
 rows =
@@ -25,29 +28,29 @@ rows =
     -- 13 (bit 4), of the folder itself; no other bit of it
     ∷ one "13: readdir without bit 4" w (readdir "/b") (isRefused 13)
     ∷ passes "no 13: readdir with bit 4 alone" w (readdir "/d")
-    ∷ passes "no 13: readdir of a root with bit 4 alone" (world (rootOf 4 ∷ []) []) (readdir "/")
-    ∷ one "13: readdir of a root without bit 4" (world (rootOf 3 ∷ []) []) (readdir "/") (isRefused 13)
+    ∷ passes "no 13: readdir of a root with bit 4 alone" (given (rootOf 4 ∷ []) []) (readdir "/")
+    ∷ one "13: readdir of a root without bit 4" (given (rootOf 3 ∷ []) []) (readdir "/") (isRefused 13)
     -- 'the number of entries and the reply's bytes for readdir'; each child and no grandchild
     ∷ row "readdir is done" w
-        (readdir "/d" ⇒ asks (12 ∷ bytesOf "/d") ∷ replies (entry 5 1 "one" ++ entry 6 2 "two") ⇒ isDone 2 (entry 5 1 "one" ++ entry 6 2 "two")
-        ∷ holds items opens ∷ [])
-    ∷ row "readdir of an empty folder" (world (root ∷ []) []) (sendsItself (readdir "/") ∷ replies nothing ⇒ isDone 0 nothing ∷ [])
+    (readdir "/d" ⇒ asks (12 ∷ bytesOf "/d") then replies (entry 5 1 "one" ++ entry 6 2 "two") ⇒ isDone 2 (entry 5 1 "one" ++ entry 6 2 "two")
+    then holds items opens then end)
+    ∷ row "readdir of an empty folder" (given (root ∷ []) []) (sendsItself (readdir "/") then replies nothing ⇒ isDone 0 nothing then end)
     -- 'the size and the reply's bytes for stat'; no bit of the node is asked
-    ∷ row "stat of a file" w (stat "/s" ⇒ asks (13 ∷ bytesOf "/s") ∷ replies (statOf 8 1 6 3) ⇒ isDone 3 (statOf 8 1 6 3) ∷ holds items opens ∷ [])
-    ∷ row "stat of a file without any bit" w (sendsItself (stat "/n") ∷ replies (statOf 2 1 0 0) ⇒ isDone 0 (statOf 2 1 0 0) ∷ [])
-    ∷ row "stat of a folder" w (sendsItself (stat "/b") ∷ replies (statOf 3 2 3 0) ⇒ isDone 0 (statOf 3 2 3 0) ∷ [])
-    ∷ row "stat of the root" w (sendsItself (stat "/") ∷ replies (statOf 1 2 7 0) ⇒ isDone 0 (statOf 1 2 7 0) ∷ [])
-    ∷ row "stat of a large file" (world (root ∷ sized 2 1 7 "a" 65536 ∷ []) []) (sendsItself (stat "/a") ∷ replies (statOf 2 1 7 65536) ⇒ isDone 65536 (statOf 2 1 7 65536) ∷ [])
+    ∷ row "stat of a file" w (stat "/s" ⇒ asks (13 ∷ bytesOf "/s") then replies (statOf 8 1 6 3) ⇒ isDone 3 (statOf 8 1 6 3) then holds items opens then end)
+    ∷ row "stat of a file without any bit" w (sendsItself (stat "/n") then replies (statOf 2 1 0 0) ⇒ isDone 0 (statOf 2 1 0 0) then end)
+    ∷ row "stat of a folder" w (sendsItself (stat "/b") then replies (statOf 3 2 3 0) ⇒ isDone 0 (statOf 3 2 3 0) then end)
+    ∷ row "stat of the root" w (sendsItself (stat "/") then replies (statOf 1 2 7 0) ⇒ isDone 0 (statOf 1 2 7 0) then end)
+    ∷ row "stat of a large file" (given (root ∷ sized 2 1 7 "a" 65536 ∷ []) []) (sendsItself (stat "/a") then replies (statOf 2 1 7 65536) ⇒ isDone 65536 (statOf 2 1 7 65536) then end)
     -- 'chmod sets the mode'; 'Chmod doesn't touch the rights of an open handle'; done with 0
     ∷ row "chmod of an open file" w
-        (chmod 2 "/s" ⇒ asks (11 ∷ 2 ∷ bytesOf "/s") ∷ holds items opens ∷ says 0 ⇒ isDone 0 nothing
-        ∷ holds
-            (root ∷ file 2 1 0 "n" nothing ∷ folder 3 1 3 "b" ∷ folder 4 1 4 "d" ∷ file 5 4 7 "one" nothing ∷ folder 6 4 7 "two"
-            ∷ file 7 6 7 "deep" nothing ∷ file 8 1 2 "s" (1 ∷ 2 ∷ 3 ∷ []) ∷ [])
-            opens
-        ∷ read 8 1 ⇒ fetches 5 0 ∷ [])
-    ∷ row "chmod of a file without any bit" w (sendsItself (chmod 7 "/n") ∷ says 0 ⇒ isDone 0 nothing ∷ sendsItself (openFor 3 "/n") ∷ [])
-    ∷ row "chmod of the root" (world (root ∷ []) []) (sendsItself (chmod 0 "/") ∷ says 0 ⇒ isDone 0 nothing ∷ holds (rootOf 0 ∷ []) [] ∷ stat "/a" ⇒ isRefused 13 ∷ [])
+    (chmod 2 "/s" ⇒ asks (11 ∷ 2 ∷ bytesOf "/s") then holds items opens then says 0 ⇒ isDone 0 nothing
+    then holds
+    (root ∷ file 2 1 0 "n" nothing ∷ folder 3 1 3 "b" ∷ folder 4 1 4 "d" ∷ file 5 4 7 "one" nothing ∷ folder 6 4 7 "two"
+    ∷ file 7 6 7 "deep" nothing ∷ file 8 1 2 "s" (1 ∷ 2 ∷ 3 ∷ []) ∷ [])
+    opens
+    then read 8 1 ⇒ fetches 5 0 then end)
+    ∷ row "chmod of a file without any bit" w (sendsItself (chmod 7 "/n") then says 0 ⇒ isDone 0 nothing then sendsItself (openFor 3 "/n") then end)
+    ∷ row "chmod of the root" (given (root ∷ []) []) (sendsItself (chmod 0 "/") then says 0 ⇒ isDone 0 nothing then holds (rootOf 0 ∷ []) [] then stat "/a" ⇒ isRefused 13 then end)
     ∷ []
 
 pub rows-hold : wrong rows ≡ []

@@ -1,15 +1,18 @@
 -- 'create, mkdir: 17, 13 (parent bit 2), 28'. The limit of 28 stands in `Limits`.
 use mathlib.Core.Path.{_≡_, refl}
 use mathlib.Core.List.{List, [], _∷_, _++_}
-use Rattle.rule_examples.specs.Rows.{bytesOf, nothing, Item, folder, file, rootOf, root, World, world, create, mkdir, gives, isDone, isRefused, asks, _⇒_, holds, sendsItself, Row, row, one, passes}
+use Rattle.rule_examples.specs.Bytes.{bytesOf, nothing}
+use Rattle.rule_examples.specs.Given.{Item, folder, file, rootOf, root, Given, given}
+use Rattle.rule_examples.specs.Events.{create, mkdir, gives}
+use Rattle.rule_examples.specs.Rows.{isDone, isRefused, asks, _⇒_, holds, _then_, end, sendsItself, Row, row, one, passes}
 use Rattle.rule_examples.specs.Evaluation.{wrong}
 
 -- `/r` lacks bit 2 and holds `f`; `/w` has the bits 2 and 1 alone
 abbrev items : List Item
 items = root ∷ file 2 1 7 "a" (1 ∷ 2 ∷ 3 ∷ []) ∷ folder 3 1 5 "r" ∷ file 4 3 7 "f" nothing ∷ folder 5 1 3 "w" ∷ []
 
-abbrev w : World
-w = world items []
+abbrev w : Given
+w = given items []
 
 abbrev pub rows : List Row
 rows =
@@ -25,21 +28,21 @@ rows =
     -- 13 (parent bit 2), and no other bit than the walk's
     ∷ one "13: create in a folder without bit 2" w (create 7 "/r/g") (isRefused 13)
     ∷ one "13: mkdir in a folder without bit 2" w (mkdir 7 "/r/g") (isRefused 13)
-    ∷ one "13: create in a root without bit 2" (world (rootOf 5 ∷ []) []) (create 7 "/a") (isRefused 13)
+    ∷ one "13: create in a root without bit 2" (given (rootOf 5 ∷ []) []) (create 7 "/a") (isRefused 13)
     ∷ passes "no 13: create with the bits 2 and 1" w (create 7 "/w/g")
     ∷ passes "no 13: mkdir with the bits 2 and 1" w (mkdir 7 "/w/g")
     -- 'Kinds 1, 2, 3 and 9 to 13 send the slip itself'; 'Create and mkdir add a last, empty node with the replied id'; 'the id for 1, 2 and 3'
     ∷ row "create is done" w
-        (create 6 "/w/g" ⇒ asks (1 ∷ 6 ∷ bytesOf "/w/g") ∷ gives 9 ⇒ isDone 9 nothing ∷ holds (items ++ (file 9 5 6 "g" nothing ∷ [])) [] ∷ [])
+    (create 6 "/w/g" ⇒ asks (1 ∷ 6 ∷ bytesOf "/w/g") then gives 9 ⇒ isDone 9 nothing then holds (items ++ (file 9 5 6 "g" nothing ∷ [])) [] then end)
     ∷ row "mkdir is done" w
-        (mkdir 1 "/w/g" ⇒ asks (2 ∷ 1 ∷ bytesOf "/w/g") ∷ gives 300 ⇒ isDone 300 nothing ∷ holds (items ++ (folder 300 5 1 "g" ∷ [])) [] ∷ [])
-    ∷ row "create in the root" w (sendsItself (create 0 "/b") ∷ gives 6 ⇒ isDone 6 nothing ∷ holds (items ++ (file 6 1 0 "b" nothing ∷ [])) [] ∷ [])
+    (mkdir 1 "/w/g" ⇒ asks (2 ∷ 1 ∷ bytesOf "/w/g") then gives 300 ⇒ isDone 300 nothing then holds (items ++ (folder 300 5 1 "g" ∷ [])) [] then end)
+    ∷ row "create in the root" w (sendsItself (create 0 "/b") then gives 6 ⇒ isDone 6 nothing then holds (items ++ (file 6 1 0 "b" nothing ∷ [])) [] then end)
     -- 'Tables change when the last reply is accepted'
-    ∷ row "create that waits" w (sendsItself (create 7 "/b") ∷ holds items [] ∷ [])
+    ∷ row "create that waits" w (sendsItself (create 7 "/b") then holds items [] then end)
     -- 'A fresh guard holds one node, the root: id 1, mode 7'
-    ∷ row "nodes stand in order of creation" (world (root ∷ []) [])
-        (sendsItself (mkdir 7 "/d") ∷ gives 4 ⇒ isDone 4 nothing ∷ sendsItself (create 7 "/d/a") ∷ gives 3 ⇒ isDone 3 nothing
-        ∷ holds (root ∷ folder 4 1 7 "d" ∷ file 3 4 7 "a" nothing ∷ []) [] ∷ [])
+    ∷ row "nodes stand in order of creation" (given (root ∷ []) [])
+    (sendsItself (mkdir 7 "/d") then gives 4 ⇒ isDone 4 nothing then sendsItself (create 7 "/d/a") then gives 3 ⇒ isDone 3 nothing
+    then holds (root ∷ folder 4 1 7 "d" ∷ file 3 4 7 "a" nothing ∷ []) [] then end)
     ∷ []
 
 pub rows-hold : wrong rows ≡ []

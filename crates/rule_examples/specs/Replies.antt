@@ -5,7 +5,10 @@ use Prim.Native.Nat.{ℕ}
 use Prim.Native.String.{String}
 use Rattle.filesystem.specs.Tables.{OpenFile}
 use Rattle.rules.specs.Skeleton.{Event}
-use Rattle.rule_examples.specs.Rows.{bytesOf, four, eight, nothing, Item, folder, file, root, opened, World, world, replies, create, mkdir, openFor, close, remove, rmdir, chmod, readdir, stat, says, saysMinus, gives, entry, statOf, Expect, isDone, isStopped, closes, _⇒_, holds, sendsItself, Row, row}
+use Rattle.rule_examples.specs.Bytes.{bytesOf, four, eight, nothing}
+use Rattle.rule_examples.specs.Given.{Item, folder, file, root, opened, Given, given}
+use Rattle.rule_examples.specs.Events.{replies, create, mkdir, openFor, close, remove, rmdir, chmod, readdir, stat, says, saysMinus, gives, entry, statOf}
+use Rattle.rule_examples.specs.Rows.{Expect, isDone, isStopped, closes, _⇒_, holds, _then_, end, sendsItself, Row, row}
 use Rattle.rule_examples.specs.Evaluation.{wrong}
 
 -- `/d` holds `a` and `b`; `/o` is open
@@ -15,12 +18,12 @@ items = root ∷ folder 2 1 7 "d" ∷ file 3 2 7 "a" nothing ∷ folder 4 2 7 "b
 abbrev opens : List OpenFile
 opens = opened 5 8 1 0 ∷ []
 
-abbrev w : World
-w = world items opens
+abbrev w : Given
+w = given items opens
 
 -- a call that sends itself, the reply, what it comes to
 abbrev answered : String → Event → Event → Expect → Row
-answered t e r x = row t w (sendsItself e ∷ r ⇒ x ∷ [])
+answered t e r x = row t w (sendsItself e then r ⇒ x then end)
 
 abbrev entryA : List ℕ
 entryA = entry 3 1 "a"
@@ -57,10 +60,10 @@ rows =
     ∷ answered "stop 4: descriptor -1" (openFor 1 "/c") (saysMinus 1) (isStopped 4)
     ∷ answered "stop 4: another file's descriptor" (openFor 1 "/c") (gives 8) (isStopped 4)
     -- '4, 8, 9, 10, 11 status 0'; 'a 4-byte signed number in two's complement'
-    ∷ row "stop 2: close answered 1" w (close 5 ⇒ closes 8 ∷ says 1 ⇒ isStopped 2 ∷ holds items opens ∷ [])
-    ∷ row "stop 2: close answered -1" w (close 5 ⇒ closes 8 ∷ saysMinus 1 ⇒ isStopped 2 ∷ [])
-    ∷ row "stop 1: close answered by 3 bytes" w (close 5 ⇒ closes 8 ∷ replies (0 ∷ 0 ∷ 0 ∷ []) ⇒ isStopped 1 ∷ [])
-    ∷ row "stop 1 before 2: close answered by 8 bytes" w (close 5 ⇒ closes 8 ∷ replies (eight 1) ⇒ isStopped 1 ∷ [])
+    ∷ row "stop 2: close answered 1" w (close 5 ⇒ closes 8 then says 1 ⇒ isStopped 2 then holds items opens then end)
+    ∷ row "stop 2: close answered -1" w (close 5 ⇒ closes 8 then saysMinus 1 ⇒ isStopped 2 then end)
+    ∷ row "stop 1: close answered by 3 bytes" w (close 5 ⇒ closes 8 then replies (0 ∷ 0 ∷ 0 ∷ []) ⇒ isStopped 1 then end)
+    ∷ row "stop 1 before 2: close answered by 8 bytes" w (close 5 ⇒ closes 8 then replies (eight 1) ⇒ isStopped 1 then end)
     ∷ answered "stop 2: remove answered 1" (remove "/c") (says 1) (isStopped 2)
     ∷ answered "stop 2: remove answered -2" (remove "/c") (saysMinus 2) (isStopped 2)
     ∷ answered "stop 1: remove answered by no byte" (remove "/c") (replies nothing) (isStopped 1)

@@ -4,18 +4,21 @@ use mathlib.Core.List.{List, [], _∷_, _++_}
 use Prim.Native.Nat.{ℕ, _-_}
 use lib.ListN.{take, length}
 use Rattle.rules.specs.Skeleton.{save, load}
-use Rattle.rule_examples.specs.Rows.{bytesOf, four, many, nothing, digest, Item, folder, file, root, opened, World, world, create, close, remove, chmod, says, gives, imageOf, loads, isDone, isSaved, isRefused, closes, _⇒_, holds, sendsItself, Row, row, one}
+use Rattle.rule_examples.specs.Bytes.{bytesOf, four, many, nothing, digest}
+use Rattle.rule_examples.specs.Given.{Item, folder, file, root, opened, Given, given, imageOf}
+use Rattle.rule_examples.specs.Events.{create, close, remove, chmod, says, gives, loads}
+use Rattle.rule_examples.specs.Rows.{isDone, isSaved, isRefused, closes, _⇒_, holds, _then_, end, sendsItself, Row, row, one}
 use Rattle.rule_examples.specs.Evaluation.{wrong}
 
 abbrev items : List Item
 items = root ∷ folder 2 1 5 "d" ∷ file 3 2 6 "a" nothing ∷ []
 
-abbrev w : World
-w = world items []
+abbrev w : Given
+w = given items []
 
 -- the same with a file open
-abbrev busy : World
-busy = world items (opened 3 5 1 0 ∷ [])
+abbrev busy : Given
+busy = given items (opened 3 5 1 0 ∷ [])
 
 -- its bytes, all of them
 abbrev image : List ℕ
@@ -31,14 +34,14 @@ full = root ∷ file 2 1 7 "a" (1 ∷ []) ∷ folder 3 1 7 "d" ∷ file 4 3 7 "b
 abbrev pub rows : List Row
 rows =
     -- 'Two sections, each after its 4-byte count'; a save is done with 'the image's length', the image and its digest
-    row "save is done" w (save 44776 ⇒ isSaved image ∷ holds items [] ∷ [])
-    ∷ one "save of a fresh guard" (world (root ∷ []) []) (save 44776) (isSaved (imageOf (root ∷ [])))
+    row "save is done" w (save 44776 ⇒ isSaved image then holds items [] then end)
+    ∷ one "save of a fresh guard" (given (root ∷ []) []) (save 44776) (isSaved (imageOf (root ∷ [])))
     -- 16 'save or load with open files', before 34 and 74
     ∷ one "16: save with an open file" busy (save 44776) (isRefused 16)
     ∷ one "16 before 34: save" busy (save 0) (isRefused 16)
     ∷ one "16: load with an open file" busy (loads image) (isRefused 16)
     ∷ one "16 before 74: load" busy (load image nothing) (isRefused 16)
-    ∷ row "no 16 after close" busy (close 3 ⇒ closes 5 ∷ says 0 ⇒ isDone 0 nothing ∷ save 44776 ⇒ isSaved image ∷ [])
+    ∷ row "no 16 after close" busy (close 3 ⇒ closes 5 then says 0 ⇒ isDone 0 nothing then save 44776 ⇒ isSaved image then end)
     -- 'gives 34 only where the image is longer'
     ∷ one "34: a buffer one byte too short" w (save (length image - 1)) (isRefused 34)
     ∷ one "a buffer just long enough" w (save (length image)) (isSaved image)
@@ -49,13 +52,13 @@ rows =
     ∷ one "74: no digest" w (load image nothing) (isRefused 74)
     ∷ one "74 before 84" w (load nothing (many 32 1)) (isRefused 74)
     ∷ one "84: no image" w (loads nothing) (isRefused 84)
-    ∷ row "74 and 84 change nothing" w (load image (many 32 0) ⇒ isRefused 74 ∷ loads nothing ⇒ isRefused 84 ∷ holds items [] ∷ [])
+    ∷ row "74 and 84 change nothing" w (load image (many 32 0) ⇒ isRefused 74 then loads nothing ⇒ isRefused 84 then holds items [] then end)
     -- a load is done with 0 and goes back to what was saved
     ∷ row "load goes back" w
-        (save 44776 ⇒ isSaved image ∷ sendsItself (chmod 7 "/d") ∷ says 0 ⇒ isDone 0 nothing ∷ sendsItself (remove "/d/a") ∷ says 0 ⇒ isDone 0 nothing ∷ sendsItself (create 7 "/n") ∷ gives 9 ⇒ isDone 9 nothing
-        ∷ sendsItself (chmod 0 "/") ∷ says 0 ⇒ isDone 0 nothing ∷ loads image ⇒ isDone 0 nothing ∷ holds items [] ∷ [])
-    ∷ row "load of a save with digests" (world full [])
-        (save 44776 ⇒ isSaved (imageOf full) ∷ sendsItself (remove "/a") ∷ says 0 ⇒ isDone 0 nothing ∷ loads (imageOf full) ⇒ isDone 0 nothing ∷ holds full [] ∷ [])
+    (save 44776 ⇒ isSaved image then sendsItself (chmod 7 "/d") then says 0 ⇒ isDone 0 nothing then sendsItself (remove "/d/a") then says 0 ⇒ isDone 0 nothing then sendsItself (create 7 "/n") then gives 9 ⇒ isDone 9 nothing
+    then sendsItself (chmod 0 "/") then says 0 ⇒ isDone 0 nothing then loads image ⇒ isDone 0 nothing then holds items [] then end)
+    ∷ row "load of a save with digests" (given full [])
+    (save 44776 ⇒ isSaved (imageOf full) then sendsItself (remove "/a") then says 0 ⇒ isDone 0 nothing then loads (imageOf full) ⇒ isDone 0 nothing then holds full [] then end)
     ∷ []
 
 pub rows-hold : wrong rows ≡ []

@@ -1,38 +1,49 @@
--- Truncations: 'A shorter truncation inside a page fetches it, stores it with zeros from there on and the old size, then cuts; on a page edge it only cuts.'
+-- 'A shorter truncation inside a page fetches it, stores it with zeros from there on and the old size, then cuts; on a page edge it only cuts.'
 use mathlib.Core.Path.{_≡_, refl}
 use mathlib.Core.List.{List, [], _∷_}
-use Rattle.rule_examples.specs.Rows.{many, nothing, Item, file, sized, sparse, root, opened, World, world, replies, truncate, says, givesPage, isDone, isStopped, fetches, storesPage, has, cutsTo, _⇒_, holds, Row, row, one}
+use Prim.Native.Nat.{ℕ}
+use Rattle.rule_examples.specs.Bytes.{many, nothing}
+use Rattle.rule_examples.specs.Given.{Item, file, sized, sparse, root, opened, Given, given}
+use Rattle.rule_examples.specs.Events.{replies, truncate, says, givesPage}
+use Rattle.rule_examples.specs.Rows.{isDone, isStopped, fetches, storesPage, has, cutsTo, _⇒_, holds, Line, _then_, end, Row, row, one}
 use Rattle.rule_examples.specs.Evaluation.{wrong}
 
--- `/a` has 3 bytes, `/b` 2,000; both are open, the cursors at 2 and 1,500
-abbrev w : World
-w = world (root ∷ file 2 1 7 "a" (1 ∷ 2 ∷ 3 ∷ []) ∷ sparse 3 1 7 "b" 2000 (4 ∷ 5 ∷ 6 ∷ []) ∷ []) (opened 2 5 2 2 ∷ opened 3 6 3 1500 ∷ [])
+-- files of 3 bytes and of 2,000
+abbrev three : Item
+three = file 2 1 7 "a" (1 ∷ 2 ∷ 3 ∷ [])
 
-abbrev small : Item
-small = file 2 1 7 "a" (1 ∷ 2 ∷ 3 ∷ [])
+abbrev long : Item
+long = sparse 2 1 7 "a" 2000 (4 ∷ 5 ∷ 6 ∷ [])
+
+-- it is open for writing, with descriptor 5 and this cursor
+abbrev writer : Item → (cursor : ℕ) → Given
+writer i c = given (root ∷ i ∷ []) (opened 2 5 2 c ∷ [])
+
+-- what is left: the file, or its size, and the cursor
+abbrev left : Item → (cursor : ℕ) → Line
+left i c = holds (root ∷ i ∷ []) (opened 2 5 2 c ∷ [])
+
+abbrev leftSize : (size cursor : ℕ) → Line
+leftSize s c = left (sized 2 1 7 "a" s) c
 
 abbrev pub rows : List Row
 rows =
     -- inside a page; 'Truncation puts a cursor beyond the new end at that end'; done with 0
-    row "a truncation inside a page" w
-        (truncate 3 2 ⇒ fetches 6 0 ∷ givesPage (4 ∷ 5 ∷ 6 ∷ []) ⇒ storesPage 6 0 2000 (has 0 4 ∷ has 1 5 ∷ has 2 0 ∷ has 1023 0 ∷ [])
-        ∷ says 1024 ⇒ cutsTo 6 2 ∷ says 0 ⇒ isDone 0 nothing ∷ holds (root ∷ small ∷ sized 3 1 7 "b" 2 ∷ []) (opened 2 5 2 2 ∷ opened 3 6 3 2 ∷ []) ∷ [])
-    ∷ one "a truncation inside the second page" w (truncate 3 1025) (fetches 6 1)
-    ∷ one "a truncation to one byte before a page's edge" w (truncate 3 1023) (fetches 6 0)
+    row "a truncation inside a page" (writer long 1500)
+    (truncate 2 2 ⇒ fetches 5 0 then givesPage (4 ∷ 5 ∷ 6 ∷ []) ⇒ storesPage 5 0 2000 (has 0 4 ∷ has 1 5 ∷ has 2 0 ∷ has 1023 0 ∷ [])
+    then says 1024 ⇒ cutsTo 5 2 then leftSize 2000 1500 then says 0 ⇒ isDone 0 nothing then leftSize 2 2 then end)
+    ∷ one "a truncation inside the second page" (writer long 0) (truncate 2 1025) (fetches 5 1)
+    ∷ one "a truncation to one byte before a page's edge" (writer long 0) (truncate 2 1023) (fetches 5 0)
     -- on a page's edge
-    ∷ row "a truncation to a page's edge" w
-        (truncate 3 1024 ⇒ cutsTo 6 1024 ∷ holds (root ∷ small ∷ sized 3 1 7 "b" 2000 ∷ []) (opened 2 5 2 2 ∷ opened 3 6 3 1500 ∷ [])
-        ∷ says 0 ⇒ isDone 0 nothing ∷ holds (root ∷ small ∷ sized 3 1 7 "b" 1024 ∷ []) (opened 2 5 2 2 ∷ opened 3 6 3 1024 ∷ []) ∷ [])
-    ∷ row "a truncation to 0" w
-        (truncate 2 0 ⇒ cutsTo 5 0 ∷ says 0 ⇒ isDone 0 nothing ∷ holds (root ∷ file 2 1 7 "a" nothing ∷ sized 3 1 7 "b" 2000 ∷ []) (opened 2 5 2 0 ∷ opened 3 6 3 1500 ∷ []) ∷ [])
+    ∷ row "a truncation to a page's edge" (writer long 1500)
+    (truncate 2 1024 ⇒ cutsTo 5 1024 then leftSize 2000 1500 then says 0 ⇒ isDone 0 nothing then leftSize 1024 1024 then end)
+    ∷ row "a truncation to 0" (writer three 2) (truncate 2 0 ⇒ cutsTo 5 0 then says 0 ⇒ isDone 0 nothing then left (file 2 1 7 "a" nothing) 0 then end)
     -- a cursor that is not beyond the new end stays
-    ∷ row "a truncation behind the cursor" (world (root ∷ sized 2 1 7 "a" 2048 ∷ []) (opened 2 5 2 7 ∷ []))
-        (truncate 2 1024 ⇒ cutsTo 5 1024 ∷ says 0 ⇒ isDone 0 nothing ∷ holds (root ∷ sized 2 1 7 "a" 1024 ∷ []) (opened 2 5 2 7 ∷ []) ∷ [])
-    -- replies: a page, a store's status 1,024, a cut's status 0
-    ∷ row "stop 1: a truncation's page of 1,023 bytes" w (truncate 2 1 ⇒ fetches 5 0 ∷ replies (many 1023 0) ⇒ isStopped 1 ∷ [])
-    ∷ row "stop 2: a cut answered 1" w
-        (truncate 2 0 ⇒ cutsTo 5 0 ∷ says 1 ⇒ isStopped 2 ∷ holds (root ∷ small ∷ sized 3 1 7 "b" 2000 ∷ []) (opened 2 5 2 2 ∷ opened 3 6 3 1500 ∷ []) ∷ [])
-    ∷ row "stop 1: a cut answered by no byte" w (truncate 2 0 ⇒ cutsTo 5 0 ∷ replies nothing ⇒ isStopped 1 ∷ [])
+    ∷ row "a truncation behind the cursor" (writer long 7) (truncate 2 1024 ⇒ cutsTo 5 1024 then says 0 ⇒ isDone 0 nothing then leftSize 1024 7 then end)
+    -- replies: a page, a cut's status 0
+    ∷ row "stop 1: a truncation's page of 1,023 bytes" (writer three 0) (truncate 2 1 ⇒ fetches 5 0 then replies (many 1023 0) ⇒ isStopped 1 then end)
+    ∷ row "stop 2: a cut answered 1" (writer three 2) (truncate 2 0 ⇒ cutsTo 5 0 then says 1 ⇒ isStopped 2 then left three 2 then end)
+    ∷ row "stop 1: a cut answered by no byte" (writer three 2) (truncate 2 0 ⇒ cutsTo 5 0 then replies nothing ⇒ isStopped 1 then end)
     ∷ []
 
 pub rows-hold : wrong rows ≡ []

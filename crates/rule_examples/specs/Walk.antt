@@ -1,7 +1,10 @@
 -- 'At each component the directory must be one (20), have bit 1 (13), hold the child (2); the last may be absent for create and mkdir.'
 use mathlib.Core.Path.{_≡_, refl}
 use mathlib.Core.List.{List, [], _∷_}
-use Rattle.rule_examples.specs.Rows.{nothing, Item, folder, file, rootOf, root, World, world, create, mkdir, openFor, remove, rmdir, chmod, readdir, stat, isRefused, Row, one, passes}
+use Rattle.rule_examples.specs.Bytes.{nothing}
+use Rattle.rule_examples.specs.Given.{Item, folder, file, rootOf, root, Given, given}
+use Rattle.rule_examples.specs.Events.{create, mkdir, openFor, remove, rmdir, chmod, readdir, stat}
+use Rattle.rule_examples.specs.Rows.{isRefused, Row, one, passes}
 use Rattle.rule_examples.specs.Evaluation.{wrong}
 
 -- `/a` and `/n` are files, `/n` without bit 1; `/d` is a folder that holds `b`; `/x` one without bit 1 that holds `f`; `/y` one with bit 1 alone that holds `f`
@@ -10,12 +13,12 @@ items =
     root ∷ file 2 1 7 "a" nothing ∷ file 3 1 6 "n" nothing ∷ folder 4 1 7 "d" ∷ file 5 4 7 "b" nothing
     ∷ folder 6 1 6 "x" ∷ file 7 6 7 "f" nothing ∷ folder 8 1 1 "y" ∷ file 9 8 7 "f" nothing ∷ []
 
-abbrev w : World
-w = world items []
+abbrev w : Given
+w = given items []
 
 -- the root without bit 1
-abbrev shut : World
-shut = world (rootOf 6 ∷ file 2 1 7 "a" nothing ∷ []) []
+abbrev shut : Given
+shut = given (rootOf 6 ∷ file 2 1 7 "a" nothing ∷ []) []
 
 abbrev pub rows : List Row
 rows =

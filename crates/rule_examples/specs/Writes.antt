@@ -2,73 +2,70 @@
 use mathlib.Core.Path.{_≡_, refl}
 use mathlib.Core.List.{List, [], _∷_, _++_}
 use Prim.Native.Nat.{ℕ}
-use Rattle.rule_examples.specs.Rows.{four, many, nothing, Item, file, sized, sparse, root, opened, World, world, replies, write, says, givesPage, isDone, isStopped, fetches, stores, _⇒_, holds, Row, row, one}
+use Rattle.rule_examples.specs.Bytes.{four, many, nothing}
+use Rattle.rule_examples.specs.Given.{Item, file, sized, sparse, root, opened, Given, given}
+use Rattle.rule_examples.specs.Events.{replies, write, says, givesPage}
+use Rattle.rule_examples.specs.Rows.{isDone, isStopped, fetches, stores, _⇒_, holds, Line, _then_, end, Row, row, one}
 use Rattle.rule_examples.specs.Evaluation.{wrong}
 
--- `/a` has 3 bytes, `/b` a page, `/c` a page and two bytes, `/e` none; each is open with this cursor
-abbrev at : (cursor : ℕ) → World
-at c =
-    world (root ∷ file 2 1 7 "a" (1 ∷ 2 ∷ 3 ∷ []) ∷ sparse 3 1 7 "b" 1024 (4 ∷ []) ∷ sparse 4 1 7 "c" 1026 (5 ∷ []) ∷ file 5 1 7 "e" nothing ∷ [])
-    (opened 2 12 2 c ∷ opened 3 13 2 c ∷ opened 4 14 2 c ∷ opened 5 15 2 c ∷ [])
+-- files of no byte, of 3, of a page, of a page and two bytes
+abbrev empty : Item
+empty = file 2 1 7 "a" nothing
 
--- the tables after a change of one of them: of the others nothing has changed
-abbrev left : (a b c e : Item) → List Item
-left a b c e = root ∷ a ∷ b ∷ c ∷ e ∷ []
+abbrev three : Item
+three = file 2 1 7 "a" (1 ∷ 2 ∷ 3 ∷ [])
 
-abbrev a₀ : Item
-a₀ = file 2 1 7 "a" (1 ∷ 2 ∷ 3 ∷ [])
+abbrev onePage : Item
+onePage = sparse 2 1 7 "a" 1024 (4 ∷ [])
 
-abbrev b₀ : Item
-b₀ = sized 3 1 7 "b" 1024
+abbrev pageAndTwo : Item
+pageAndTwo = sparse 2 1 7 "a" 1026 (5 ∷ [])
 
-abbrev c₀ : Item
-c₀ = sized 4 1 7 "c" 1026
+-- it is open for writing, with descriptor 5 and this cursor
+abbrev writer : Item → (cursor : ℕ) → Given
+writer i c = given (root ∷ i ∷ []) (opened 2 5 2 c ∷ [])
 
-abbrev e₀ : Item
-e₀ = file 5 1 7 "e" nothing
+-- what is left: the file, or its size, and the cursor
+abbrev left : Item → (cursor : ℕ) → Line
+left i c = holds (root ∷ i ∷ []) (opened 2 5 2 c ∷ [])
+
+abbrev leftSize : (size cursor : ℕ) → Line
+leftSize s c = left (sized 2 1 7 "a" s) c
 
 abbrev pub rows : List Row
 rows =
-    -- 'A write fetches a page if a byte of it below the old end isn't overwritten, and then stores it'; a write inside one page
-    row "a write inside a page" (at 0)
-        (write 2 (9 ∷ []) ⇒ fetches 12 0 ∷ givesPage (1 ∷ 2 ∷ 3 ∷ []) ⇒ stores 12 0 3 ∷ says 1024 ⇒ isDone 1 nothing
-        ∷ holds (left (file 2 1 7 "a" (9 ∷ 2 ∷ 3 ∷ [])) b₀ c₀ e₀) (opened 2 12 2 1 ∷ opened 3 13 2 0 ∷ opened 4 14 2 0 ∷ opened 5 15 2 0 ∷ []) ∷ [])
-    ∷ one "a write that leaves the last byte" (at 0) (write 2 (7 ∷ 8 ∷ [])) (fetches 12 0)
-    ∷ one "a write that leaves the first byte" (at 1) (write 2 (7 ∷ 8 ∷ 9 ∷ 10 ∷ [])) (fetches 12 0)
+    -- 'A write fetches a page if a byte of it below the old end isn't overwritten, and then stores it'; done with the count; the cursor moves
+    row "a write inside a page" (writer three 1)
+    (write 2 (9 ∷ []) ⇒ fetches 5 0 then givesPage (1 ∷ 2 ∷ 3 ∷ []) ⇒ stores 5 0 3 then left three 1
+    then says 1024 ⇒ isDone 1 nothing then left (file 2 1 7 "a" (1 ∷ 9 ∷ 3 ∷ [])) 2 then end)
+    ∷ one "a write that leaves the last byte" (writer three 0) (write 2 (7 ∷ 8 ∷ [])) (fetches 5 0)
+    ∷ one "a write that leaves the first byte" (writer three 1) (write 2 (7 ∷ 8 ∷ 9 ∷ 10 ∷ [])) (fetches 5 0)
     -- over everything below the end: nothing is fetched
-    ∷ row "a write over the whole file" (at 0)
-        (write 2 (7 ∷ 8 ∷ 9 ∷ []) ⇒ stores 12 0 3 ∷ says 1024 ⇒ isDone 3 nothing
-        ∷ holds (left (sized 2 1 7 "a" 3) b₀ c₀ e₀) (opened 2 12 2 3 ∷ opened 3 13 2 0 ∷ opened 4 14 2 0 ∷ opened 5 15 2 0 ∷ []) ∷ [])
-    ∷ one "a write over the whole file and past it" (at 0) (write 2 (7 ∷ 8 ∷ 9 ∷ 10 ∷ [])) (stores 12 0 4)
-    -- from the end on: the page of the end is fetched where a byte of it stands before, and not on a page's edge
-    ∷ one "a write from the end on" (at 3) (write 2 (9 ∷ [])) (fetches 12 0)
-    ∷ row "a write from the end on, on a page's edge" (at 1024)
-        (write 3 (9 ∷ []) ⇒ stores 13 1 1025 ∷ holds (left (sized 2 1 7 "a" 3) b₀ c₀ e₀) (opened 2 12 2 1024 ∷ opened 3 13 2 1024 ∷ opened 4 14 2 1024 ∷ opened 5 15 2 1024 ∷ [])
-        ∷ says 1024 ⇒ isDone 1 nothing
-        ∷ holds (left (sized 2 1 7 "a" 3) (sized 3 1 7 "b" 1025) c₀ e₀) (opened 2 12 2 1024 ∷ opened 3 13 2 1025 ∷ opened 4 14 2 1024 ∷ opened 5 15 2 1024 ∷ []) ∷ [])
+    ∷ row "a write over the whole file" (writer three 0) (write 2 (7 ∷ 8 ∷ 9 ∷ []) ⇒ stores 5 0 3 then says 1024 ⇒ isDone 3 nothing then leftSize 3 3 then end)
+    ∷ one "a write over the whole file and past it" (writer three 0) (write 2 (7 ∷ 8 ∷ 9 ∷ 10 ∷ [])) (stores 5 0 4)
+    -- from the end on: the page of the end is fetched where a byte of it stands before the end, so not on a page's edge
+    ∷ one "a write from the end on" (writer three 3) (write 2 (9 ∷ [])) (fetches 5 0)
+    ∷ row "a write from the end on, on a page's edge" (writer onePage 1024)
+    (write 2 (9 ∷ []) ⇒ stores 5 1 1025 then leftSize 1024 1024 then says 1024 ⇒ isDone 1 nothing then leftSize 1025 1025 then end)
     -- 'the size sent is the larger of the old size and the end of the bytes written so far'; 'Pages go in rising order'
-    ∷ row "a write of 1,025 bytes into an empty file" (at 0)
-        (write 5 (many 1025 9) ⇒ stores 15 0 1024 ∷ says 1024 ⇒ stores 15 1 1025 ∷ says 1024 ⇒ isDone 1025 nothing
-        ∷ holds (left a₀ b₀ c₀ (sized 5 1 7 "e" 1025)) (opened 2 12 2 0 ∷ opened 3 13 2 0 ∷ opened 4 14 2 0 ∷ opened 5 15 2 1025 ∷ []) ∷ [])
-    ∷ row "a write of a whole page" (at 0) (write 5 (many 1024 9) ⇒ stores 15 0 1024 ∷ says 1024 ⇒ isDone 1024 nothing ∷ [])
-    ∷ one "a write of three pages, the first fetched" (at 1) (write 3 (many 2048 9)) (fetches 13 0)
-    ∷ row "a write over a page's edge, the first page fetched" (at 1023)
-        (write 4 (7 ∷ 8 ∷ 9 ∷ []) ⇒ fetches 14 0 ∷ givesPage (5 ∷ []) ⇒ stores 14 0 1026
-        ∷ says 1024 ⇒ stores 14 1 1026 ∷ says 1024 ⇒ isDone 3 nothing
-        ∷ holds (left (sized 2 1 7 "a" 3) b₀ c₀ e₀) (opened 2 12 2 1023 ∷ opened 3 13 2 1023 ∷ opened 4 14 2 1026 ∷ opened 5 15 2 1023 ∷ []) ∷ [])
-    ∷ row "a write over a page's edge, the second page fetched" (at 0)
-        (write 4 (many 1025 9) ⇒ stores 14 0 1026 ∷ says 1024 ⇒ fetches 14 1 ∷ [])
-    ∷ row "a write over a page's edge, no page fetched" (at 0)
-        (write 4 (many 1026 9) ⇒ stores 14 0 1026 ∷ says 1024 ⇒ stores 14 1 1026 ∷ says 1024 ⇒ isDone 1026 nothing ∷ [])
-    -- stop 5 before anything is stored
-    ∷ row "stop 5: a write's page" (at 0) (write 2 (9 ∷ []) ⇒ fetches 12 0 ∷ givesPage (2 ∷ []) ⇒ isStopped 5 ∷ [])
-    ∷ row "stop 1: a write's page of 1,023 bytes" (at 0) (write 2 (9 ∷ []) ⇒ fetches 12 0 ∷ replies (many 1023 0) ⇒ isStopped 1 ∷ [])
+    ∷ row "a write of 1,025 bytes into an empty file" (writer empty 0)
+    (write 2 (many 1025 9) ⇒ stores 5 0 1024 then says 1024 ⇒ stores 5 1 1025 then left empty 0 then says 1024 ⇒ isDone 1025 nothing then leftSize 1025 1025 then end)
+    ∷ row "a write of a whole page" (writer empty 0) (write 2 (many 1024 9) ⇒ stores 5 0 1024 then says 1024 ⇒ isDone 1024 nothing then leftSize 1024 1024 then end)
+    ∷ row "a write over a page's edge, the first page fetched" (writer pageAndTwo 1023)
+    (write 2 (7 ∷ 8 ∷ 9 ∷ []) ⇒ fetches 5 0 then givesPage (5 ∷ []) ⇒ stores 5 0 1026 then says 1024 ⇒ stores 5 1 1026
+    then says 1024 ⇒ isDone 3 nothing then leftSize 1026 1026 then end)
+    ∷ row "a write over a page's edge, the second page fetched" (writer pageAndTwo 0)
+    (write 2 (many 1025 9) ⇒ stores 5 0 1026 then says 1024 ⇒ fetches 5 1 then end)
+    ∷ row "a write over a page's edge, no page fetched" (writer pageAndTwo 0)
+    (write 2 (many 1026 9) ⇒ stores 5 0 1026 then says 1024 ⇒ stores 5 1 1026 then says 1024 ⇒ isDone 1026 nothing then leftSize 1026 1026 then end)
+    -- stop 5 and, before it, stop 1
+    ∷ row "stop 5: a write's page" (writer three 0) (write 2 (9 ∷ []) ⇒ fetches 5 0 then givesPage (2 ∷ []) ⇒ isStopped 5 then end)
+    ∷ row "stop 1: a write's page of 1,023 bytes" (writer three 0) (write 2 (9 ∷ []) ⇒ fetches 5 0 then replies (many 1023 0) ⇒ isStopped 1 then end)
     -- 'a store status 1,024'; the tables are those of before the call
-    ∷ row "stop 2: a store answered 0" (at 0) (write 5 (9 ∷ []) ⇒ stores 15 0 1 ∷ says 0 ⇒ isStopped 2 ∷ [])
-    ∷ row "stop 2: the second store answered 1,023" (at 0)
-        (write 5 (many 1025 9) ⇒ stores 15 0 1024 ∷ says 1024 ⇒ stores 15 1 1025 ∷ says 1023 ⇒ isStopped 2
-        ∷ holds (left a₀ b₀ c₀ e₀) (opened 2 12 2 0 ∷ opened 3 13 2 0 ∷ opened 4 14 2 0 ∷ opened 5 15 2 0 ∷ []) ∷ [])
-    ∷ row "stop 1: a store answered by 5 bytes" (at 0) (write 5 (9 ∷ []) ⇒ stores 15 0 1 ∷ replies (four 1024 ++ (0 ∷ [])) ⇒ isStopped 1 ∷ [])
+    ∷ row "stop 2: a store answered 0" (writer empty 0) (write 2 (9 ∷ []) ⇒ stores 5 0 1 then says 0 ⇒ isStopped 2 then end)
+    ∷ row "stop 2: the second store answered 1,023" (writer empty 0)
+    (write 2 (many 1025 9) ⇒ stores 5 0 1024 then says 1024 ⇒ stores 5 1 1025 then says 1023 ⇒ isStopped 2 then left empty 0 then end)
+    ∷ row "stop 1: a store answered by 5 bytes" (writer empty 0) (write 2 (9 ∷ []) ⇒ stores 5 0 1 then replies (four 1024 ++ (0 ∷ [])) ⇒ isStopped 1 then end)
     ∷ []
 
 pub rows-hold : wrong rows ≡ []
