@@ -43,10 +43,10 @@ rows =
     ∷ row "stat of a large file" (given (root ∷ sized 2 1 7 "a" 65536 ∷ []) []) (sendsItself (stat "/a") then replies (statOf 2 1 7 65536) ⇒ isDone 65536 (statOf 2 1 7 65536) then end)
     -- 'chmod sets the mode'; 'Chmod doesn't touch the rights of an open handle'; done with 0
     ∷ row "chmod of an open file" w
-    (chmod 2 "/s" ⇒ asks (11 ∷ 2 ∷ bytesOf "/s") then holds items opens then says 0 ⇒ isDone 0 nothing
+    (chmod 0 "/s" ⇒ asks (11 ∷ 0 ∷ bytesOf "/s") then holds items opens then says 0 ⇒ isDone 0 nothing
     then holds
     (root ∷ file 2 1 0 "n" nothing ∷ folder 3 1 3 "b" ∷ folder 4 1 4 "d" ∷ file 5 4 7 "one" nothing ∷ folder 6 4 7 "two"
-    ∷ file 7 6 7 "deep" nothing ∷ file 8 1 2 "s" (1 ∷ 2 ∷ 3 ∷ []) ∷ [])
+    ∷ file 7 6 7 "deep" nothing ∷ file 8 1 0 "s" (1 ∷ 2 ∷ 3 ∷ []) ∷ [])
     opens
     then read 8 1 ⇒ fetches 5 0 then end)
     ∷ row "chmod of a file without any bit" w (sendsItself (chmod 7 "/n") then says 0 ⇒ isDone 0 nothing then sendsItself (openFor 3 "/n") then end)

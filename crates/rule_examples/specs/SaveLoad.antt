@@ -5,7 +5,7 @@ use Prim.Native.Nat.{ℕ, _-_}
 use lib.ListN.{take, length}
 use Rattle.rules.specs.Skeleton.{save, load}
 use Rattle.rule_examples.specs.Bytes.{bytesOf, four, many, nothing, digest}
-use Rattle.rule_examples.specs.Given.{Item, folder, file, root, opened, Given, given, imageOf}
+use Rattle.rule_examples.specs.Given.{Item, folder, file, root, opened, Given, given, imageOf, concatenated}
 use Rattle.rule_examples.specs.Events.{create, close, remove, chmod, says, gives, loads}
 use Rattle.rule_examples.specs.Rows.{isDone, isSaved, isRefused, closes, _⇒_, holds, _then_, end, sendsItself, Row, row, one}
 use Rattle.rule_examples.specs.Evaluation.{wrong}
@@ -23,9 +23,13 @@ busy = given items (opened 3 5 1 0 ∷ [])
 -- its bytes, all of them
 abbrev image : List ℕ
 image =
-    four 3
-    ++ (four 1 ++ (four 0 ++ (2 ∷ 7 ∷ (four 0 ++ (0 ∷ (four 2 ++ (four 1 ++ (2 ∷ 5 ∷ (four 0 ++ (1 ∷ (bytesOf "d" ++ (four 3 ++ (four 2 ++ (1 ∷ 6 ∷ (four 0
-    ++ (1 ∷ (bytesOf "a" ++ four 0)))))))))))))))))
+    concatenated
+    (four 3
+    ∷ four 1 ∷ four 0 ∷ (2 ∷ 7 ∷ []) ∷ four 0 ∷ (0 ∷ [])
+    ∷ four 2 ∷ four 1 ∷ (2 ∷ 5 ∷ []) ∷ four 0 ∷ (1 ∷ bytesOf "d")
+    ∷ four 3 ∷ four 2 ∷ (1 ∷ 6 ∷ []) ∷ four 0 ∷ (1 ∷ bytesOf "a")
+    ∷ four 0
+    ∷ [])
 
 -- two files with bytes: digests by node, then by page
 abbrev full : List Item
