@@ -1,0 +1,50 @@
+-- 'create, mkdir: 17, 13 (parent bit 2), 28'. The limit of 28 stands in `Limits`.
+use mathlib.Core.Path.{_≡_, refl}
+use mathlib.Core.List.{List, [], _∷_, _++_}
+use Rattle.rule_examples.specs.Bytes.{bytesOf, nothing}
+use Rattle.rule_examples.specs.Given.{Item, folder, file, rootOf, root, Given, given}
+use Rattle.rule_examples.specs.Events.{create, mkdir, gives}
+use Rattle.rule_examples.specs.Rows.{isDone, isRefused, asks, _⇒_, holds, _then_, end, sendsItself, Row, row, one, passes}
+use Rattle.rule_examples.specs.Evaluation.{wrong}
+
+-- `/r` lacks bit 2 and holds `f`; `/w` has the bits 2 and 1 alone
+abbrev items : List Item
+items = root ∷ file 2 1 7 "a" (1 ∷ 2 ∷ 3 ∷ []) ∷ folder 3 1 5 "r" ∷ file 4 3 7 "f" nothing ∷ folder 5 1 3 "w" ∷ []
+
+abbrev w : Given
+w = given items []
+
+abbrev pub rows : List Row
+rows =
+    -- 17 'create, mkdir on a name that exists, root too'
+    one "17: create /" w (create 7 "/") (isRefused 17)
+    ∷ one "17: mkdir /" w (mkdir 7 "/") (isRefused 17)
+    ∷ one "17: create" w (create 7 "/a") (isRefused 17)
+    ∷ one "17: mkdir on a file" w (mkdir 7 "/a") (isRefused 17)
+    ∷ one "17: create on a folder" w (create 7 "/r") (isRefused 17)
+    ∷ one "17 before 13" w (create 7 "/r/f") (isRefused 17)
+    ∷ one "17 before 13: mkdir" w (mkdir 7 "/r/f") (isRefused 17)
+    ∷ passes "no 17: the name in another folder" w (create 7 "/w/a")
+    -- 13 (parent bit 2), and no other bit than the walk's
+    ∷ one "13: create in a folder without bit 2" w (create 7 "/r/g") (isRefused 13)
+    ∷ one "13: mkdir in a folder without bit 2" w (mkdir 7 "/r/g") (isRefused 13)
+    ∷ one "13: create in a root without bit 2" (given (rootOf 5 ∷ []) []) (create 7 "/a") (isRefused 13)
+    ∷ passes "no 13: create with the bits 2 and 1" w (create 7 "/w/g")
+    ∷ passes "no 13: mkdir with the bits 2 and 1" w (mkdir 7 "/w/g")
+    -- 'Kinds 1, 2, 3 and 9 to 13 send the slip itself'; 'Create and mkdir add a last, empty node with the replied id'; 'the id for 1, 2 and 3'
+    ∷ row "create is done" w
+    (create 6 "/w/g" ⇒ asks (1 ∷ 6 ∷ bytesOf "/w/g") then gives 9 ⇒ isDone 9 nothing then holds (items ++ (file 9 5 6 "g" nothing ∷ [])) [] then end)
+    ∷ row "mkdir is done" w
+    (mkdir 1 "/w/g" ⇒ asks (2 ∷ 1 ∷ bytesOf "/w/g") then gives 300 ⇒ isDone 300 nothing then holds (items ++ (folder 300 5 1 "g" ∷ [])) [] then end)
+    ∷ row "create in the root" w (sendsItself (create 0 "/b") then gives 6 ⇒ isDone 6 nothing then holds (items ++ (file 6 1 0 "b" nothing ∷ [])) [] then end)
+    -- 'Tables change when the last reply is accepted'
+    ∷ row "create that waits" w (sendsItself (create 7 "/b") then holds items [] then end)
+    -- 'A fresh guard holds one node, the root: id 1, mode 7'
+    ∷ row "nodes stand in order of creation" (given (root ∷ []) [])
+    (sendsItself (mkdir 7 "/d") then gives 4 ⇒ isDone 4 nothing then sendsItself (create 7 "/d/a") then gives 3 ⇒ isDone 3 nothing
+    then holds (root ∷ folder 4 1 7 "d" ∷ file 3 4 7 "a" nothing ∷ []) [] then end)
+    ∷ []
+
+pub rows-hold : wrong rows ≡ []
+unfolding wrong
+rows-hold = refl

@@ -1,0 +1,104 @@
+-- Replies where no page goes with them: 'Stop reasons: 1 length (not for 12), then 2 status, 3 id, 4 descriptor, 5 page, 6 stat, 7 listing'. Pages: `Reads`, `Writes`, `Truncations`.
+use mathlib.Core.Path.{_≡_, refl}
+use mathlib.Core.List.{List, [], _∷_, _++_}
+use Prim.Native.Nat.{ℕ}
+use Prim.Native.String.{String}
+use Rattle.filesystem.specs.Tables.{OpenFile}
+use Rattle.rules.specs.Skeleton.{Event}
+use Rattle.rule_examples.specs.Bytes.{bytesOf, four, eight, nothing}
+use Rattle.rule_examples.specs.Given.{Item, folder, file, root, opened, Given, given}
+use Rattle.rule_examples.specs.Events.{replies, create, mkdir, openFor, close, remove, rmdir, chmod, readdir, stat, says, saysMinus, gives, entry, statOf}
+use Rattle.rule_examples.specs.Rows.{Expect, isDone, isStopped, closes, _⇒_, holds, _then_, end, sendsItself, Row, row}
+use Rattle.rule_examples.specs.Evaluation.{wrong}
+
+-- `/d` holds `a` and `b`; `/o` is open
+abbrev items : List Item
+items = root ∷ folder 2 1 7 "d" ∷ file 3 2 7 "a" nothing ∷ folder 4 2 7 "b" ∷ file 5 1 6 "o" (1 ∷ 2 ∷ []) ∷ file 6 1 7 "c" nothing ∷ []
+
+abbrev opens : List OpenFile
+opens = opened 5 8 1 0 ∷ []
+
+abbrev w : Given
+w = given items opens
+
+-- a call that sends itself, the reply, what it comes to
+abbrev answered : String → Event → Event → Expect → Row
+answered t e r x = row t w (sendsItself e then r ⇒ x then end)
+
+abbrev entryA : List ℕ
+entryA = entry 3 1 "a"
+
+abbrev entryB : List ℕ
+entryB = entry 4 2 "b"
+
+-- a listing of `/d`
+abbrev listed : String → List ℕ → Expect → Row
+listed t b x = answered t (readdir "/d") (replies b) x
+
+-- a stat of `/o`
+abbrev stated : String → List ℕ → Expect → Row
+stated t b x = answered t (stat "/o") (replies b) x
+
+abbrev pub rows : List Row
+rows =
+    -- '1 and 2 a 4-byte id, not 0, held by no node'
+    answered "stop 1: an id of 3 bytes" (create 7 "/n") (replies (9 ∷ 0 ∷ 0 ∷ [])) (isStopped 1)
+    ∷ answered "stop 1: an id of 5 bytes" (create 7 "/n") (replies (four 9 ++ (0 ∷ []))) (isStopped 1)
+    ∷ answered "stop 1 before 3: no byte" (mkdir 7 "/n") (replies nothing) (isStopped 1)
+    ∷ answered "stop 1 before 3: 0 in 3 bytes" (mkdir 7 "/n") (replies (0 ∷ 0 ∷ 0 ∷ [])) (isStopped 1)
+    ∷ answered "stop 3: id 0" (create 7 "/n") (gives 0) (isStopped 3)
+    ∷ answered "stop 3: the root's id" (create 7 "/n") (gives 1) (isStopped 3)
+    ∷ answered "stop 3: the last node's id" (mkdir 7 "/n") (gives 6) (isStopped 3)
+    ∷ answered "an id that no node has" (create 7 "/n") (gives 7) (isDone 7 nothing)
+    ∷ answered "the largest id" (mkdir 7 "/n") (gives 4294967295) (isDone 4294967295 nothing)
+    -- '3 a descriptor 0 to 1,023 that no open file has'; 'descriptors too' are signed
+    ∷ answered "stop 1: a descriptor of 3 bytes" (openFor 1 "/c") (replies (1 ∷ 0 ∷ 0 ∷ [])) (isStopped 1)
+    ∷ answered "stop 1 before 4: a descriptor of 5 bytes" (openFor 1 "/c") (replies (four 1024 ++ (0 ∷ []))) (isStopped 1)
+    ∷ answered "stop 4: descriptor 1,024" (openFor 1 "/c") (gives 1024) (isStopped 4)
+    ∷ answered "descriptor 1,023" (openFor 1 "/c") (gives 1023) (isDone 6 nothing)
+    ∷ answered "descriptor 0" (openFor 1 "/c") (gives 0) (isDone 6 nothing)
+    ∷ answered "stop 4: descriptor -1" (openFor 1 "/c") (saysMinus 1) (isStopped 4)
+    ∷ answered "stop 4: another file's descriptor" (openFor 1 "/c") (gives 8) (isStopped 4)
+    -- '4, 8, 9, 10, 11 status 0'; 'a 4-byte signed number in two's complement'
+    ∷ row "stop 2: close answered 1" w (close 5 ⇒ closes 8 then says 1 ⇒ isStopped 2 then holds items opens then end)
+    ∷ row "stop 2: close answered -1" w (close 5 ⇒ closes 8 then saysMinus 1 ⇒ isStopped 2 then end)
+    ∷ row "stop 1: close answered by 3 bytes" w (close 5 ⇒ closes 8 then replies (0 ∷ 0 ∷ 0 ∷ []) ⇒ isStopped 1 then end)
+    ∷ row "stop 1 before 2: close answered by 8 bytes" w (close 5 ⇒ closes 8 then replies (eight 1) ⇒ isStopped 1 then end)
+    ∷ answered "stop 2: remove answered 1" (remove "/c") (says 1) (isStopped 2)
+    ∷ answered "stop 2: remove answered -2" (remove "/c") (saysMinus 2) (isStopped 2)
+    ∷ answered "stop 1: remove answered by no byte" (remove "/c") (replies nothing) (isStopped 1)
+    ∷ answered "remove answered 0" (remove "/c") (says 0) (isDone 0 nothing)
+    ∷ answered "stop 2: rmdir answered 1,024" (rmdir "/d/b") (says 1024) (isStopped 2)
+    ∷ answered "stop 1: rmdir answered by 5 bytes" (rmdir "/d/b") (replies (four 0 ++ (0 ∷ []))) (isStopped 1)
+    ∷ answered "rmdir answered 0" (rmdir "/d/b") (says 0) (isDone 0 nothing)
+    ∷ answered "stop 2: chmod answered -1" (chmod 0 "/d") (saysMinus 1) (isStopped 2)
+    ∷ answered "stop 1: chmod answered by 1 byte" (chmod 0 "/d") (replies (0 ∷ [])) (isStopped 1)
+    ∷ answered "chmod answered 0" (chmod 0 "/d") (says 0) (isDone 0 nothing)
+    -- '12: entries of id (4), kind (1), name length (1) and name, each child once, any order'; whatever is wrong is 7
+    ∷ listed "a listing" (entryA ++ entryB) (isDone 2 (entryA ++ entryB))
+    ∷ listed "a listing the other way round" (entryB ++ entryA) (isDone 2 (entryB ++ entryA))
+    ∷ listed "stop 7: one child twice" (entryA ++ entryA) (isStopped 7)
+    ∷ listed "stop 7: one child missing" entryA (isStopped 7)
+    ∷ listed "stop 7: no byte for two children" nothing (isStopped 7)
+    ∷ listed "stop 7: one child too many" (entryA ++ (entryB ++ entry 5 1 "o")) (isStopped 7)
+    ∷ listed "stop 7: another id" (entryA ++ entry 5 2 "b") (isStopped 7)
+    ∷ listed "stop 7: another kind" (entryA ++ entry 4 1 "b") (isStopped 7)
+    ∷ listed "stop 7: another name" (entryA ++ entry 4 2 "c") (isStopped 7)
+    ∷ listed "stop 7: an entry cut short" (entryA ++ (four 4 ++ (2 ∷ 1 ∷ []))) (isStopped 7)
+    ∷ listed "stop 7: a name past the end" (entryA ++ (four 4 ++ (2 ∷ 9 ∷ bytesOf "b"))) (isStopped 7)
+    ∷ listed "stop 7: a byte behind" (entryA ++ (entryB ++ (0 ∷ []))) (isStopped 7)
+    ∷ answered "stop 7: an entry of an empty folder" (readdir "/d/b") (replies entryA) (isStopped 7)
+    ∷ answered "a listing of an empty folder" (readdir "/d/b") (replies nothing) (isDone 0 nothing)
+    -- '13: id (4), kind (1), mode (1), size (4)'
+    ∷ stated "a stat" (statOf 5 1 6 2) (isDone 2 (statOf 5 1 6 2))
+    ∷ stated "stop 1: a stat of 9 bytes" (four 5 ++ (1 ∷ 6 ∷ 2 ∷ 0 ∷ 0 ∷ [])) (isStopped 1)
+    ∷ stated "stop 1 before 6: a stat of 11 bytes" (statOf 5 1 6 3 ++ (0 ∷ [])) (isStopped 1)
+    ∷ stated "stop 6: another id" (statOf 6 1 6 2) (isStopped 6)
+    ∷ stated "stop 6: another kind" (statOf 5 2 6 2) (isStopped 6)
+    ∷ stated "stop 6: another mode" (statOf 5 1 7 2) (isStopped 6)
+    ∷ stated "stop 6: another size" (statOf 5 1 6 3) (isStopped 6)
+    ∷ []
+
+pub rows-hold : wrong rows ≡ []
+unfolding wrong
+rows-hold = refl

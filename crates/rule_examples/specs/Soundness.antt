@@ -1,0 +1,100 @@
+-- 'Sound: ids differ and aren't 0; each parent is an earlier directory; sibling names differ; every full path and every limit above holds; the second count is the page total; nothing follows.' Each image breaks one rule alone. Many nodes and pages: `Limits`.
+use mathlib.Core.Path.{_≡_, refl}
+use mathlib.Core.List.{List, [], _∷_, _++_}
+use Prim.Native.Nat.{ℕ}
+use Prim.Native.String.{String}
+use lib.ListN.{replicate}
+use mathlib.Core.Option.{none}
+use Rattle.rule_examples.specs.Bytes.{bytesOf, four, many, nothing, name}
+use Rattle.rule_examples.specs.Given.{Item, folder, file, sized, rootOf, root, Given, given, imageWith, section, recordOf, node}
+use Rattle.rule_examples.specs.Events.{loads}
+use Rattle.rule_examples.specs.Rows.{isDone, isRefused, Row, one}
+use Rattle.rule_examples.specs.Evaluation.{wrong}
+
+abbrev w : Given
+w = given (root ∷ []) []
+
+-- a digest
+abbrev seal : List ℕ
+seal = many 32 7
+
+-- an image of these nodes, with this many digests
+abbrev image : List Item → (digests : ℕ) → List ℕ
+image is n = imageWith is (replicate n seal)
+
+abbrev sound : String → List ℕ → Row
+sound t bytes = one t w (loads bytes) (isDone 0 nothing)
+
+abbrev unsound : String → List ℕ → Row
+unsound t bytes = one t w (loads bytes) (isRefused 84)
+
+-- a node with every field free
+abbrev free : (id parent kind mode size : ℕ) → List ℕ → Item
+free i p k m s n = record { node = node i p k m s n; bytes = none }
+
+-- folders of 31 letters one in another: each adds 32 to the path; at the end a file
+abbrev deep : (last : ℕ) → List Item
+deep n =
+    root ∷ folder 2 1 7 (name 31) ∷ folder 3 2 7 (name 31) ∷ folder 4 3 7 (name 31) ∷ folder 5 4 7 (name 31) ∷ folder 6 5 7 (name 31)
+    ∷ folder 7 6 7 (name 31) ∷ folder 8 7 7 (name 31) ∷ file 9 8 7 (name n) nothing ∷ []
+
+abbrev pub rows : List Row
+rows =
+    -- 'Root first: id 1, kind 2, parent 0, no name'
+    sound "the root alone" (image (root ∷ []) 0)
+    ∷ unsound "no node" (image [] 0)
+    ∷ unsound "the root's id is not 1" (image (folder 2 0 7 "" ∷ []) 0)
+    ∷ unsound "the root is a file" (image (file 1 0 7 "" nothing ∷ []) 0)
+    ∷ unsound "the root's parent is not 0" (image (folder 1 1 7 "" ∷ []) 0)
+    ∷ unsound "the root has a name" (image (folder 1 0 7 "r" ∷ []) 0)
+    ∷ unsound "the root is not first" (image (file 2 1 7 "a" nothing ∷ root ∷ []) 0)
+    ∷ sound "a root without any bit" (image (rootOf 0 ∷ []) 0)
+    -- 'ids differ and aren't 0'
+    ∷ sound "two files" (image (root ∷ file 2 1 7 "a" nothing ∷ file 3 1 7 "b" nothing ∷ []) 0)
+    ∷ unsound "two ids alike" (image (root ∷ file 2 1 7 "a" nothing ∷ file 2 1 7 "b" nothing ∷ []) 0)
+    ∷ unsound "the root's id again" (image (root ∷ file 1 1 7 "a" nothing ∷ []) 0)
+    ∷ unsound "an id 0" (image (root ∷ file 0 1 7 "a" nothing ∷ []) 0)
+    -- 'each parent is an earlier directory'
+    ∷ sound "an earlier folder" (image (root ∷ folder 2 1 7 "d" ∷ file 3 2 7 "a" nothing ∷ []) 0)
+    ∷ unsound "a later parent" (image (root ∷ file 3 2 7 "a" nothing ∷ folder 2 1 7 "d" ∷ []) 0)
+    ∷ unsound "a file for a parent" (image (root ∷ file 2 1 7 "d" nothing ∷ file 3 2 7 "a" nothing ∷ []) 0)
+    ∷ unsound "a node's own parent" (image (root ∷ folder 2 2 7 "d" ∷ []) 0)
+    ∷ unsound "no such parent" (image (root ∷ file 3 9 7 "a" nothing ∷ []) 0)
+    -- 'sibling names differ'
+    ∷ unsound "two siblings of one name" (image (root ∷ file 2 1 7 "a" nothing ∷ folder 3 1 7 "a" ∷ []) 0)
+    ∷ sound "one name in two folders" (image (root ∷ file 2 1 7 "a" nothing ∷ folder 3 1 7 "d" ∷ file 4 3 7 "a" nothing ∷ []) 0)
+    -- 'every limit above': kind, mode, size
+    ∷ unsound "kind 0" (image (root ∷ free 2 1 0 7 0 (bytesOf "a") ∷ []) 0)
+    ∷ unsound "kind 3" (image (root ∷ free 2 1 3 7 0 (bytesOf "a") ∷ []) 0)
+    ∷ unsound "mode 8" (image (root ∷ file 2 1 8 "a" nothing ∷ []) 0)
+    ∷ unsound "the root's mode 8" (image (rootOf 8 ∷ []) 0)
+    ∷ unsound "a folder of size 1" (image (root ∷ free 2 1 2 7 1 (bytesOf "a") ∷ []) 1)
+    ∷ sound "a file of 65,536 bytes" (image (root ∷ sized 2 1 7 "a" 65536 ∷ []) 64)
+    ∷ unsound "a file of 65,537 bytes" (image (root ∷ sized 2 1 7 "a" 65537 ∷ []) 65)
+    -- the name's form and length
+    ∷ unsound "no name" (image (root ∷ file 2 1 7 "" nothing ∷ []) 0)
+    ∷ unsound "the name ." (image (root ∷ file 2 1 7 "." nothing ∷ []) 0)
+    ∷ unsound "the name .." (image (root ∷ file 2 1 7 ".." nothing ∷ []) 0)
+    ∷ sound "the name ..." (image (root ∷ file 2 1 7 "..." nothing ∷ []) 0)
+    ∷ unsound "a name with /" (image (root ∷ file 2 1 7 "a/b" nothing ∷ []) 0)
+    ∷ unsound "a name with a byte 0" (image (root ∷ file 2 1 7 "a\0" nothing ∷ []) 0)
+    ∷ sound "a name of 32" (image (root ∷ file 2 1 7 (name 32) nothing ∷ []) 0)
+    ∷ unsound "a name of 33" (image (root ∷ file 2 1 7 (name 33) nothing ∷ []) 0)
+    -- 'every full path'
+    ∷ sound "a path of 255" (image (deep 30) 0)
+    ∷ unsound "a path of 256 bytes" (image (deep 31) 0)
+    -- 'the second count is the page total'
+    ∷ sound "a digest for each page" (image (root ∷ sized 2 1 7 "a" 1025 ∷ []) 2)
+    ∷ unsound "a digest too few" (image (root ∷ sized 2 1 7 "a" 1025 ∷ []) 1)
+    ∷ unsound "a digest too many" (image (root ∷ sized 2 1 7 "a" 1024 ∷ []) 2)
+    ∷ sound "no digest for an empty file" (image (root ∷ sized 2 1 7 "a" 0 ∷ []) 0)
+    -- 'nothing follows'
+    ∷ unsound "a byte behind" (image (root ∷ []) 0 ++ (0 ∷ []))
+    ∷ unsound "a byte short" (section (recordOf (root .node) ∷ []) ++ (0 ∷ 0 ∷ 0 ∷ []))
+    ∷ unsound "one section only" (section (recordOf (root .node) ∷ []))
+    ∷ unsound "a count of one node more" (four 2 ++ (recordOf (root .node) ++ four 0))
+    ∷ []
+
+pub rows-hold : wrong rows ≡ []
+unfolding wrong
+rows-hold = refl
