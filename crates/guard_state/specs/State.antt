@@ -1,6 +1,6 @@
 -- The guard's memory as the machine's state: the header's numbers, the rows in use of each table, and the pending call.
 -- Total: each number of the header is read within its limit. Assumes nothing.
-use mathlib.Core.Bool.{not}
+use mathlib.Core.Bool.{Bool, not}
 use mathlib.Core.List.{List, [], _∷_}
 use Prim.Native.Nat.{ℕ, _+_, _/_, _%_}
 use lib.Dec.{eqb}
@@ -82,14 +82,17 @@ gatheredIn g s =
     ∷ [])
     (g .call) gatheredNone
 
--- The state: of the numbers and the rows in use; of the memory.
-unfoldable pub stateIn : (c : Config) → Guard → View → State (digestStore c)
-stateIn c g v = record {
-  skeleton = record { tables = record { nodes = v .nodes; opens = v .opens }; pending = pendingIn g (v .staged); stopped = g .stopped };
+-- The state: of the rows in use and a pending call; of the numbers; of the memory.
+abbrev pub stateWith : (c : Config) → View → Pending → (stopped : Bool) → Gathered → State (digestStore c)
+stateWith c v p stopped a = record {
+  skeleton = record { tables = record { nodes = v .nodes; opens = v .opens }; pending = p; stopped = stopped };
   contents = v .contents;
-  progress = gatheredIn g (v .staged);
+  progress = a;
   saves = tt;
 }
+
+unfoldable pub stateIn : (c : Config) → Guard → View → State (digestStore c)
+stateIn c g v = stateWith c v (pendingIn g (v .staged)) (g .stopped) (gatheredIn g (v .staged))
 
 unfoldable pub stateOf : (c : Config) → List ℕ → State (digestStore c)
 stateOf c m = let g = numbersOf (memOf m .head) in stateIn c g (viewOf (g .nodes) (g .opens) (memOf m))

@@ -17,7 +17,7 @@ use Rattle.rules.specs.Skeleton.{Config}
 use Rattle.machine.specs.Machine.{Gathered, fresh, guard as digestStore}
 use Rattle.tables.specs.View.{viewOf}
 use Rattle.guard_state.specs.declared.Guard.{Guard}
-use Rattle.guard_state.specs.State.{numbersOf, stateIn, stateOf, clearedHead, pendingIn, gatheredIn}
+use Rattle.guard_state.specs.State.{numbersOf, stateWith, stateIn, stateOf, clearedHead, pendingIn, gatheredIn}
 use Rattle.guard_state.specs.Waits.{waits, ends, stops, restingState}
 
 -- a number within its limit is read as it is
@@ -46,16 +46,7 @@ module _ (c : Config) (m x y s : List ℕ) (e : memOf x ≡ withHead y (withStag
   unfolding stateIn stateOf viewOf waits numbersOf
   staged-waits p a z f g =
       ap (λ (t : Mem). let q = numbersOf (t .head) in stateIn c q (viewOf (q .nodes) (q .opens) t)) e
-      ∙ (λ i. record {
-        skeleton = record {
-          tables = record { nodes = take (n i % (NODES + 1)) (memOf m .nodes); opens = take (o i % (openRows + 1)) (memOf m .opens) };
-          pending = f i;
-          stopped = not (eqb (z i) 0);
-        };
-        contents = divide (take (n i % (NODES + 1)) (memOf m .nodes)) (memOf m .digests);
-        progress = g i;
-        saves = tt;
-      })
+      ∙ (λ i. stateWith c (viewOf (n i % (NODES + 1)) (o i % (openRows + 1)) (memOf m)) (f i) (not (eqb (z i) 0)) (g i))
 
 pub waits-as : (c : Config) (m x y : List ℕ) → memOf x ≡ withHead y (memOf m) → getD y 0 0 ≡ getD (memOf m .head) 0 0 → getD y 1 0 ≡ getD (memOf m .head) 1 0
     → (p : Pending) (a : Gathered) → getD y 2 0 ≡ 0 → pendingIn (numbersOf y) (memOf m .staged) ≡ p → gatheredIn (numbersOf y) (memOf m .staged) ≡ a → stateOf c x ≡ waits c (stateOf c m) p a

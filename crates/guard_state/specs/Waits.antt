@@ -8,7 +8,7 @@ use Rattle.rules.specs.Requests.{Pending, idle}
 use Rattle.rules.specs.Skeleton.{Config, done}
 use Rattle.machine.specs.Machine.{State, Gathered, asking, ending, stopping, guard as digestStore}
 use Rattle.tables.specs.View.{View}
-use Rattle.guard_state.specs.State.{gatheredNone}
+use Rattle.guard_state.specs.State.{gatheredNone, stateWith}
 
 module _ (c : Config) (s : State (digestStore c)) where
   unfoldable pub waits : Pending → Gathered → State (digestStore c)
@@ -22,9 +22,4 @@ module _ (c : Config) (s : State (digestStore c)) where
 
 -- no call is pending, over these rows
 unfoldable pub restingState : (c : Config) → View → State (digestStore c)
-restingState c v = record {
-  skeleton = record { tables = record { nodes = v .nodes; opens = v .opens }; pending = idle; stopped = false };
-  contents = v .contents;
-  progress = gatheredNone;
-  saves = tt;
-}
+restingState c v = stateWith c v idle false gatheredNone

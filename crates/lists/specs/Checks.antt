@@ -1,4 +1,4 @@
--- Ordered checks: a list of (number, condition), of which the first condition that holds gives its number.
+-- Ordered checks: a list of (number, condition). A condition that holds is a fault: the first gives its number.
 -- Assumes nothing.
 use mathlib.Core.Path.{_≡_, refl, ap, subst, _∙_}
 use mathlib.Core.Logic.{_↔_}

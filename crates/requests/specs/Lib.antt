@@ -1,3 +1,4 @@
 pub mod Overwrites
 pub mod StoredPages
 pub mod Heads
+pub mod PathRequests

@@ -5,10 +5,11 @@ ghost use Prim.Native.Nat.{_+_, _-_, _≤_, min};
 ghost use lib.ListN.{length};
 ghost use Rattle.lists.specs.LittleEndian.{encode};
 ghost use Rattle.lists.specs.Parts.{overwrite};
-ghost use Rattle.filesystem.specs.Tables.{PAGE-BYTES, FILE-BYTES};
+ghost use Rattle.filesystem.specs.Tables.{PAGE-BYTES, FILE-BYTES, PATH-BYTES};
 ghost use Rattle.rules.specs.Pages.{writing, shrinking, resized, fill};
 ghost use Rattle.rules.specs.Requests.{closeRequest, fetchRequest, storeRequest, storeLength, cutRequest};
 ghost use Rattle.rules.specs.Skeleton.{atFront};
+ghost use Rattle.requests.specs.PathRequests.{hasNumber, pathRequest};
 ghost use Rattle.requests.specs.StoredPages.{zeros};
 
 // A store: kind, descriptor, page, size, and the page's bytes.
@@ -30,6 +31,47 @@ fn put_longer(out: &mut [u8], kind: u8, descriptor: u32, number: u64)
 {
     put_head(out, kind, descriptor);
     numbers::put_number(out, 5, 4, number);
+}
+
+fn put_plain(out: &mut [u8], kind: u8, path: &[u8]) -> usize
+    requires { ⌜ 1 + length (now path) ≤ length (now out) ⌝ }
+    ensures { λ r. ⌜ (now (out .exit) ≡ atFront (kind ∷ now (path .entry)) (now (out .entry))) × (r ≡ 1 + length (now (path .entry))) ⌝ }
+{
+    let front = [kind];
+    buffers::put(out, 0, &front);
+    buffers::put(out, 1, path);
+    1 + path.len()
+}
+
+fn put_numbered(out: &mut [u8], kind: u8, number: u8, path: &[u8]) -> usize
+    requires { ⌜ 2 + length (now path) ≤ length (now out) ⌝ }
+    ensures { λ r. ⌜ (now (out .exit) ≡ atFront (kind ∷ number ∷ now (path .entry)) (now (out .entry))) × (r ≡ 2 + length (now (path .entry))) ⌝ }
+{
+    let front = [kind, number];
+    buffers::put(out, 0, &front);
+    buffers::put(out, 2, path);
+    2 + path.len()
+}
+
+// create, mkdir and chmod have a mode, open has rights.
+fn has_number(kind: u8) -> bool
+    ensures { λ r. ⌜ r ≡ hasNumber kind ⌝ }
+{
+    if kind <= 3 {
+        return true;
+    }
+    kind == 11
+}
+
+// A call by path sends itself: its kind, its mode or rights where it has one, and the path.
+pub fn write_path(out: &mut [u8], kind: u8, number: u8, path: &[u8]) -> usize
+    requires { ⌜ (length (now path) ≤ PATH-BYTES) × (storeLength ≤ length (now out)) ⌝ }
+    ensures { λ r. ⌜ (now (out .exit) ≡ atFront (pathRequest kind number (now (path .entry))) (now (out .entry))) × (r ≡ length (pathRequest kind number (now (path .entry)))) ⌝ }
+{
+    if has_number(kind) {
+        return put_numbered(out, kind, number, path);
+    }
+    put_plain(out, kind, path)
 }
 
 // close: the descriptor.

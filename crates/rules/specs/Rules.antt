@@ -1,5 +1,7 @@
 -- The rules: for each event the numbers in document 01's order, and what is to be done where none of them holds.
 -- Nothing here knows what is kept of a page.
+-- Letters: t tables, p a path (in pages: a position), h a handle, k a node's place, o an open file's place, m a mode, r rights or a reply, n a number or
+-- a count, d bytes of a write, w the width of ids, c the configuration, sk what is held beside pages.
 -- Assumes nothing.
 use mathlib.Core.Bool.{Bool, true, false, _&&_, _||_, not}
 use mathlib.Core.List.{List, [], _∷_, _++_, map}

@@ -4,6 +4,8 @@ ghost use mathlib.Core.Path.{_≡_};
 ghost use Prim.Native.Nat.{ℕ, _+_, _-_, _*_, _≤_, _<_};
 ghost use mathlib.Core.List.{List, []};
 ghost use lib.ListN.{length, getD, take};
+ghost use Rattle.lists.specs.Equal.{equal};
+ghost use Rattle.digest.specs.Sha256.{sha256};
 ghost use Rattle.filesystem.specs.Tables.{NODES, PAGES, DIGEST-BYTES, findId, findChild, children, findHandle, findDescriptor, nodeAt, pagesFor, pageTotal, setSize};
 ghost use Rattle.filesystem.specs.Image.{divide};
 ghost use Rattle.memory.specs.Records.{nodeOf, openOf};
@@ -162,6 +164,15 @@ pub fn page_digest(m: &[u8], n: usize, k: usize, i: usize) -> &[u8]
 {
     let first = first_page(m, k);
     memory::digest(m, first + i)
+}
+
+// Whether these bytes are page i of node k: their SHA-256 is the kept one.
+pub fn is_page(m: &[u8], n: usize, k: usize, i: usize, page: &[u8]) -> bool
+    requires { ⌜ (k < n) × (n ≤ NODES) × (i < pagesFor (nodeAt (memOf (now m) .nodes) k .size)) × (pageTotal (take n (memOf (now m) .nodes)) ≤ PAGES) × (memorySize ≤ length (now m)) ⌝ }
+    ensures { λ r. ⌜ r ≡ equal (sha256 (now (page .entry))) (getD (getD (divide (take n (memOf (now (m .entry)) .nodes)) (memOf (now (m .entry)) .digests)) k []) i []) ⌝ }
+{
+    let d = digest::sha256(page);
+    buffers::same(&d, page_digest(m, n, k, i))
 }
 
 // How many pages all files have where node k is of this size.

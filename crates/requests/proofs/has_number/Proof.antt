@@ -1,0 +1,17 @@
+-- `requests::has_number` meets its contract. Assumes nothing.
+use mathlib.Core.Path.{sym}
+use lib.Dec.{eqb, leb}
+use borrow.Author.Tests.{le-leb, lt-leb}
+use Rattle.requests.specs.PathRequests.{hasNumber, number-low, number-high}
+use borrow.Author.Needs.{needs}
+use Rattle.requests.proofs.has_number.Statement.{statement}
+use Rattle.requests.proofs.has_number.Tie as tie
+
+returns : tie.Need-returns
+returns c = sym (number-low (c .before .args .kind) (c .if1 .taken))
+
+returns-2 : tie.Need-returns-2
+returns-2 c = sym (number-high (c .before .args .kind) (c .if1 .left))
+
+pub has-number-spec : {M : Type 1} → statement M
+has-number-spec = tie.close (tie.spec returns returns-2)
