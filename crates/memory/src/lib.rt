@@ -168,7 +168,14 @@ fn node_front(id: u64, parent: u64, kind: u8, mode: u8, size: u32, n: u8) -> [u8
 }
 
 // A node's row.
-pub fn node_row(id: u64, parent: u64, kind: u8, mode: u8, size: u32, name: &[u8]) -> [u8; NODE_WIDTH]
+pub fn node_row(
+    id: u64,
+    parent: u64,
+    kind: u8,
+    mode: u8,
+    size: u32,
+    name: &[u8],
+) -> [u8; NODE_WIDTH]
     requires { ⌜ length (now name) ≤ NAME-BYTES ⌝ }
     ensures { λ r. ⌜ nodeOf r ≡ withSize size (newNode id parent kind mode (now (name .entry))) ⌝ }
 {

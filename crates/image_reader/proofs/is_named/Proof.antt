@@ -15,16 +15,10 @@ use Rattle.image_reader.proofs.is_named.Tie as tie
 returns : tie.Need-returns
 returns c = let n = c .before .before .args .name .now in rw (lt-leb (length n) 32 (c .if1 .taken)) (sym (and-false (componentForm n)))
 
-is-own-requires : tie.Need-is-own-requires
-is-own-requires c κs = search needs
-
 returns-2 : tie.Need-returns-2
 returns-2 c = let n = c .before .before .before .before .args .name .now in
     let e : ownName n ≡ false = sym (c .before .is-own .ensures) ∙ not-true _ (c .if2 .taken) in
     rw (component-own n, e)
-
-is-plain-requires : tie.Need-is-plain-requires
-is-plain-requires c κs = search needs
 
 returns-3 : tie.Need-returns-3
 returns-3 c = let n = c .before .before .before .before .before .args .name .now in
@@ -32,4 +26,4 @@ returns-3 c = let n = c .before .before .before .before .before .args .name .now
     rw (component-own n, e, le-leb (length n) 32 (c .before .before .before .if1 .left)) (c .is-plain .ensures ∙ sym (and-true (every plainByte n)))
 
 pub is-named-spec : {M : Type 1} → statement M
-is-named-spec = tie.close (tie.spec returns is-own-requires returns-2 is-plain-requires returns-3)
+is-named-spec = tie.close (tie.spec returns (λ c κs. search needs) returns-2 (λ c κs. search needs) returns-3)

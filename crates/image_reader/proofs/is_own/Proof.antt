@@ -13,17 +13,11 @@ returns c = own-empty (c .before .args .name .now) (c .if1 .taken)
 returns-2 : tie.Need-returns-2
 returns-2 c = own-long (c .before .before .args .name .now) (c .if2 .taken)
 
-shared-slice-read-if3 : tie.Need-shared-slice-read-if3
-shared-slice-read-if3 c = search needs
-
 returns-3 : tie.Need-returns-3
 returns-3 c = own-first (c .before .before .before .before .args .name .now) (c .before .before .before .if1 .left) (c .if3 .taken)
 
 returns-4 : tie.Need-returns-4
 returns-4 c = own-dot (c .before .before .before .before .before .args .name .now) (c .if4 .taken) (c .before .if3 .left)
-
-shared-slice-read-result : tie.Need-shared-slice-read-result
-shared-slice-read-result c = search needs
 
 returns-5 : tie.Need-returns-5
 returns-5 c = let n = c .before .before .before .before .before .before .args .name .now in
@@ -32,12 +26,4 @@ returns-5 c = let n = c .before .before .before .before .before .before .args .n
 
 pub is-own-spec : {M : Type 1} → statement M
 is-own-spec =
-    tie.close
-    (tie.spec
-    returns
-    returns-2
-    shared-slice-read-if3
-    returns-3
-    returns-4
-    shared-slice-read-result
-    returns-5)
+    tie.close (tie.spec returns returns-2 (λ c. search needs) returns-3 returns-4 (λ c. search needs) returns-5)

@@ -7,9 +7,6 @@ use borrow.Author.Needs.{needs}
 use Rattle.image_writer.proofs.write_image.Statement.{statement}
 use Rattle.image_writer.proofs.write_image.Tie as tie
 
-first-page-requires : tie.Need-first-page-requires
-first-page-requires c κs = search needs
-
 put-number-requires : tie.Need-put-number-requires
 unfolding imageLength
 put-number-requires c κs = omega arith
@@ -26,22 +23,13 @@ add-start : tie.Need-add-start
 unfolding imageLength
 add-start c = omega arith
 
-digests-requires : tie.Need-digests-requires
-digests-requires c κs = search needs
-
 put-requires : tie.Need-put-requires
 unfolding imageLength
 put-requires c κs = omega (arith, c .digests .ensures .1, c .before .before .before .before .before .before .before .before .before .before .before .before .before .before .first-page .ensures .0, c .before .before .before .before .before .before .before .before .write-records .ensures .1, c .before .before .before .before .before .before .before .before .before .before .before .before .before .before .before .before .before .pre)
 
-mul-result : tie.Need-mul-result
-mul-result c = search needs
-
 add-result : tie.Need-add-result
 unfolding imageLength
 add-result c = omega arith
-
-same-length : tie.Need-same-length
-same-length c = search needs
 
 returns : tie.Need-returns
 returns c =
@@ -53,16 +41,5 @@ returns c =
 
 pub write-image-spec : {M : Type 1} → statement M
 write-image-spec =
-    tie.close
-    (tie.spec
-    first-page-requires
-    put-number-requires
-    write-records-requires
-    put-number-requires-2
-    add-start
-    digests-requires
-    put-requires
-    mul-result
-    add-result
-    same-length
-    returns)
+    tie.close (tie.spec (λ c κs. search needs) put-number-requires write-records-requires put-number-requires-2 add-start (λ c κs. search needs) put-requires
+    (λ c. search needs) add-result (λ c. search needs) returns)

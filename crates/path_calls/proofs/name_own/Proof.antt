@@ -18,12 +18,6 @@ use borrow.Author.Needs.{needs}
 use Rattle.path_calls.proofs.name_own.Statement.{statement}
 use Rattle.path_calls.proofs.name_own.Tie as tie
 
-node-id-requires : tie.Need-node-id-requires
-node-id-requires c κs = search needs
-
-find-child-requires : tie.Need-find-child-requires
-find-child-requires c κs = search needs
-
 returns : tie.Need-returns
 unfolding nameOwn
 returns c =
@@ -32,9 +26,6 @@ returns c =
     let n : length (take (a .n) ns) ≡ a .n = count-nodes (a .m .now) (a .n) (omega arith) in
     let k = child-front (a .n) ns (a .d) _ _ _ (omega arith) (c .before .before .node-id .ensures) (c .before .find-child .ensures) in
     sym (check-stops barred 17 _ _ _ (ap not (lt-leb (length (take (a .n) ns)) (childAt (take (a .n) ns) (a .d) (a .name .now)) (omega (arith, k)))))
-
-node-mode-requires : tie.Need-node-mode-requires
-node-mode-requires c κs = search needs
 
 returns-2 : tie.Need-returns-2
 unfolding nameOwn
@@ -71,12 +62,4 @@ returns-4 c =
 
 pub name-own-spec : {M : Type 1} → statement M
 name-own-spec =
-    tie.close
-    (tie.spec
-    node-id-requires
-    find-child-requires
-    returns
-    node-mode-requires
-    returns-2
-    returns-3
-    returns-4)
+    tie.close (tie.spec (λ c κs. search needs) (λ c κs. search needs) returns (λ c κs. search needs) returns-2 returns-3 returns-4)

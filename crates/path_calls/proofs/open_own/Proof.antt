@@ -17,20 +17,11 @@ use borrow.Author.Needs.{needs}
 use Rattle.path_calls.proofs.open_own.Statement.{statement}
 use Rattle.path_calls.proofs.open_own.Tie as tie
 
-node-kind-requires : tie.Need-node-kind-requires
-node-kind-requires c κs = search needs
-
 returns : tie.Need-returns
 unfolding openOwn tablesIn
 returns c =
     let a = c .before .before .before .args in
     sym (check-stops stopped 21 _ _ _ (folder (a .n) (memOf (a .m .now) .nodes) (a .k) (omega arith) _ (c .before .node-kind .ensures) (c .if1 .taken)))
-
-node-mode-requires : tie.Need-node-mode-requires
-node-mode-requires c κs = search needs
-
-covers-requires : tie.Need-covers-requires
-covers-requires c κs = search needs
 
 returns-2 : tie.Need-returns-2
 unfolding openOwn tablesIn
@@ -40,12 +31,6 @@ returns-2 c =
     let f = no-folder (a .n) ns (a .k) (omega arith) _ (c .before .before .before .before .node-kind .ensures) (c .before .before .before .if1 .left) in
     let g = ap not (sym (covers-front (a .n) ns (a .k) (omega arith) _ _ (a .rights) (c .before .before .node-mode .ensures) (c .before .covers .ensures))) ∙ c .if2 .taken in
     sym (check-passes stopped 21 _ _ _ f ∙ check-stops stopped 13 _ _ _ g)
-
-node-id-requires : tie.Need-node-id-requires
-node-id-requires c κs = search needs
-
-find-handle-requires : tie.Need-find-handle-requires
-find-handle-requires c κs = search needs
 
 returns-3 : tie.Need-returns-3
 unfolding openOwn tablesIn
@@ -83,15 +68,5 @@ returns-5 c =
 
 pub open-own-spec : {M : Type 1} → statement M
 open-own-spec =
-    tie.close
-    (tie.spec
-    node-kind-requires
-    returns
-    node-mode-requires
-    covers-requires
-    returns-2
-    node-id-requires
-    find-handle-requires
-    returns-3
-    returns-4
-    returns-5)
+    tie.close (tie.spec (λ c κs. search needs) returns (λ c κs. search needs) (λ c κs. search needs) returns-2 (λ c κs. search needs) (λ c κs. search needs)
+    returns-3 returns-4 returns-5)

@@ -12,18 +12,12 @@ use borrow.Author.Needs.{needs}
 use Rattle.path_calls.proofs.readdir_own.Statement.{statement}
 use Rattle.path_calls.proofs.readdir_own.Tie as tie
 
-node-kind-requires : tie.Need-node-kind-requires
-node-kind-requires c κs = search needs
-
 returns : tie.Need-returns
 unfolding readdirOwn
 returns c =
     let a = c .before .before .before .args in
     let ns = memOf (a .m .now) .nodes in
     sym (check-stops stopped 20 _ _ _ (ap not (no-folder (a .n) ns (a .k) (omega arith) _ (c .before .node-kind .ensures) (c .if1 .taken))))
-
-node-mode-requires : tie.Need-node-mode-requires
-node-mode-requires c κs = search needs
 
 returns-2 : tie.Need-returns-2
 unfolding readdirOwn
@@ -44,4 +38,4 @@ returns-3 c =
 
 pub readdir-own-spec : {M : Type 1} → statement M
 readdir-own-spec =
-    tie.close (tie.spec node-kind-requires returns node-mode-requires returns-2 returns-3)
+    tie.close (tie.spec (λ c κs. search needs) returns (λ c κs. search needs) returns-2 returns-3)

@@ -13,17 +13,11 @@ use borrow.Author.Needs.{needs}
 use Rattle.path_calls.proofs.remove_own.Statement.{statement}
 use Rattle.path_calls.proofs.remove_own.Tie as tie
 
-node-kind-requires : tie.Need-node-kind-requires
-node-kind-requires c κs = search needs
-
 returns : tie.Need-returns
 unfolding removeOwn tablesIn
 returns c =
     let a = c .before .before .before .args in
     sym (check-stops stopped 21 _ _ _ (folder (a .n) (memOf (a .m .now) .nodes) (a .k) (omega arith) _ (c .before .node-kind .ensures) (c .if1 .taken)))
-
-node-mode-requires : tie.Need-node-mode-requires
-node-mode-requires c κs = search needs
 
 returns-2 : tie.Need-returns-2
 unfolding removeOwn tablesIn
@@ -32,12 +26,6 @@ returns-2 c =
     let ns = memOf (a .m .now) .nodes in
     let f = no-folder (a .n) ns (a .k) (omega arith) _ (c .before .before .before .node-kind .ensures) (c .before .before .if1 .left) in
     sym (check-passes stopped 21 _ _ _ f ∙ check-stops stopped 13 _ _ _ (ap not (no-bit (a .n) ns (a .d) (omega arith) _ 2 (c .before .node-mode .ensures) (c .if2 .taken))))
-
-node-id-requires : tie.Need-node-id-requires
-node-id-requires c κs = search needs
-
-find-handle-requires : tie.Need-find-handle-requires
-find-handle-requires c κs = search needs
 
 returns-3 : tie.Need-returns-3
 unfolding removeOwn tablesIn
@@ -61,13 +49,4 @@ returns-4 c =
 
 pub remove-own-spec : {M : Type 1} → statement M
 remove-own-spec =
-    tie.close
-    (tie.spec
-    node-kind-requires
-    returns
-    node-mode-requires
-    returns-2
-    node-id-requires
-    find-handle-requires
-    returns-3
-    returns-4)
+    tie.close (tie.spec (λ c κs. search needs) returns (λ c κs. search needs) returns-2 (λ c κs. search needs) (λ c κs. search needs) returns-3 returns-4)

@@ -21,9 +21,6 @@ unfolding rmdirOwn
 returns c =
     sym (check-stops stopped 16 _ _ _ (eq-eqb _ _ (c .if1 .taken)))
 
-node-kind-requires : tie.Need-node-kind-requires
-node-kind-requires c κs = search needs
-
 returns-2 : tie.Need-returns-2
 unfolding rmdirOwn
 returns-2 c =
@@ -31,9 +28,6 @@ returns-2 c =
     let ns = memOf (a .m .now) .nodes in
     let z = ne-eqb (a .k) 0 (c .before .before .if1 .left) in
     sym (check-passes stopped 16 _ _ _ z ∙ check-stops stopped 20 _ _ _ (ap not (no-folder (a .n) ns (a .k) (omega arith) _ (c .before .node-kind .ensures) (c .if2 .taken))))
-
-node-mode-requires : tie.Need-node-mode-requires
-node-mode-requires c κs = search needs
 
 returns-3 : tie.Need-returns-3
 unfolding rmdirOwn
@@ -44,12 +38,6 @@ returns-3 c =
     let f = folder (a .n) ns (a .k) (omega arith) _ (c .before .before .before .node-kind .ensures) (c .before .before .if2 .left) in
     let g = no-bit (a .n) ns (a .d) (omega arith) _ 2 (c .before .node-mode .ensures) (c .if3 .taken) in
     sym (check-passes stopped 16 _ _ _ z ∙ check-passes stopped 20 _ _ _ (ap not f) ∙ check-stops stopped 13 _ _ _ (ap not g))
-
-node-id-requires : tie.Need-node-id-requires
-node-id-requires c κs = search needs
-
-count-children-requires : tie.Need-count-children-requires
-count-children-requires c κs = search needs
 
 returns-4 : tie.Need-returns-4
 unfolding rmdirOwn
@@ -75,14 +63,4 @@ returns-5 c =
 
 pub rmdir-own-spec : {M : Type 1} → statement M
 rmdir-own-spec =
-    tie.close
-    (tie.spec
-    returns
-    node-kind-requires
-    returns-2
-    node-mode-requires
-    returns-3
-    node-id-requires
-    count-children-requires
-    returns-4
-    returns-5)
+    tie.close (tie.spec returns (λ c κs. search needs) returns-2 (λ c κs. search needs) returns-3 (λ c κs. search needs) (λ c κs. search needs) returns-4 returns-5)

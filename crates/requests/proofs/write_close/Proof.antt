@@ -10,9 +10,6 @@ put-head-requires : tie.Need-put-head-requires
 unfolding storeLength
 put-head-requires c κs = search needs
 
-same-length : tie.Need-same-length
-same-length c = search needs
-
 returns : tie.Need-returns
 unfolding closeRequest
 returns c =
@@ -20,4 +17,4 @@ returns c =
     (c .before .before .put-head .ensures ∙ at-front (closeRequest (a .descriptor)) (a .out .now), sym (length-head 4 (a .descriptor)))
 
 pub write-close-spec : {M : Type 1} → statement M
-write-close-spec = tie.close (tie.spec put-head-requires same-length returns)
+write-close-spec = tie.close (tie.spec put-head-requires (λ c. search needs) returns)

@@ -10,9 +10,6 @@ put-longer-requires : tie.Need-put-longer-requires
 unfolding storeLength
 put-longer-requires c κs = search needs
 
-same-length : tie.Need-same-length
-same-length c = search needs
-
 returns : tie.Need-returns
 unfolding cutRequest
 returns c =
@@ -20,4 +17,4 @@ returns c =
     (c .before .before .put-longer .ensures ∙ at-front (cutRequest (a .descriptor) (a .size)) (a .out .now), sym (length-longer 8 (a .descriptor) (a .size)))
 
 pub write-cut-spec : {M : Type 1} → statement M
-write-cut-spec = tie.close (tie.spec put-longer-requires same-length returns)
+write-cut-spec = tie.close (tie.spec put-longer-requires (λ c. search needs) returns)

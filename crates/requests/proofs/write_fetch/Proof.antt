@@ -10,9 +10,6 @@ put-longer-requires : tie.Need-put-longer-requires
 unfolding storeLength
 put-longer-requires c κs = search needs
 
-same-length : tie.Need-same-length
-same-length c = search needs
-
 returns : tie.Need-returns
 unfolding fetchRequest
 returns c =
@@ -20,4 +17,4 @@ returns c =
     (c .before .before .put-longer .ensures ∙ at-front (fetchRequest (a .descriptor) (a .page)) (a .out .now), sym (length-longer 6 (a .descriptor) (a .page)))
 
 pub write-fetch-spec : {M : Type 1} → statement M
-write-fetch-spec = tie.close (tie.spec put-longer-requires same-length returns)
+write-fetch-spec = tie.close (tie.spec put-longer-requires (λ c. search needs) returns)
