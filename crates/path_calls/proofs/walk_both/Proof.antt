@@ -7,7 +7,7 @@ use lib.ListN.{length, take, drop, length-drop}
 use lib.Seq.{take-all}
 use Rattle.paths.specs.Walks.{childStep}
 use Rattle.memory.specs.Layout.{memOf}
-use Rattle.path_calls.specs.Reached.{wayOf, both-root, both-in, both-barred}
+use Rattle.path_calls.specs.Reached.{wayOf, both-root, both-in, both-refused}
 use Rattle.path_calls.specs.Rows.{holds-front}
 use borrow.Author.Needs.{needs}
 use Rattle.path_calls.proofs.walk_both.Statement.{statement}
@@ -48,7 +48,7 @@ returns-2 c =
 returns-3 : tie.Need-returns-3
 returns-3 c =
     let a = c .before .before .before .before .before .before .args in
-    sym (both-barred (take (a .n) (memOf (a .m .now) .nodes)) (a .path .now) _ (sym (c .before .before .before .walk-parent .ensures) ∙ c .before .w2 .given .1))
+    sym (both-refused (take (a .n) (memOf (a .m .now) .nodes)) (a .path .now) _ (sym (c .before .before .before .walk-parent .ensures) ∙ c .before .w2 .given .1))
 
 pub walk-both-spec : {M : Type 1} → statement M
 walk-both-spec =
