@@ -11,7 +11,8 @@ use mathlib.Core.Bool.{_&&_, _||_}
 use Rattle.lists.specs.All.{Bytes}
 use Rattle.lists.specs.EqualLaws.{bytes-of}
 use Rattle.filesystem.specs.Image.{inLimits}
-use Rattle.image_reader.specs.TestLaws.{and-false, id-below}
+use Rattle.lists.specs.Equal.{and-false}
+use Rattle.image_reader.specs.TestLaws.{id-below}
 use borrow.Author.Needs.{needs}
 use Rattle.image_reader.proofs.is_in_limits.Statement.{statement}
 use Rattle.image_reader.proofs.is_in_limits.Tie as tie

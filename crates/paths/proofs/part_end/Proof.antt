@@ -5,7 +5,7 @@ use mathlib.Core.Path.{_≡_, refl}
 use lib.ListN.{length, drop}
 use Rattle.lists.specs.Search.{place}
 use Rattle.paths.specs.Parts.{isEnd, end-slash, end-zero, end-neither}
-use Rattle.paths.specs.Scans.{scan-here, scan-on, scan-end}
+use Rattle.lists.specs.Scans.{scan-here, scan-on, scan-end}
 use borrow.Author.Needs.{needs}
 use Rattle.paths.proofs.part_end.Statement.{statement}
 use Rattle.paths.proofs.part_end.Tie as tie

@@ -6,7 +6,7 @@ use lib.ListN.{length, drop}
 use borrow.Author.Tests.{eq-eqb, ne-eqb}
 use Rattle.lists.specs.Search.{place}
 use Rattle.paths.specs.Parts.{isSlash}
-use Rattle.paths.specs.Scans.{scan-here, scan-on, scan-end}
+use Rattle.lists.specs.Scans.{scan-here, scan-on, scan-end}
 use borrow.Author.Needs.{needs}
 use Rattle.paths.proofs.slash_from.Statement.{statement}
 use Rattle.paths.proofs.slash_from.Tie as tie
