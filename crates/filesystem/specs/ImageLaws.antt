@@ -112,7 +112,7 @@ parse-exactly w s i b = (parse-was-printed w s i b, λ (e, h, p). subst (λ s. p
 
 -- How long an image is.
 
-length-records : (w : ℕ) (ns : List Node) → length (put-all (nodeForm w) ns) ≡ recordsLength w ns
+pub length-records : (w : ℕ) (ns : List Node) → length (put-all (nodeForm w) ns) ≡ recordsLength w ns
 unfolding put-all nodeForm recordsLength
 length-records w [] = refl
 length-records w (n ∷ ns) = simp (length-append, length-encode, length-records w ns) (omega arith)

@@ -9,13 +9,17 @@ use native.Mathlib.Omega.{arith}
 use lib.Dec.{eqb, leb, ltb}
 use lib.ListN.{length, length-append, List·getD-append, List·getD-eq-default}
 use lib.Seq.{append-snoc}
-use borrow.Author.Tests.{eqb-true, eq-eqb, eqb-false, ne-eqb, leb-true, le-leb, ltb-true, lt-ltb, leb-false, not-true}
+use borrow.Author.Tests.{eqb-true, eq-eqb, eqb-false, ne-eqb, leb-true, le-leb, ltb-true, lt-ltb, leb-false, not-true, not-false}
 use Rattle.lists.specs.Equal.{Is, isT, isF, is, equal-true, equal-yes, and-fst, and-snd, and-both}
 use Rattle.lists.specs.Search.{every, unique, place-passes}
 use Rattle.lists.specs.Places.{every-at, at-every, unique-same, same-unique, place-only}
-use Rattle.filesystem.specs.Tables.{NODES, PAGES, FILE-BYTES, NAME-BYTES, PATH-BYTES, Node, noNode, hasId, isFile, isDirectory, nodeAt, findId, pageTotal}
+use Rattle.filesystem.specs.Tables.{NODES, PAGES, FILE-BYTES, NAME-BYTES, PATH-BYTES, Node, noNode, hasId, isFile, isDirectory, nodeAt, present, findId, pageTotal}
 use Rattle.filesystem.specs.Paths.{componentForm}
 use Rattle.filesystem.specs.Image.{pathLength, isRoot, inLimits, isNamed, parentsEarlier, sameId, sameChild, soundNodes}
+
+-- a place that is not present
+pub gone : {A : Type 0} (l : List A) (k : ℕ) → present l k ≡ false → length l ≤ k
+gone l k e = leb-true _ _ (not-false _ e)
 
 -- the node's parent is the directory in place j
 pub record ParentAt (ns : List Node) (n : Node) (j : ℕ) : Type 0 where

@@ -1,7 +1,7 @@
 // The calls by handle judged: the numbers in document 01's order, and where none holds, the places of the open file and of its node. Nothing
 // is changed here.
 ghost use mathlib.Core.Path.{_≡_};
-ghost use Prim.Native.Nat.{ℕ, _≤_, _<_, max};
+ghost use Prim.Native.Nat.{ℕ, _≤_, _<_};
 ghost use lib.ListN.{length, take};
 ghost use Rattle.filesystem.specs.Tables.{NODES, nodeAt};
 ghost use Rattle.memory.specs.Layout.{memOf, memorySize, openRows};
@@ -111,13 +111,6 @@ fn is_full(m: &[u8], n: usize, k: usize, size: u32) -> bool
     limits::PAGES < tables::pages_with(m, n, k, size)
 }
 
-// The larger of two sizes.
-fn larger(a: u32, b: u32) -> u32
-    ensures { λ r. ⌜ r ≡ max a b ⌝ }
-{
-    if a < b { b } else { a }
-}
-
 // write: 9 without right 2, 27, 28.
 pub fn judge_write(m: &[u8], n: usize, o: usize, handle: u64, bytes: &[u8]) -> Handled
     requires { ⌜ (n ≤ NODES) × (o ≤ openRows) × (memorySize ≤ length (now m)) ⌝ }
@@ -136,7 +129,7 @@ pub fn judge_write(m: &[u8], n: usize, o: usize, handle: u64, bytes: &[u8]) -> H
         return Handled::Refused(27);
     }
     let node = tables::find_id(m, n, handle);
-    let size = larger(size_at(m, n, node), end as u32);
+    let size = numbers::larger(size_at(m, n, node), end as u32);
     if is_full(m, n, node, size) {
         return Handled::Refused(28);
     }

@@ -10,12 +10,11 @@ use lib.ListN.{length, getD, take}
 use lib.Seq.{getD-take}
 use borrow.Author.Tests.{le-leb, lt-leb, lt-ltb, le-ltb, ltb-true}
 use Rattle.lists.specs.Pick.{pick, pick-true, pick-false}
-use Rattle.lists.specs.Equal.{and-snd, and-both}
+use Rattle.lists.specs.Equal.{and-false, and-snd, and-both}
 use Rattle.lists.specs.Search.{any, place}
 use Rattle.filesystem.specs.Tables.{PATH-BYTES, Node}
 use Rattle.filesystem.specs.Image.{inLimits, isNamed}
 use Rattle.image_reader.specs.Admission.{clash, isParent, admit, admitted}
-use Rattle.image_reader.specs.TestLaws.{and-false}
 
 module _ (w : ℕ) (before : List Node) (lengths : List ℕ) (x : Node) where
   refused : (t : Bool) → t ≡ false → 256 ≡ pick t (suc (length (x .name)) + getD lengths (place (isParent x) before) 0) (suc PATH-BYTES)

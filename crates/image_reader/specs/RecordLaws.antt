@@ -7,13 +7,12 @@ use native.Mathlib.Omega.{arith}
 use lib.Dec.{leb}
 use mathlib.Core.Bool.{Bool, true, false}
 use borrow.Author.Tests.{le-leb, lt-leb, leb-false, eq-eqb, ne-eqb}
-use Rattle.lists.specs.Equal.{Is, isT, isF, is, and-both}
+use Rattle.lists.specs.Equal.{and-false, Is, isT, isF, is, and-both}
 use Rattle.lists.specs.Search.{any, place}
 use Rattle.lists.specs.Pick.{pick, pick-true, pick-false}
 use lib.ListN.{length}
 use Rattle.filesystem.specs.Tables.{NODES, Node}
 use Rattle.image_writer.specs.Width.{frontLength}
-use Rattle.image_reader.specs.TestLaws.{and-false}
 use Rattle.image_reader.specs.Records.{recordAt, recordEnd, nodesFrom, endFrom, nodeCount, recordsEnd, digestCount, formed}
 
 module _ (w : ℕ) (s : List ℕ) where

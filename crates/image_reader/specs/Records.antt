@@ -9,9 +9,8 @@ use lib.ListN.{length, getD, drop}
 use Rattle.lists.specs.LittleEndian.{decode}
 use Rattle.lists.specs.Parts.{part}
 use Rattle.lists.specs.Rows.{rows}
-use Rattle.lists.specs.Equal.{equal}
 use Rattle.filesystem.specs.Tables.{NODES, Node}
-use Rattle.filesystem.specs.Paths.{slash, dot}
+use Rattle.filesystem.specs.Paths.{slash}
 use Rattle.image_writer.specs.Width.{frontLength}
 
 -- the record that stands at a place
@@ -61,10 +60,6 @@ formed w s =
     && (leb (nodeCount s) NODES
     && (leb (recordsEnd w s + 4) (length s)
     && eqb (recordsEnd w s + 4 + digestCount w s * 32) (length s)))
-
--- neither empty nor `.` nor `..`
-unfoldable pub ownName : List ℕ → Bool
-ownName c = not (equal c []) && (not (equal c (dot ∷ [])) && not (equal c (dot ∷ dot ∷ [])))
 
 -- a byte that a name may have
 abbrev pub plainByte : ℕ → Bool

@@ -11,25 +11,18 @@ use lib.ListN.{length, getD, drop, drop-of-length-le}
 use lib.Seq.{drop-cons}
 use borrow.Author.Tests.{ne-eqb}
 use Rattle.lists.specs.All.{Bytes}
-use Rattle.lists.specs.Equal.{equal, equal-no}
+use Rattle.lists.specs.Equal.{equal}
 use Rattle.lists.specs.NumberParts.{part-below}
 use Rattle.lists.specs.Search.{every}
 use Rattle.lists.specs.Parts.{part}
 use Rattle.filesystem.specs.Paths.{slash, dot, componentForm}
+use Rattle.paths.specs.PathForms.{isName}
 use Rattle.image_writer.specs.Width.{frontLength}
-use Rattle.image_reader.specs.Records.{recordAt, recordEnd, plainByte, ownName}
+use Rattle.image_reader.specs.Records.{recordAt, recordEnd, plainByte}
 
 or-false : (b : Bool) → (b || false) ≡ b
 or-false true = refl
 or-false false = refl
-
-pub and-true : (b : Bool) → (b && true) ≡ b
-and-true true = refl
-and-true false = refl
-
-pub and-false : (b : Bool) → (b && false) ≡ false
-and-false true = refl
-and-false false = refl
 
 -- kind and size
 module _ (k s : ℕ) where
@@ -42,48 +35,15 @@ module _ (k s : ℕ) where
   pub neither-case : (k ≡ 1 → ⊥) → (k ≡ 2 → ⊥) → false ≡ (eqb k 1 && leb s 65536 || eqb k 2 && eqb s 0)
   neither-case m n = rw (ne-eqb k 1 m, ne-eqb k 2 n)
 
-pub ne-two : (n : ℕ) → (n ≡ 0 → ⊥) → (n ≡ 1 → ⊥) → n ≤ 2 → n ≡ 2
-ne-two zero a b h = absurd (a refl)
-ne-two (suc zero) a b h = absurd (b refl)
-ne-two (suc (suc n)) a b h = omega arith
-
 -- names
-pub own-empty : (c : List ℕ) → length c ≡ 0 → false ≡ ownName c
-unfolding ownName equal
-own-empty [] h = refl
-own-empty (x ∷ c) h = absurd (omega arith)
-
-pub own-other : (c : List ℕ) → (length c ≡ 0 → ⊥) → (c ≡ dot ∷ [] → ⊥) → (c ≡ dot ∷ dot ∷ [] → ⊥) → true ≡ ownName c
-unfolding ownName
-own-other c h n m = rw (equal-no c [] (λ e. h (ap length e)), equal-no c (dot ∷ []) n, equal-no c (dot ∷ dot ∷ []) m)
-
-pub own-long : (c : List ℕ) → 2 < length c → true ≡ ownName c
-own-long c h = own-other c (λ e. omega arith) (λ e. omega (arith, ap length e)) (λ e. omega (arith, ap length e))
-
-pub own-first : (c : List ℕ) → (length c ≡ 0 → ⊥) → (getD c 0 0 ≡ dot → ⊥) → true ≡ ownName c
-own-first c h n = own-other c h (λ e. n (ap (λ (l : List ℕ). getD l 0 0) e)) (λ e. n (ap (λ (l : List ℕ). getD l 0 0) e))
-
-pub own-dot : (c : List ℕ) → length c ≡ 1 → getD c 0 0 ≡ dot → false ≡ ownName c
-unfolding ownName equal
-own-dot [] h e = absurd (omega arith)
-own-dot (x ∷ []) h e = rw e
-own-dot (x ∷ y ∷ c) h e = absurd (omega arith)
-
-pub own-two : (c : List ℕ) → length c ≡ 2 → getD c 0 0 ≡ dot → not (eqb (getD c 1 0) dot) ≡ ownName c
-unfolding ownName equal
-own-two [] h e = absurd (omega arith)
-own-two (x ∷ []) h e = absurd (omega arith)
-own-two (x ∷ y ∷ []) h e = rw e (ap not (sym (and-true (eqb y dot))))
-own-two (x ∷ y ∷ z ∷ c) h e = absurd (omega arith)
-
 regroup : (a b c d : Bool) → (a && (b && (c && d))) ≡ ((a && (b && c)) && d)
 regroup true true c d = refl
 regroup true false c d = refl
 regroup false b c d = refl
 
-pub component-own : (c : List ℕ) → componentForm c ≡ (ownName c && every plainByte c)
-unfolding componentForm ownName
-component-own c = regroup (not (equal c [])) (not (equal c (dot ∷ []))) (not (equal c (dot ∷ dot ∷ []))) (every plainByte c)
+pub component-name : (c : List ℕ) → componentForm c ≡ (isName c && every plainByte c)
+unfolding componentForm isName
+component-name c = regroup (not (equal c [])) (not (equal c (dot ∷ []))) (not (equal c (dot ∷ dot ∷ []))) (every plainByte c)
 
 module _ (l : List ℕ) (i : ℕ) where
   plain-at : i < length l → every plainByte (drop i l) ≡ (plainByte (getD l i 0) && every plainByte (drop (i + 1) l))

@@ -13,7 +13,7 @@ ghost use Rattle.filesystem.specs.Paths.{componentForm};
 ghost use Rattle.filesystem.specs.Image.{isRoot, inLimits, soundNodes, parse};
 ghost use Rattle.memory.specs.Layout.{memOf, memorySize, withNodes, withDigests};
 ghost use Rattle.image_writer.specs.Width.{frontLength};
-ghost use Rattle.image_reader.specs.Records.{recordAt, recordEnd, nodesFrom, endFrom, recordsEnd, digestCount, imageDigests, formed, plainByte, ownName, isSome};
+ghost use Rattle.image_reader.specs.Records.{recordAt, recordEnd, nodesFrom, endFrom, recordsEnd, digestCount, imageDigests, formed, plainByte, isSome};
 ghost use Rattle.image_reader.specs.Loaded.{Loaded};
 ghost use Rattle.image_reader.specs.Admission.{clash, isParent, admit, admitted};
 
@@ -146,26 +146,6 @@ fn is_plain(name: &[u8]) -> bool
     true
 }
 
-// Neither empty nor `.` nor `..`.
-fn is_own(name: &[u8]) -> bool
-    ensures { λ r. ⌜ r ≡ ownName (now (name .entry)) ⌝ }
-{
-    let n = name.len();
-    if n == 0 {
-        return false;
-    }
-    if 2 < n {
-        return true;
-    }
-    if name[0] != 46 {
-        return true;
-    }
-    if n == 1 {
-        return false;
-    }
-    name[1] != 46
-}
-
 // A component's form, and at most 32 bytes.
 fn is_named(name: &[u8]) -> bool
     ensures { λ r. ⌜ r ≡ (componentForm (now (name .entry)) && leb (length (now (name .entry))) NAME-BYTES) ⌝ }
@@ -173,7 +153,7 @@ fn is_named(name: &[u8]) -> bool
     if limits::NAME_BYTES < name.len() {
         return false;
     }
-    if !is_own(name) {
+    if !paths::is_name(name) {
         return false;
     }
     is_plain(name)

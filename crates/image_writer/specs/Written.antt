@@ -4,50 +4,39 @@ use Prim.Native.Nat.{ℕ, _+_, _*_, _≤_, _<_}
 use mathlib.Core.Path.{_≡_, refl, ap, ap₂, sym, _∙_}
 use mathlib.Core.List.{List, [], _∷_, _++_, append-assoc}
 use native.Mathlib.Omega.{arith}
-use native.Mathlib.Numerals.{add-one}
-use lib.ListN.{length, take, drop, length-append, drop-of-length-le}
-use lib.Seq.{drop-cons, length-take-le, getD-take}
+use lib.ListN.{length, take, drop, length-append}
+use lib.Seq.{length-take-le}
 use Rattle.lists.specs.LittleEndian.{encode, length-encode}
 use Rattle.lists.specs.Form.{put-all, bytes}
+use Rattle.lists.specs.Scans.{rest, rest-none}
 use Rattle.lists.specs.Parts.{overwrite}
-use Rattle.lists.specs.PartLaws.{overwrite-front, overwrite-none, overwrite-next}
+use Rattle.lists.specs.PartLaws.{overwrite-none, overwrite-next}
 use Rattle.filesystem.specs.Tables.{NODES, PAGES, Node, noNode, nodeAt, pagesFor, pageTotal}
-use Rattle.filesystem.specs.Image.{nodeForm, imageForm, print, recordsLength, imageLength}
-use Rattle.memory.specs.Layout.{memOf, memorySize}
+use Rattle.filesystem.specs.Image.{nodeForm, imageForm, print, recordsLength}
+use Rattle.filesystem.specs.ImageLaws.{length-records}
+use Rattle.memory.specs.Layout.{memOf}
 use Rattle.memory.specs.MemLaws.{length-nodes, length-digests}
 use Rattle.image_writer.specs.Width.{nodesIn, imageIn, recordLength, middle}
 
--- Parts written one behind the other.
-module _ {A : Type 0} where
-  -- four parts from the front
-  pub four-parts : (l a b c d : List A) (p q r : ℕ) → p ≡ length a → q ≡ p + length b → r ≡ q + length c → r ≤ length l
-      → overwrite (overwrite (overwrite (overwrite l 0 a) p b) q c) r d ≡ ((a ++ b) ++ (c ++ d)) ++ drop (length ((a ++ b) ++ (c ++ d))) l
-  four-parts l a b c d p q r e f g h =
-      let n : length (a ++ b) ≡ q = length-append a b ∙ omega arith in
-      let k : length ((a ++ b) ++ c) ≡ r = length-append (a ++ b) c ∙ omega arith in
-      let s : overwrite (overwrite l 0 a) p b ≡ overwrite l 0 (a ++ b) = overwrite-next l 0 a b p (omega arith) (omega arith) in
-      let t : overwrite (overwrite l 0 (a ++ b)) q c ≡ overwrite l 0 ((a ++ b) ++ c) = overwrite-next l 0 (a ++ b) c q (omega arith) (omega arith) in
-      let u : overwrite (overwrite l 0 ((a ++ b) ++ c)) r d ≡ overwrite l 0 (((a ++ b) ++ c) ++ d) = overwrite-next l 0 ((a ++ b) ++ c) d r (omega arith) (omega arith) in
-      ap (λ (o : List A). overwrite o r d) (ap (λ (o : List A). overwrite o q c) s ∙ t) ∙ u
-      ∙ ap (overwrite l 0) (append-assoc (a ++ b) c d)
-      ∙ overwrite-front l ((a ++ b) ++ (c ++ d))
+-- Four parts written one behind the other.
+pub four-parts : {A : Type 0} (l : List A) (at : ℕ) (a b c d : List A) (p q r : ℕ) → p ≡ at + length a → q ≡ p + length b → r ≡ q + length c → at ≤ length l
+    → overwrite (overwrite (overwrite (overwrite l at a) p b) q c) r d ≡ overwrite l at ((a ++ b) ++ (c ++ d))
+four-parts l at a b c d p q r e f g h =
+    let n : length (a ++ b) ≡ length a + length b = length-append a b in
+    let k : length ((a ++ b) ++ c) ≡ length (a ++ b) + length c = length-append (a ++ b) c in
+    rw (overwrite-next l at a b p e h, overwrite-next l at (a ++ b) c q (omega arith) h, overwrite-next l at ((a ++ b) ++ c) d r (omega arith) h, append-assoc (a ++ b) c d)
 
 -- What stands from place i on.
-pub rest-at : (ns : List Node) (i : ℕ) → i < length ns → drop i ns ≡ nodeAt ns i ∷ drop (i + 1) ns
-unfolding nodeAt
-rest-at ns i h = rw (add-one i) (drop-cons ns i noNode h)
-
 module _ (m : List ℕ) (n : ℕ) (h : n ≤ NODES) where
-  pub length-in : length (nodesIn n m) ≡ n
-  length-in = length-take-le n (memOf m .nodes) (rw (length-nodes m) h)
+  few : n ≤ length (memOf m .nodes)
+  few = rw (length-nodes m) h
 
-  pub node-in : (i : ℕ) → i < n → nodeAt (nodesIn n m) i ≡ nodeAt (memOf m .nodes) i
-  unfolding nodeAt
-  node-in i l = getD-take n (memOf m .nodes) i noNode l
-
-  -- what stands from place i on, by the memory's nodes
   pub rest-in : (i : ℕ) → i < n → drop i (nodesIn n m) ≡ nodeAt (memOf m .nodes) i ∷ drop (i + 1) (nodesIn n m)
-  rest-in i l = rest-at (nodesIn n m) i (rw length-in l) ∙ ap (λ (x : Node). x ∷ drop (i + 1) (nodesIn n m)) (node-in i l)
+  unfolding nodeAt
+  rest-in i l = rest noNode (memOf m .nodes) n i few l
+
+  end-in : (i : ℕ) → n ≤ i → drop i (nodesIn n m) ≡ []
+  end-in i l = rest-none noNode (memOf m .nodes) n i few l
 
   pub pages-in : (i : ℕ) → i < n → pageTotal (drop i (nodesIn n m)) ≡ pagesFor (nodeAt (memOf m .nodes) i .size) + pageTotal (drop (i + 1) (nodesIn n m))
   unfolding pageTotal
@@ -60,10 +49,6 @@ module _ (m : List ℕ) (n : ℕ) (h : n ≤ NODES) where
   pub put-in : (w i : ℕ) → i < n → put-all (nodeForm w) (drop i (nodesIn n m)) ≡ nodeForm w .put (nodeAt (memOf m .nodes) i) ++ put-all (nodeForm w) (drop (i + 1) (nodesIn n m))
   unfolding put-all
   put-in w i l = ap (put-all (nodeForm w)) (rest-in i l)
-
-  -- nothing stands from place n on
-  end-in : (i : ℕ) → n ≤ i → drop i (nodesIn n m) ≡ []
-  end-in i l = drop-of-length-le (nodesIn n m) {i = i} (rw length-in l)
 
   pub pages-end : (i : ℕ) → n ≤ i → pageTotal (drop i (nodesIn n m)) ≡ 0
   unfolding pageTotal
@@ -124,12 +109,7 @@ record-made l at w x h e₁ e₂ e₃ p q r t =
     let g₂ = e₂ ∙ ap₂ (λ (o f : List ℕ). overwrite o (at + 2 * w) f) g₁ r in
     e₃ ∙ ap₂ (λ (o s : List ℕ). overwrite o (at + 2 * w + 7) s) g₂ t ∙ record-written l at w x h
 
--- The records' length, and the image's.
-pub length-records : (w : ℕ) (ns : List Node) → length (put-all (nodeForm w) ns) ≡ recordsLength w ns
-unfolding put-all recordsLength
-length-records w [] = refl
-length-records w (n ∷ ns) = rw (length-append (nodeForm w .put n) (put-all (nodeForm w) ns), length-record w n, length-records w ns)
-
+-- The image in four parts.
 pub print-parts : (w : ℕ) (ns : List Node) (ds : List (List ℕ)) → print w (ns, ds) ≡ (encode 4 (length ns) ++ put-all (nodeForm w) ns) ++ (encode 4 (length ds) ++ put-all (bytes 32) ds)
 unfolding print imageForm
 print-parts w ns ds = refl
@@ -147,32 +127,29 @@ module _ (m : List ℕ) (n : ℕ) (h : n ≤ NODES) (w i : ℕ) where
   pub records-done : n ≤ i → (l : List ℕ) (at : ℕ) → l ≡ overwrite l at (put-all (nodeForm w) (drop i (nodesIn n m)))
   records-done b l at = sym (ap (overwrite l at) (put-end m n h w i b) ∙ overwrite-none 0 l at)
 
--- The image as four writes make it, and its length.
-module _ (w n : ℕ) (l m : List ℕ) (at pages : ℕ) (d : List ℕ) (h : n ≤ NODES) (room : memorySize ≤ length m) (few : pageTotal (nodesIn n m) ≤ PAGES) (fits : imageLength w (nodesIn n m) ≤ length l)
-    (behind : at ≡ 4 + recordsLength w (nodesIn n m)) (count : pages ≡ pageTotal (nodesIn n m)) (flat : d ≡ put-all (bytes 32) (take pages (memOf m .digests))) (size : length d ≡ pages * 32) where
-  abbrev ns : List Node
-  ns = nodesIn n m
-
+-- The image as four writes make it, and the place behind it.
+module _ (w n : ℕ) (l m : List ℕ) (at behind pages : ℕ) (d : List ℕ) (h : n ≤ NODES) (few : pageTotal (nodesIn n m) ≤ PAGES) (fits : at ≤ length l)
+    (sized : behind ≡ at + 4 + recordsLength w (nodesIn n m)) (count : pages ≡ pageTotal (nodesIn n m))
+    (flat : d ≡ put-all (bytes 32) (take pages (memOf m .digests))) (size : length d ≡ pages * 32) where
   abbrev records : List ℕ
-  records = put-all (nodeForm w) ns
+  records = put-all (nodeForm w) (nodesIn n m)
 
   as-parts : print w (imageIn n m) ≡ (encode 4 n ++ records) ++ (encode 4 pages ++ d)
   as-parts =
-      let k : length (take (pageTotal ns) (memOf m .digests)) ≡ pages = length-take-le (pageTotal ns) (memOf m .digests) (rw (length-digests m) few) ∙ sym count in
-      let e : put-all (bytes 32) (take (pageTotal ns) (memOf m .digests)) ≡ d = ap (λ (k : ℕ). put-all (bytes 32) (take k (memOf m .digests))) (sym count) ∙ sym flat in
-      print-parts w ns (take (pageTotal ns) (memOf m .digests))
-      ∙ ap₂ (λ (a : ℕ) (r : List ℕ). (encode 4 a ++ records) ++ r) (length-in m n h) (ap₂ (λ (a : ℕ) (r : List ℕ). encode 4 a ++ r) k e)
+      let ds = take (pageTotal (nodesIn n m)) (memOf m .digests) in
+      let j : length (nodesIn n m) ≡ n = length-take-le n (memOf m .nodes) (rw (length-nodes m) h) in
+      let k : length ds ≡ pages = length-take-le (pageTotal (nodesIn n m)) (memOf m .digests) (rw (length-digests m) few) ∙ sym count in
+      let e : put-all (bytes 32) ds ≡ d = ap (λ (k : ℕ). put-all (bytes 32) (take k (memOf m .digests))) (sym count) ∙ sym flat in
+      print-parts w (nodesIn n m) ds ∙ ap₂ (λ (a : ℕ) (r : List ℕ). (encode 4 a ++ records) ++ r) j (ap₂ (λ (a : ℕ) (r : List ℕ). encode 4 a ++ r) k e)
 
-  pub image-written : {l₁ l₂ l₃ l₄ : List ℕ} → l₁ ≡ overwrite l 0 (encode 4 n) → l₂ ≡ overwrite l₁ 4 records → l₃ ≡ overwrite l₂ at (encode 4 pages) → l₄ ≡ overwrite l₃ (at + 4) d
-      → (l₄ ≡ print w (imageIn n m) ++ drop (length (print w (imageIn n m))) l) × (at + 4 + 32 * pages ≡ length (print w (imageIn n m)))
-  unfolding imageLength
+  pub image-written : {l₁ l₂ l₃ l₄ : List ℕ} → l₁ ≡ overwrite l at (encode 4 n) → l₂ ≡ overwrite l₁ (at + 4) records
+      → l₃ ≡ overwrite l₂ behind (encode 4 pages) → l₄ ≡ overwrite l₃ (behind + 4) d
+      → (l₄ ≡ overwrite l at (print w (imageIn n m))) × (behind + 4 + 32 * pages ≡ at + length (print w (imageIn n m)))
   image-written e₁ e₂ e₃ e₄ =
       let a : length (encode 4 n) ≡ 4 = length-encode 4 n in
-      let b : length records ≡ recordsLength w ns = length-records w ns in
+      let b : length records ≡ recordsLength w (nodesIn n m) = length-records w (nodesIn n m) in
       let c : length (encode 4 pages) ≡ 4 = length-encode 4 pages in
-      let g : length ((encode 4 n ++ records) ++ (encode 4 pages ++ d)) ≡ at + 4 + 32 * pages = simp length-append (omega arith) in (
-        e₄ ∙ ap (λ (o : List ℕ). overwrite o (at + 4) d) (e₃ ∙ ap (λ (o : List ℕ). overwrite o at (encode 4 pages)) (e₂ ∙ ap (λ (o : List ℕ). overwrite o 4 records) e₁))
-            ∙ four-parts l (encode 4 n) records (encode 4 pages) d 4 at (at + 4) (omega arith) (omega arith) (omega arith) (omega arith)
-            ∙ ap (λ (x : List ℕ). x ++ drop (length x) l) (sym as-parts),
-        sym g ∙ ap length (sym as-parts),
+      let g : length ((encode 4 n ++ records) ++ (encode 4 pages ++ d)) ≡ 8 + length records + length d = simp length-append (omega arith) in (
+        e₄ ∙ rw (e₃, e₂, e₁, as-parts) (four-parts l at (encode 4 n) records (encode 4 pages) d (at + 4) behind (behind + 4) (omega arith) (omega arith) (omega arith) fits),
+        rw as-parts (omega arith),
       )

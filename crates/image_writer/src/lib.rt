@@ -2,7 +2,7 @@
 ghost use mathlib.Core.Path.{_≡_};
 ghost use mathlib.Core.List.{_++_};
 ghost use Prim.Native.Nat.{_+_, _*_, _≤_, _<_};
-ghost use lib.ListN.{length, take, drop};
+ghost use lib.ListN.{length, take};
 ghost use Rattle.lists.specs.Equal.{equal};
 ghost use Rattle.lists.specs.Form.{put-all};
 ghost use Rattle.lists.specs.LittleEndian.{encode};
@@ -98,17 +98,17 @@ pub fn write_records(m: &[u8], n: usize, out: &mut [u8], at: usize) -> usize
     next
 }
 
-// The image of the first n nodes, written over the front of out; its length.
-pub fn write_image(m: &[u8], n: usize, out: &mut [u8]) -> usize
-    requires { ⌜ (n ≤ NODES) × (memorySize ≤ length (now m)) × (pageTotal (nodesIn n (now m)) ≤ PAGES) × (imageLength ID-BYTES (nodesIn n (now m)) ≤ length (now out)) ⌝ }
-    ensures { λ r. ⌜ now (out .exit) ≡ print ID-BYTES (imageIn n (now (m .entry))) ++ drop (length (print ID-BYTES (imageIn n (now (m .entry))))) (now (out .entry)) ⌝ }
-    ensures { λ r. ⌜ r ≡ length (print ID-BYTES (imageIn n (now (m .entry)))) ⌝ }
+// The image of the first n nodes, written over a part of out; the place behind it.
+pub fn write_image(m: &[u8], n: usize, out: &mut [u8], at: usize) -> usize
+    requires { ⌜ (n ≤ NODES) × (memorySize ≤ length (now m)) × (pageTotal (nodesIn n (now m)) ≤ PAGES) × (at + imageLength ID-BYTES (nodesIn n (now m)) ≤ length (now out)) ⌝ }
+    ensures { λ r. ⌜ now (out .exit) ≡ overwrite (now (out .entry)) at (print ID-BYTES (imageIn n (now (m .entry)))) ⌝ }
+    ensures { λ r. ⌜ r ≡ at + length (print ID-BYTES (imageIn n (now (m .entry)))) ⌝ }
 {
     let pages = tables::first_page(m, n);
-    numbers::put_number(out, 0, 4, n as u64);
-    let at = write_records(m, n, out, 4);
-    numbers::put_number(out, at, 4, pages as u64);
-    let start = at + 4;
+    numbers::put_number(out, at, 4, n as u64);
+    let behind = write_records(m, n, out, at + 4);
+    numbers::put_number(out, behind, 4, pages as u64);
+    let start = behind + 4;
     buffers::put(out, start, memory::digests(m, pages));
     start + limits::DIGEST_BYTES * pages
 }

@@ -27,6 +27,14 @@ and-snd false b e = absurd (true≢false (sym e))
 pub and-both : (a b : Bool) → a ≡ true → b ≡ true → (a && b) ≡ true
 and-both a b p q = rw (p, q)
 
+pub and-true : (b : Bool) → (b && true) ≡ b
+and-true true = refl
+and-true false = refl
+
+pub and-false : (b : Bool) → (b && false) ≡ false
+and-false true = refl
+and-false false = refl
+
 pub or-fst : (a b : Bool) → (a || b) ≡ false → a ≡ false
 or-fst true b e = e
 or-fst false b e = refl

@@ -19,6 +19,7 @@ pub mod BigEndian
 pub mod Form
 pub mod Checks
 pub mod Search
+pub mod Scans
 pub mod Rearranged
 pub mod Places
 pub mod Maps

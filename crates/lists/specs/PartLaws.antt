@@ -138,6 +138,13 @@ module _ {A : Type 0} (d : A) where
       rw (n, ← append-assoc (take at l) x (drop (at + length x) l), drop-cons l (at + length x) d h, set-at (take at l ++ x) (getD l (at + length x) d) (drop (suc (at + length x)) l) v (at + length x) p)
       (append-assoc (take at l) x (v ∷ drop (suc (at + length x)) l) ∙ ap {B = List A} (λ r. take at l ++ r) (sym (append-assoc x (v ∷ []) (drop (suc (at + length x)) l))))
 
+  -- one element more of x
+  pub overwrite-more : (l : List A) (at : ℕ) (x : List A) (i k : ℕ) → k ≡ at + i → i < length x → k < length l
+      → set (overwrite l at (take i x)) k (getD x i d) ≡ overwrite l at (take (i + 1) x)
+  overwrite-more l at x i k e h f =
+      let n : length (take i x) ≡ i = length-take-le i x (omega arith) in
+      rw (e, add-one i, take-suc x i d h) (rw n at (overwrite-snoc l at (take i x) (getD x i d) (omega arith)))
+
   pub overwrite-cons : (l : List A) (at : ℕ) (x : List A) (v : A) → at < length l → set (overwrite l (suc at) x) at v ≡ overwrite l at (v ∷ x)
   unfolding overwrite
   overwrite-cons l at x v h =

@@ -15,7 +15,7 @@ use Rattle.lists.specs.Pick.{pick, pick-true, pick-false, pick-ind}
 use Rattle.lists.specs.Cells.{inside, tab, getD-tab, tab-cong}
 use Rattle.lists.specs.Search.{select, without}
 use Rattle.filesystem.specs.Tables.{PAGE-BYTES, Node, Tables, noOpenFile, openAt, hasParent, children, setCursor}
-use Rattle.rules.specs.Pages.{part, splice, Change, writing, shrinking, cursorAfter, numberOf}
+use Rattle.rules.specs.Pages.{bytesAt, splice, Change, writing, shrinking, cursorAfter, numberOf}
 use Rattle.rules.specs.PageLaws.{getD-splice, range, Where, low, mid, high}
 use Rattle.rules.specs.Requests.{asked, changing}
 use Rattle.rules.specs.Skeleton.{Config, Answer, done, ask, stopped}
@@ -28,8 +28,8 @@ unfolding tab
 cells [] = refl
 cells (x ∷ d) = ap (λ l. x ∷ l) (cells d)
 
-pub read-written : (b : List ℕ) (p : ℕ) (d : List ℕ) → part (splice b p d) p (length d) ≡ d
-unfolding part
+pub read-written : (b : List ℕ) (p : ℕ) (d : List ℕ) → bytesAt (splice b p d) p (length d) ≡ d
+unfolding bytesAt
 read-written b p d = tab-cong (length d) _ _ (λ j h. getD-splice b p d (p + j) ∙ cell j h (range p (length d) (p + j))) ∙ cells d
   where
     cell : (j : ℕ) → j < length d → Where p (length d) (p + j) → pick (inside p (length d) (p + j)) (getD d (p + j - p) 0) (getD b (p + j) 0) ≡ getD d j 0

@@ -13,8 +13,8 @@ use Rattle.lists.specs.Cells.{tab, tab-more, tab-none}
 use Rattle.lists.specs.Maps.{map-set, map-without}
 use Rattle.filesystem.specs.Tables.{Node, noNode, nodeAt, pagesFor}
 use Rattle.filesystem.specs.Image.{divide}
-use Rattle.rules.specs.Pages.{pageAt, pageOf, part, Change, first, last, fetches, fill, cuts, bytesAfter, FitsSize}
-use Rattle.rules.specs.PageLaws.{first-last, fill-page, fill-blank, part-more}
+use Rattle.rules.specs.Pages.{pageAt, pageOf, bytesAt, Change, first, last, fetches, fill, cuts, bytesAfter, FitsSize}
+use Rattle.rules.specs.PageLaws.{first-last, fill-page, fill-blank, bytesAt-more}
 use Rattle.rules.specs.Requests.{asked, Pending, idle, creating, opening, closing, removing, changing, listing, stating, reading, fetching, storing, cutting}
 use Rattle.rules.specs.Skeleton.{Config, Event}
 use Rattle.rules.specs.Rules.{Move, refuse, halt, send, finish, add, delete, readPage, begin, fillPage, stored, cutDone, saving, loading}
@@ -72,7 +72,7 @@ module _ (c : Config) where
   bytesOf t k = getD (t .contents) k []
 
   starts-bare : (xs : List (List ℕ)) (p : Pending) → Starts p → progressOf c xs p ≡ record { bytes = []; digests = [] }
-  unfolding progressOf part pageAt tab
+  unfolding progressOf bytesAt pageAt tab
   starts-bare xs idle s = absurd s
   starts-bare xs (asked x) s = refl
   starts-bare xs (reading k o p n i) s = let e : max p (i * 1024) - p ≡ 0 = omega arith in rw e
@@ -117,7 +117,7 @@ module _ (c : Config) where
 
   -- a read goes on
   read-on-same : (t : State (tree c)) (k o p n i : ℕ) (b : List ℕ) → ReadingFits (t .skeleton .tables .nodes) (t .skeleton .tables .opens) k o p n i
-      → readOn c (guard c) (beside t b []) k o p n i (record { bytes = part (bytesOf t k) p (min (p + n) (suc i * 1024) - p); digests = [] })
+      → readOn c (guard c) (beside t b []) k o p n i (record { bytes = bytesAt (bytesOf t k) p (min (p + n) (suc i * 1024) - p); digests = [] })
       ≡ resultOf (readOn c (tree c) t k o p n i tt)
   unfolding readOn resultOf guardOf progressOf pageAt
   read-on-same t k o p n i b h =
@@ -131,14 +131,14 @@ module _ (c : Config) where
 
   read-same : (t : State (tree c)) → Aligned (t .skeleton .tables .nodes) (t .contents) → (k o p n i : ℕ) (r : List ℕ)
       → ReadingFits (t .skeleton .tables .nodes) (t .skeleton .tables .opens) k o p n i → Agree t (readPage k o p n i r)
-      → apply c (guard c) (beside t (part (bytesOf t k) p (max p (i * 1024) - p)) []) (readPage k o p n i r) ≡ resultOf (apply c (tree c) t (readPage k o p n i r))
+      → apply c (guard c) (beside t (bytesAt (bytesOf t k) p (max p (i * 1024) - p)) []) (readPage k o p n i r) ≡ resultOf (apply c (tree c) t (readPage k o p n i r))
   unfolding apply
   read-same t al k o p n i r h g =
       let x = bytesOf t k in
       let l : i * 1024 < nodeAt (t .skeleton .tables .nodes) k .size = (let a = h .within in let b = h .to in omega arith) in
       rw (digests-at c (t .contents) k, digest-at c x i (page-in (t .skeleton .tables .nodes) (t .contents) al k i l), g)
       (pick-map resultOf (equal r (pageOf x i))
-      (λ e. let er : r ≡ pageOf x i = equal-true _ _ e in rw (er, part-more x p n i (h .from) (h .to)) (read-on-same t k o p n i _ h))
+      (λ e. let er : r ≡ pageOf x i = equal-true _ _ e in rw (er, bytesAt-more x p n i (h .from) (h .to)) (read-on-same t k o p n i _ h))
       (λ e. unfold resultOf guardOf progressOf in refl))
 
   -- a page came for a change

@@ -8,7 +8,7 @@ use Rattle.lists.specs.Pick.{pick}
 use Rattle.lists.specs.Equal.{equal}
 use Rattle.lists.specs.Cells.{tab}
 use Rattle.filesystem.specs.Tables.{PAGE-BYTES, pagesFor}
-use Rattle.rules.specs.Pages.{pageOf, part, Change, first, last, bytesAfter}
+use Rattle.rules.specs.Pages.{pageOf, bytesAt, Change, first, last, bytesAfter}
 use Rattle.rules.specs.Requests.{asked, Pending, idle, creating, opening, closing, removing, changing, listing, stating, reading, fetching, storing, cutting}
 use Rattle.rules.specs.Skeleton.{Config}
 use Rattle.machine.specs.Machine.{Files, Store, State, Gathered, guard}
@@ -42,7 +42,7 @@ module _ (c : Config) where
     unsaved = [];
     isPage = λ b i r. equal r (pageOf b i);
     gather = λ a p n i r. tt;
-    gathered = λ b p n a. part b p n;
+    gathered = λ b p n a. bytesAt b p n;
     pageFor = λ b q i r. pageOf (bytesAfter q b) i;
     sent = λ a p. tt;
     changed = λ b q size a. bytesAfter q b;
@@ -56,7 +56,7 @@ module _ (c : Config) where
   sentDigests b q end = tab (end - first q) (λ j. c .digest (pageOf (bytesAfter q b) (first q + j)))
 
   abbrev pub readSoFar : List ℕ → (position i : ℕ) → List ℕ
-  readSoFar b p i = part b p (max p (i * PAGE-BYTES) - p)
+  readSoFar b p i = bytesAt b p (max p (i * PAGE-BYTES) - p)
 
   unfoldable pub progressOf : List (List ℕ) → Pending → Gathered
   progressOf xs idle = record { bytes = []; digests = [] }

@@ -1,6 +1,6 @@
-// Numbers from bytes and into bytes, the least significant byte first.
+// Numbers from bytes and into bytes, the least significant byte first; the smaller and the larger of two.
 ghost use mathlib.Core.Path.{_≡_};
-ghost use Prim.Native.Nat.{_+_, _<_, _≤_};
+ghost use Prim.Native.Nat.{_+_, _-_, _<_, _≤_, min, max};
 ghost use lib.ListN.{length};
 ghost use Rattle.lists.specs.LittleEndian.{encode, decode};
 ghost use Rattle.lists.specs.Parts.{part, overwrite};
@@ -119,4 +119,31 @@ pub fn put_number(m: &mut [u8], at: usize, w: usize, x: u64)
         y = y / 256;
         i += 1;
     }
+}
+
+// ---- two numbers
+
+pub fn smaller(a: usize, b: usize) -> usize
+    ensures { λ r. ⌜ r ≡ min a b ⌝ }
+{
+    if a < b {
+        return a;
+    }
+    b
+}
+
+pub fn larger(a: u32, b: u32) -> u32
+    ensures { λ r. ⌜ r ≡ max a b ⌝ }
+{
+    if a < b { b } else { a }
+}
+
+// What a has over b.
+pub fn excess(a: usize, b: usize) -> usize
+    ensures { λ r. ⌜ r ≡ a - b ⌝ }
+{
+    if a < b {
+        return 0;
+    }
+    a - b
 }

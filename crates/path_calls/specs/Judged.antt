@@ -11,11 +11,11 @@ use Rattle.filesystem.specs.Paths.{Path, readPath, walk, parentOf, lastOf}
 use Rattle.rules.specs.Calls.{Call, create, mkdir, chmod, stat}
 use Rattle.rules.specs.Rules.{callChecks}
 use Rattle.paths.specs.declared.Walked.{Walked}
-use Rattle.paths.specs.declared.Walked.the-variants.{Node as node, Refused as stopped}
+use Rattle.paths.specs.declared.Walked.the-variants.{Node as node, Refused as refusedNode}
 use Rattle.paths.specs.declared.Placed.{Placed}
-use Rattle.paths.specs.declared.Placed.the-variants.{In, Refused as barred}
+use Rattle.paths.specs.declared.Placed.the-variants.{In, Refused as refusedPlace}
 use Rattle.path_calls.specs.declared.Way.{Way}
-use Rattle.path_calls.specs.declared.Way.the-variants.{At, Refused as stuck}
+use Rattle.path_calls.specs.declared.Way.the-variants.{At, Refused as refusedWay}
 
 unfoldable pub judged : {A : Type 0} → (ℕ → A) → (Path → List Check) → (Path → A) → List ℕ → A
 judged stop checks answer s = elim (readPath s) [ none ↦ stop 22 | some p ↦ decide stop (checks p) (answer p) ]
@@ -23,15 +23,15 @@ judged stop checks answer s = elim (readPath s) [ none ↦ stop 22 | some p ↦ 
 module _ (t : Tables) (s : List ℕ) (make : Path → Call) where
   -- a call on a node that is there: its place
   unfoldable pub nodeFor : Walked
-  nodeFor = judged stopped (λ p. callChecks t (make p)) (λ p. node (walk (t .nodes) 0 p)) s
+  nodeFor = judged refusedNode (λ p. callChecks t (make p)) (λ p. node (walk (t .nodes) 0 p)) s
 
   -- the same, and the place of the directory that holds it; the root holds itself
   unfoldable pub wayFor : Way
-  wayFor = judged stuck (λ p. callChecks t (make p)) (λ p. At (walk (t .nodes) 0 p) (parentOf (t .nodes) 0 p)) s
+  wayFor = judged refusedWay (λ p. callChecks t (make p)) (λ p. At (walk (t .nodes) 0 p) (parentOf (t .nodes) 0 p)) s
 
   -- a call on a name that is new: the place of its directory, and where the name starts in the path's bytes
   unfoldable pub placeFor : Placed
-  placeFor = judged barred (λ p. callChecks t (make p)) (λ p. In (parentOf (t .nodes) 0 p) (length s - length (lastOf p))) s
+  placeFor = judged refusedPlace (λ p. callChecks t (make p)) (λ p. In (parentOf (t .nodes) 0 p) (length s - length (lastOf p))) s
 
 -- calls that are judged alike
 module _ (t : Tables) (s : List ℕ) (mode : ℕ) where

@@ -21,10 +21,10 @@ use Rattle.paths.specs.Walks.{walked, placed, childStep}
 use Rattle.paths.specs.WalkAnswers.{lastStep, walked-placed, Holds, placed-none, placed-walked}
 use Rattle.paths.specs.declared.PathForm.the-variants.{Malformed, Long, Good}
 use Rattle.paths.specs.declared.Walked.{Walked}
-use Rattle.paths.specs.declared.Walked.the-variants.{Node as node, Refused as stopped}
-use Rattle.paths.specs.declared.Placed.the-variants.{Root, In, Refused as barred}
+use Rattle.paths.specs.declared.Walked.the-variants.{Node as node, Refused as refusedNode}
+use Rattle.paths.specs.declared.Placed.the-variants.{Root, In, Refused as refusedPlace}
 use Rattle.path_calls.specs.declared.Way.{Way}
-use Rattle.path_calls.specs.declared.Way.the-variants.{At, Refused as stuck}
+use Rattle.path_calls.specs.declared.Way.the-variants.{At, Refused as refusedWay}
 use Rattle.path_calls.specs.Judged.{judged, nodeFor, wayFor}
 
 -- 22 as a check before the others
@@ -64,22 +64,22 @@ module _ {A : Type 0} (stop : ℕ → A) (s : List ℕ) where
 
 -- chmod and stat, by the path's form
 module _ (t : Tables) (s : List ℕ) where
-  pub stat-malformed : formOf s ≡ Malformed → nodeFor t s stat ≡ stopped 22
+  pub stat-malformed : formOf s ≡ Malformed → nodeFor t s stat ≡ refusedNode 22
   unfolding nodeFor callChecks
-  stat-malformed e = judged-malformed stopped s _ _ e
+  stat-malformed e = judged-malformed refusedNode s _ _ e
 
-  pub stat-long : formOf s ≡ Long → nodeFor t s stat ≡ stopped 36
+  pub stat-long : formOf s ≡ Long → nodeFor t s stat ≡ refusedNode 36
   unfolding nodeFor callChecks
-  stat-long e = judged-long stopped s _ _ e
+  stat-long e = judged-long refusedNode s _ _ e
 
   pub stat-good : formOf s ≡ Good → nodeFor t s stat ≡ walked (t .nodes) (componentsOf s)
   unfolding nodeFor callChecks walked
-  stat-good e = judged-good stopped s _ _ e
+  stat-good e = judged-good refusedNode s _ _ e
 
 -- A walk with the directory of its last step.
 unfoldable pub wayOf : ℕ → Walked → Way
 wayOf d (node k) = At k d
-wayOf d (stopped b) = stuck b
+wayOf d (refusedNode b) = refusedWay b
 
 unfoldable pub walkedBoth : List Node → Path → Way
 walkedBoth ns p = wayOf (parentOf ns 0 p) (walked ns p)
@@ -88,30 +88,30 @@ walkedBoth ns p = wayOf (parentOf ns 0 p) (walked ns p)
 pub way-at : (d : ℕ) (w : Walked) (k e : ℕ) → wayOf d w ≡ At k e → (w ≡ node k) × (d ≡ e)
 unfolding wayOf
 way-at d (node j) k e q = (cc, cc)
-way-at d (stopped b) k e q = let z : _≡_ {A = ℕ} 0 1 = cc in absurd (omega arith)
+way-at d (refusedNode b) k e q = let z : _≡_ {A = ℕ} 0 1 = cc in absurd (omega arith)
 
-way-stuck : (d : ℕ) (w : Walked) (b : ℕ) → wayOf d w ≡ stuck b → w ≡ stopped b
+way-refused : (d : ℕ) (w : Walked) (b : ℕ) → wayOf d w ≡ refusedWay b → w ≡ refusedNode b
 unfolding wayOf
-way-stuck d (node j) b q = let z : _≡_ {A = ℕ} 0 1 = cc in absurd (omega arith)
-way-stuck d (stopped c) b q = cc
+way-refused d (node j) b q = let z : _≡_ {A = ℕ} 0 1 = cc in absurd (omega arith)
+way-refused d (refusedNode c) b q = cc
 
 module _ (t : Tables) (s : List ℕ) where
   pub way-node : wayFor t s stat ≡ wayOf (parentOf (t .nodes) 0 (componentsOf s)) (nodeFor t s stat)
   unfolding wayFor nodeFor wayOf
   way-node =
       let d = parentOf (t .nodes) 0 (componentsOf s) in
-      judged-decide stuck s _ _
-      ∙ sym (decide-map stopped (wayOf d) (formCheck s ∷ callChecks t (stat (componentsOf s))) (node (walk (t .nodes) 0 (componentsOf s))))
-      ∙ ap (wayOf d) (sym (judged-decide stopped s _ _))
+      judged-decide refusedWay s _ _
+      ∙ sym (decide-map refusedNode (wayOf d) (formCheck s ∷ callChecks t (stat (componentsOf s))) (node (walk (t .nodes) 0 (componentsOf s))))
+      ∙ ap (wayOf d) (sym (judged-decide refusedNode s _ _))
 
-  pub way-stops : (b : ℕ) → wayFor t s stat ≡ stuck b → nodeFor t s stat ≡ stopped b
-  way-stops b e = way-stuck _ _ b (sym way-node ∙ e)
+  pub way-stops : (b : ℕ) → wayFor t s stat ≡ refusedWay b → nodeFor t s stat ≡ refusedNode b
+  way-stops b e = way-refused _ _ b (sym way-node ∙ e)
 
-  pub way-malformed : formOf s ≡ Malformed → wayFor t s stat ≡ stuck 22
+  pub way-malformed : formOf s ≡ Malformed → wayFor t s stat ≡ refusedWay 22
   unfolding wayOf
   way-malformed e = way-node ∙ ap (wayOf _) (stat-malformed t s e)
 
-  pub way-long : formOf s ≡ Long → wayFor t s stat ≡ stuck 36
+  pub way-long : formOf s ≡ Long → wayFor t s stat ≡ refusedWay 36
   unfolding wayOf
   way-long e = way-node ∙ ap (wayOf _) (stat-long t s e)
 
@@ -131,9 +131,9 @@ module _ (ns : List Node) (s : List ℕ) where
   unfolding walkedBoth
   both-in d at h e = λ i. wayOf (h .parent i) (placed-walked ns s d at e i)
 
-  pub both-barred : (b : ℕ) → placed ns s ≡ barred b → walkedBoth ns (componentsOf s) ≡ stuck b
+  pub both-refused : (b : ℕ) → placed ns s ≡ refusedPlace b → walkedBoth ns (componentsOf s) ≡ refusedWay b
   unfolding walkedBoth wayOf lastStep
-  both-barred b e = ap (wayOf _) (walked-placed ns s ∙ ap (lastStep ns s) e)
+  both-refused b e = ap (wayOf _) (walked-placed ns s ∙ ap (lastStep ns s) e)
 
 -- What an answer to stat says, and what any call that begins with stat's checks is then judged to be.
 pub record Reached (t : Tables) (s : List ℕ) (k : ℕ) : Type 0 where
@@ -149,13 +149,13 @@ holder-place ns (c ∷ cs) a h =
     parent-place ns 0 c cs (all-left (parentChecks ns 0 (c ∷ cs)) _ (subst (λ (l : List Check). Passed l) (walkChecks-parent ns 0 c cs) a)) h .0
 
 module _ (t : Tables) (s : List ℕ) where
-  stat-first : (b : ℕ) → nodeFor t s stat ≡ stopped b → First b (formCheck s ∷ reach t (componentsOf s))
+  stat-first : (b : ℕ) → nodeFor t s stat ≡ refusedNode b → First b (formCheck s ∷ reach t (componentsOf s))
   unfolding nodeFor callChecks
-  stat-first b e = go (sym (judged-decide stopped s _ _) ∙ e)
+  stat-first b e = go (sym (judged-decide refusedNode s _ _) ∙ e)
     where
-      go : decide stopped (formCheck s ∷ reach t (componentsOf s)) (node (walk (t .nodes) 0 (componentsOf s))) ≡ stopped b → First b (formCheck s ∷ reach t (componentsOf s))
+      go : decide refusedNode (formCheck s ∷ reach t (componentsOf s)) (node (walk (t .nodes) 0 (componentsOf s))) ≡ refusedNode b → First b (formCheck s ∷ reach t (componentsOf s))
       go =
-          decide-ind stopped (λ r. r ≡ stopped b → First b (formCheck s ∷ reach t (componentsOf s))) (formCheck s ∷ reach t (componentsOf s)) _
+          decide-ind refusedNode (λ r. r ≡ refusedNode b → First b (formCheck s ∷ reach t (componentsOf s))) (formCheck s ∷ reach t (componentsOf s)) _
           (λ n f e. let q : n ≡ b = cc in subst (λ (j : ℕ). First j (formCheck s ∷ reach t (componentsOf s))) q f)
           (λ p e. let z : _≡_ {A = ℕ} 0 1 = cc in absurd (omega arith))
 
@@ -171,29 +171,29 @@ module _ (t : Tables) (s : List ℕ) where
 
   pub stat-reached : (k : ℕ) → 0 < length (t .nodes) → nodeFor t s stat ≡ node k → Reached t s k
   unfolding nodeFor callChecks
-  stat-reached k h e = go (sym (judged-decide stopped s _ _) ∙ e)
+  stat-reached k h e = go (sym (judged-decide refusedNode s _ _) ∙ e)
     where
-      go : decide stopped (formCheck s ∷ reach t (componentsOf s)) (node (walk (t .nodes) 0 (componentsOf s))) ≡ node k → Reached t s k
+      go : decide refusedNode (formCheck s ∷ reach t (componentsOf s)) (node (walk (t .nodes) 0 (componentsOf s))) ≡ node k → Reached t s k
       go =
-          decide-ind stopped (λ r. r ≡ node k → Reached t s k) (formCheck s ∷ reach t (componentsOf s)) _
+          decide-ind refusedNode (λ r. r ≡ node k → Reached t s k) (formCheck s ∷ reach t (componentsOf s)) _
           (λ n f e. let z : _≡_ {A = ℕ} 0 1 = cc in absurd (omega arith))
           (λ a e. let i : walk (t .nodes) 0 (componentsOf s) ≡ k = cc in reached k h a i)
 
   -- the same of a call with more checks behind stat's
   pub more-reached : (more : Path → List Check) (k : ℕ) → 0 < length (t .nodes)
-      → judged stopped (λ p. reach t p ++ more p) (λ p. node (walk (t .nodes) 0 p)) s ≡ node k → Reached t s k
-  more-reached more k h e = go (sym (judged-decide stopped s _ _) ∙ e)
+      → judged refusedNode (λ p. reach t p ++ more p) (λ p. node (walk (t .nodes) 0 p)) s ≡ node k → Reached t s k
+  more-reached more k h e = go (sym (judged-decide refusedNode s _ _) ∙ e)
     where
-      go : decide stopped (formCheck s ∷ (reach t (componentsOf s) ++ more (componentsOf s))) (node (walk (t .nodes) 0 (componentsOf s))) ≡ node k → Reached t s k
+      go : decide refusedNode (formCheck s ∷ (reach t (componentsOf s) ++ more (componentsOf s))) (node (walk (t .nodes) 0 (componentsOf s))) ≡ node k → Reached t s k
       go =
-          decide-ind stopped (λ r. r ≡ node k → Reached t s k) (formCheck s ∷ (reach t (componentsOf s) ++ more (componentsOf s))) _
+          decide-ind refusedNode (λ r. r ≡ node k → Reached t s k) (formCheck s ∷ (reach t (componentsOf s) ++ more (componentsOf s))) _
           (λ n f e. let z : _≡_ {A = ℕ} 0 1 = cc in absurd (omega arith))
           (λ a e.
           let i : walk (t .nodes) 0 (componentsOf s) ≡ k = cc in
           reached k h (all-left (formCheck s ∷ reach t (componentsOf s)) (more (componentsOf s)) a) i)
 
   module _ {A : Type 0} (stop : ℕ → A) (more : Path → List Check) (answer : Path → A) where
-    pub reach-stops : (b : ℕ) → nodeFor t s stat ≡ stopped b → judged stop (λ p. reach t p ++ more p) answer s ≡ stop b
+    pub reach-stops : (b : ℕ) → nodeFor t s stat ≡ refusedNode b → judged stop (λ p. reach t p ++ more p) answer s ≡ stop b
     reach-stops b e =
         judged-decide stop s _ answer
         ∙ decide-append stop (formCheck s ∷ reach t (componentsOf s)) (more (componentsOf s)) _

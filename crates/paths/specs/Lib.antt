@@ -1,4 +1,3 @@
-pub mod Scans
 pub mod Parts
 pub mod PathForms
 pub mod Walks

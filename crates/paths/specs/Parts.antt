@@ -13,7 +13,7 @@ use Rattle.lists.specs.Pick.{pick-true, pick-false, pick-ind}
 use Rattle.lists.specs.Equal.{or-snd}
 use Rattle.lists.specs.Search.{every, place, place-first, place-passes}
 use Rattle.filesystem.specs.Paths.{Path, slash, onto, split}
-use Rattle.paths.specs.Scans.{every-before}
+use Rattle.lists.specs.Scans.{every-before}
 
 pub or-comm : (a b : Bool) → (a || b) ≡ (b || a)
 or-comm true true = refl

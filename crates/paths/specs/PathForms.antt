@@ -11,7 +11,7 @@ use lib.ListN.{length, getD, take, drop, length-drop}
 use lib.Seq.{length-take-le, take-all, getD-drop}
 use borrow.Author.Tests.{eq-eqb, ne-eqb, eqb-true, eqb-false, not-true}
 use Rattle.lists.specs.Pick.{pick, pick-true, pick-false, pick-ind}
-use Rattle.lists.specs.Equal.{Is, is, isT, isF, equal, and-fst, and-snd, and-both, or-fst}
+use Rattle.lists.specs.Equal.{Is, is, isT, isF, equal, and-fst, and-snd, and-both, and-false, or-fst}
 use Rattle.lists.specs.Search.{every, any, place, place-most}
 use Rattle.filesystem.specs.Tables.{NAME-BYTES, PATH-BYTES}
 use Rattle.filesystem.specs.Paths.{Path, slash, dot, joined, pathBytes, componentForm, onto, split, afterSlash, readPath, tooLong}
@@ -43,10 +43,6 @@ unfoldable pub isName : List ℕ → Bool
 isName c = not (equal c []) && (not (equal c (dot ∷ [])) && not (equal c (dot ∷ dot ∷ [])))
 
 -- A name by its first bytes.
-and-false : (a : Bool) → (a && false) ≡ false
-and-false true = refl
-and-false false = refl
-
 pub name-empty : (c : List ℕ) → length c ≡ 0 → false ≡ isName c
 unfolding isName equal
 name-empty [] h = refl

@@ -14,9 +14,9 @@ use Rattle.filesystem.specs.PathLaws.{joined-split, walkChecks-parent, walk-las
 use Rattle.paths.specs.Parts.{componentsOf, Some, some}
 use Rattle.paths.specs.Walks.{walked, placedFrom, placedIn, placed, childStep}
 use Rattle.paths.specs.declared.Walked.{Walked}
-use Rattle.paths.specs.declared.Walked.the-variants.{Node as node, Refused as stopped}
+use Rattle.paths.specs.declared.Walked.the-variants.{Node as node, Refused as refusedNode}
 use Rattle.paths.specs.declared.Placed.{Placed}
-use Rattle.paths.specs.declared.Placed.the-variants.{Root, In, Refused as barred}
+use Rattle.paths.specs.declared.Placed.the-variants.{Root, In, Refused as refusedPlace}
 
 -- the last component stands at the end of the path's bytes
 last-joined : (c : List ℕ) (cs : Path) → (y : List ℕ) × (c ++ joined cs ≡ y ++ lastOf (c ∷ cs))
@@ -44,7 +44,7 @@ last-start (b ∷ x ∷ s) c cs e = last-end b (x ∷ s) c cs e
 unfoldable pub lastStep : List Node → List ℕ → Placed → Walked
 lastStep ns s Root = node 0
 lastStep ns s (In d a) = childStep ns d (drop a s)
-lastStep ns s (barred k) = stopped k
+lastStep ns s (refusedPlace k) = refusedNode k
 
 module _ (ns : List Node) (s : List ℕ) where
   last-walked : (c : List ℕ) (cs : Path) → componentsOf s ≡ c ∷ cs → walked ns (c ∷ cs) ≡ lastStep ns s (placedFrom ns (length s) 0 (c ∷ cs))
@@ -52,12 +52,12 @@ module _ (ns : List Node) (s : List ℕ) where
   last-walked c cs e =
       let p = c ∷ cs in
       let at = length s - length (lastOf p) in
-      let f : ℕ → Walked = λ k. pick (absent ns k) (stopped 2) (node k) in
+      let f : ℕ → Walked = λ k. pick (absent ns k) (refusedNode 2) (node k) in
       let k : walk ns 0 p ≡ childAt ns (parentOf ns 0 p) (drop at s) = walk-last ns 0 c cs ∙ ap (childAt ns (parentOf ns 0 p)) (sym (last-start s c cs e)) in
-      ap (λ (l : List Check). decide stopped l (node (walk ns 0 p))) (walkChecks-parent ns 0 c cs)
-      ∙ decide-append stopped (parentChecks ns 0 p) ((2, absent ns (walk ns 0 p)) ∷ []) (node (walk ns 0 p))
-      ∙ ap (λ (j : ℕ). decide stopped (parentChecks ns 0 p) (f j)) k
-      ∙ sym (decide-map barred (lastStep ns s) (parentChecks ns 0 p) (In (parentOf ns 0 p) at))
+      ap (λ (l : List Check). decide refusedNode l (node (walk ns 0 p))) (walkChecks-parent ns 0 c cs)
+      ∙ decide-append refusedNode (parentChecks ns 0 p) ((2, absent ns (walk ns 0 p)) ∷ []) (node (walk ns 0 p))
+      ∙ ap (λ (j : ℕ). decide refusedNode (parentChecks ns 0 p) (f j)) k
+      ∙ sym (decide-map refusedPlace (lastStep ns s) (parentChecks ns 0 p) (In (parentOf ns 0 p) at))
 
   pub walked-placed : walked ns (componentsOf s) ≡ lastStep ns s (placed ns s)
   unfolding placed placedIn
@@ -85,19 +85,19 @@ module _ (ns : List Node) (s : List ℕ) where
       go [] = λ e. refl
       go (c ∷ cs) =
           unfold placedIn placedFrom in
-          decide-ind barred (λ r. r ≡ Root → c ∷ cs ≡ []) (parentChecks ns 0 (c ∷ cs)) _
+          decide-ind refusedPlace (λ r. r ≡ Root → c ∷ cs ≡ []) (parentChecks ns 0 (c ∷ cs)) _
           (λ n f e. let z : _≡_ {A = ℕ} 0 1 = cc in absurd (omega arith))
           (λ p e. let z : _≡_ {A = ℕ} 0 1 = cc in absurd (omega arith))
 
-  pub placed-refused : (k : ℕ) → placed ns s ≡ barred k → First k (parentChecks ns 0 (componentsOf s))
+  pub placed-refused : (k : ℕ) → placed ns s ≡ refusedPlace k → First k (parentChecks ns 0 (componentsOf s))
   unfolding placed
   placed-refused k = go (componentsOf s)
     where
-      go : (p : Path) → placedIn ns (length s) p ≡ barred k → First k (parentChecks ns 0 p)
+      go : (p : Path) → placedIn ns (length s) p ≡ refusedPlace k → First k (parentChecks ns 0 p)
       go [] = unfold placedIn in λ e. let z : _≡_ {A = ℕ} 0 1 = cc in absurd (omega arith)
       go (c ∷ cs) =
           unfold placedIn placedFrom in
-          decide-ind barred (λ r. r ≡ barred k → First k (parentChecks ns 0 (c ∷ cs))) (parentChecks ns 0 (c ∷ cs)) _
+          decide-ind refusedPlace (λ r. r ≡ refusedPlace k → First k (parentChecks ns 0 (c ∷ cs))) (parentChecks ns 0 (c ∷ cs)) _
           (λ n f e. let q : n ≡ k = cc in subst (λ (j : ℕ). First j (parentChecks ns 0 (c ∷ cs))) q f)
           (λ p e. let z : _≡_ {A = ℕ} 0 1 = cc in absurd (omega arith))
 
@@ -109,7 +109,7 @@ module _ (ns : List Node) (s : List ℕ) where
       go [] q = unfold placedIn in λ e. let z : _≡_ {A = ℕ} 0 1 = cc in absurd (omega arith)
       go (c ∷ cs) q =
           unfold placedIn placedFrom in
-          decide-ind barred (λ r. r ≡ In d at → Holds ns s d at) (parentChecks ns 0 (c ∷ cs)) _
+          decide-ind refusedPlace (λ r. r ≡ In d at → Holds ns s d at) (parentChecks ns 0 (c ∷ cs)) _
           (λ n f e. let z : _≡_ {A = ℕ} 0 1 = cc in absurd (omega arith))
           (λ p e.
           let i : parentOf ns 0 (c ∷ cs) ≡ d = cc in
@@ -130,7 +130,7 @@ module _ (ns : List Node) (s : List ℕ) where
 
   -- checks that begin with those on the way
   module _ {A : Type 0} (stop : ℕ → A) (more : List Check) (x : A) where
-    pub placed-stops : (k : ℕ) → placed ns s ≡ barred k → decide stop (parentChecks ns 0 (componentsOf s) ++ more) x ≡ stop k
+    pub placed-stops : (k : ℕ) → placed ns s ≡ refusedPlace k → decide stop (parentChecks ns 0 (componentsOf s) ++ more) x ≡ stop k
     placed-stops k e = decide-append stop (parentChecks ns 0 (componentsOf s)) more x ∙ decide-first stop _ (placed-refused k e)
 
     pub placed-goes : (d at : ℕ) → Holds ns s d at → decide stop (parentChecks ns 0 (componentsOf s) ++ more) x ≡ decide stop more x
@@ -143,17 +143,17 @@ pub record Reaches (ns : List Node) (p : Path) (k : ℕ) : Type 0 where
   pub node-within : k < length ns
 
 module _ (ns : List Node) (p : Path) where
-  pub walked-refused : (k : ℕ) → walked ns p ≡ stopped k → First k (walkChecks ns 0 p)
+  pub walked-refused : (k : ℕ) → walked ns p ≡ refusedNode k → First k (walkChecks ns 0 p)
   unfolding walked
   walked-refused k =
-      decide-ind stopped (λ r. r ≡ stopped k → First k (walkChecks ns 0 p)) (walkChecks ns 0 p) (node (walk ns 0 p))
+      decide-ind refusedNode (λ r. r ≡ refusedNode k → First k (walkChecks ns 0 p)) (walkChecks ns 0 p) (node (walk ns 0 p))
       (λ n f e. let q : n ≡ k = cc in subst (λ (j : ℕ). First j (walkChecks ns 0 p)) q f)
       (λ p e. let z : _≡_ {A = ℕ} 0 1 = cc in absurd (omega arith))
 
   pub walked-node : (k : ℕ) → 0 < length ns → walked ns p ≡ node k → Reaches ns p k
   unfolding walked
   walked-node k h =
-      decide-ind stopped (λ r. r ≡ node k → Reaches ns p k) (walkChecks ns 0 p) (node (walk ns 0 p))
+      decide-ind refusedNode (λ r. r ≡ node k → Reaches ns p k) (walkChecks ns 0 p) (node (walk ns 0 p))
       (λ n f e. let z : _≡_ {A = ℕ} 0 1 = cc in absurd (omega arith))
       (λ a e.
       let i : walk ns 0 p ≡ k = cc in
@@ -161,7 +161,7 @@ module _ (ns : List Node) (p : Path) where
 
   -- checks that begin with the walk's
   module _ {A : Type 0} (stop : ℕ → A) (more : List Check) (x : A) where
-    pub walked-stops : (k : ℕ) → walked ns p ≡ stopped k → decide stop (walkChecks ns 0 p ++ more) x ≡ stop k
+    pub walked-stops : (k : ℕ) → walked ns p ≡ refusedNode k → decide stop (walkChecks ns 0 p ++ more) x ≡ stop k
     walked-stops k e = decide-append stop (walkChecks ns 0 p) more x ∙ decide-first stop _ (walked-refused k e)
 
     pub walked-goes : (k : ℕ) → Reaches ns p k → decide stop (walkChecks ns 0 p ++ more) x ≡ decide stop more x

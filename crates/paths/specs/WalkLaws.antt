@@ -14,8 +14,8 @@ use Rattle.filesystem.specs.Tables.{Node, nodeAt, isDirectory, hasBit, findChil
 use Rattle.filesystem.specs.Paths.{Path, split, childAt, parentChecks, parentOf, lastOf}
 use Rattle.paths.specs.Parts.{isSlash, components-none, components-split, Some, some, split-some, end-passes, part-slash, part-last}
 use Rattle.paths.specs.Walks.{placedFrom, placedIn, placed, searchNumber, childStep}
-use Rattle.paths.specs.declared.Walked.the-variants.{Node as node, Refused as stopped}
-use Rattle.paths.specs.declared.Placed.the-variants.{Root, In, Refused as barred}
+use Rattle.paths.specs.declared.Walked.the-variants.{Node as node, Refused as refusedNode}
+use Rattle.paths.specs.declared.Placed.the-variants.{Root, In, Refused as refusedPlace}
 use Rattle.tables.specs.RowsInUse.{node-front}
 
 -- Two checks, of which the first that holds gives its number.
@@ -60,22 +60,22 @@ module _ (ns : List Node) (d : ℕ) where
 
 -- One step of the walk to the last component's directory.
 module _ (ns : List Node) (n d : ℕ) (c : List ℕ) where
-  pub placed-stop : (cs : Path) (k : ℕ) → k ≡ searchNumber ns d → (k ≡ 0 → ⊥) → placedFrom ns n d (c ∷ cs) ≡ barred k
+  pub placed-stop : (cs : Path) (k : ℕ) → k ≡ searchNumber ns d → (k ≡ 0 → ⊥) → placedFrom ns n d (c ∷ cs) ≡ refusedPlace k
   unfolding placedFrom parentChecks searchNumber
-  placed-stop [] k e z = two-stop barred _ _ [] _ k e z
-  placed-stop (x ∷ cs) k e z = two-stop barred _ _ _ _ k e z
+  placed-stop [] k e z = two-stop refusedPlace _ _ [] _ k e z
+  placed-stop (x ∷ cs) k e z = two-stop refusedPlace _ _ _ _ k e z
 
   pub placed-here : 0 ≡ searchNumber ns d → placedFrom ns n d (c ∷ []) ≡ In d (n - length c)
   unfolding placedFrom parentChecks parentOf lastOf searchNumber decide
-  placed-here e = two-pass barred _ _ [] _ e
+  placed-here e = two-pass refusedPlace _ _ [] _ e
 
-  pub placed-absent : (x : List ℕ) (cs : Path) → 0 ≡ searchNumber ns d → length ns ≤ childAt ns d c → placedFrom ns n d (c ∷ x ∷ cs) ≡ barred 2
+  pub placed-absent : (x : List ℕ) (cs : Path) → 0 ≡ searchNumber ns d → length ns ≤ childAt ns d c → placedFrom ns n d (c ∷ x ∷ cs) ≡ refusedPlace 2
   unfolding placedFrom parentChecks searchNumber
-  placed-absent x cs e h = three-stop barred _ _ _ _ _ e (le-leb _ _ h)
+  placed-absent x cs e h = three-stop refusedPlace _ _ _ _ _ e (le-leb _ _ h)
 
   pub placed-on : (x : List ℕ) (cs : Path) → 0 ≡ searchNumber ns d → childAt ns d c < length ns → placedFrom ns n d (c ∷ x ∷ cs) ≡ placedFrom ns n (childAt ns d c) (x ∷ cs)
   unfolding placedFrom parentChecks parentOf lastOf searchNumber
-  placed-on x cs e h = three-pass barred _ _ _ _ _ e (lt-leb _ _ h)
+  placed-on x cs e h = three-pass refusedPlace _ _ _ _ _ e (lt-leb _ _ h)
 
 -- The walk by the path's bytes, from `at` on, where the next slash stands at `end`.
 module _ (ns : List Node) (s : List ℕ) (d at end : ℕ) (reach : end ≡ at + place isSlash (drop at s)) (within : at ≤ length s) where
@@ -85,17 +85,17 @@ module _ (ns : List Node) (s : List ℕ) (d at end : ℕ) (reach : end ≡ at + 
       let p = end-passes isSlash (λ b e. e) s at end reach h in
       part-slash isSlash (λ b e. e) s at end reach h p
 
-  pub step-stop : (k : ℕ) → k ≡ searchNumber ns d → (k ≡ 0 → ⊥) → placedFrom ns (length s) d (split (drop at s)) ≡ barred k
+  pub step-stop : (k : ℕ) → k ≡ searchNumber ns d → (k ≡ 0 → ⊥) → placedFrom ns (length s) d (split (drop at s)) ≡ refusedPlace k
   step-stop k e z = go (split (drop at s)) (split-some (drop at s))
     where
-      go : (p : Path) → Some p → placedFrom ns (length s) d p ≡ barred k
+      go : (p : Path) → Some p → placedFrom ns (length s) d p ≡ refusedPlace k
       go (c ∷ cs) some = placed-stop ns (length s) d c cs k e z
 
   module _ (more : end < length s) where
-    pub step-absent : 0 ≡ searchNumber ns d → length ns ≤ childAt ns d (take (end - at) (drop at s)) → placedFrom ns (length s) d (split (drop at s)) ≡ barred 2
+    pub step-absent : 0 ≡ searchNumber ns d → length ns ≤ childAt ns d (take (end - at) (drop at s)) → placedFrom ns (length s) d (split (drop at s)) ≡ refusedPlace 2
     step-absent e h = ap (placedFrom ns (length s) d) (first-part more) ∙ go (split (drop (end + 1) s)) (split-some (drop (end + 1) s))
       where
-        go : (p : Path) → Some p → placedFrom ns (length s) d (take (end - at) (drop at s) ∷ p) ≡ barred 2
+        go : (p : Path) → Some p → placedFrom ns (length s) d (take (end - at) (drop at s) ∷ p) ≡ refusedPlace 2
         go (c ∷ cs) some = placed-absent ns (length s) d (take (end - at) (drop at s)) c cs e h
 
     pub step-on : 0 ≡ searchNumber ns d → childAt ns d (take (end - at) (drop at s)) < length ns
@@ -132,7 +132,7 @@ unfolding childAt
 child-front n ns d id k c h e q = q ∙ ap (λ (x : ℕ). findChild (take n ns) x c) (e ∙ sym (ap (λ (x : Node). x .id) (node-front n ns d h)))
 
 module _ (ns : List Node) (d k : ℕ) (c : List ℕ) (e : k ≡ childAt ns d c) where
-  pub child-absent : length ns ≤ k → childStep ns d c ≡ stopped 2
+  pub child-absent : length ns ≤ k → childStep ns d c ≡ refusedNode 2
   unfolding childStep
   child-absent h = pick-true _ _ _ (le-leb (length ns) (childAt ns d c) (omega arith))
 

@@ -9,17 +9,17 @@ use Rattle.filesystem.specs.Tables.{Node, absent}
 use Rattle.filesystem.specs.Paths.{Path, childAt, walk, walkChecks, searchChecks, parentChecks, parentOf, lastOf}
 use Rattle.paths.specs.Parts.{componentsOf}
 use Rattle.paths.specs.declared.Walked.{Walked}
-use Rattle.paths.specs.declared.Walked.the-variants.{Node as node, Refused as stopped}
+use Rattle.paths.specs.declared.Walked.the-variants.{Node as node, Refused as refusedNode}
 use Rattle.paths.specs.declared.Placed.{Placed}
-use Rattle.paths.specs.declared.Placed.the-variants.{Root, In, Refused as barred}
+use Rattle.paths.specs.declared.Placed.the-variants.{Root, In, Refused as refusedPlace}
 
 -- from the root
 unfoldable pub walked : List Node → Path → Walked
-walked ns p = decide stopped (walkChecks ns 0 p) (node (walk ns 0 p))
+walked ns p = decide refusedNode (walkChecks ns 0 p) (node (walk ns 0 p))
 
 -- from the directory in place d: the last component stands at the end of the path's bytes, of which there are n
 unfoldable pub placedFrom : List Node → ℕ → ℕ → Path → Placed
-placedFrom ns n d p = decide barred (parentChecks ns d p) (In (parentOf ns d p) (n - length (lastOf p)))
+placedFrom ns n d p = decide refusedPlace (parentChecks ns d p) (In (parentOf ns d p) (n - length (lastOf p)))
 
 unfoldable pub placedIn : List Node → ℕ → Path → Placed
 placedIn ns n [] = Root
@@ -35,4 +35,4 @@ searchNumber ns d = decide (λ n. n) (searchChecks ns d) 0
 
 -- the child with a name of the directory in place d, or 2
 unfoldable pub childStep : List Node → ℕ → List ℕ → Walked
-childStep ns d c = pick (absent ns (childAt ns d c)) (stopped 2) (node (childAt ns d c))
+childStep ns d c = pick (absent ns (childAt ns d c)) (refusedNode 2) (node (childAt ns d c))

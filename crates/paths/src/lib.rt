@@ -122,7 +122,7 @@ fn part_end(path: &[u8], at: usize) -> usize
 }
 
 // Neither empty nor `.` nor `..`.
-fn is_name(part: &[u8]) -> bool
+pub fn is_name(part: &[u8]) -> bool
     ensures { λ r. ⌜ r ≡ isName (now (part .entry)) ⌝ }
 {
     let n = part.len();

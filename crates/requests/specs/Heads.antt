@@ -7,13 +7,9 @@ use native.Mathlib.Omega.{arith}
 use lib.ListN.{length, length-append}
 use Rattle.lists.specs.LittleEndian.{encode, length-encode}
 use Rattle.lists.specs.Parts.{overwrite}
-use Rattle.lists.specs.PartLaws.{overwrite-front, overwrite-next}
+use Rattle.lists.specs.PartLaws.{overwrite-next}
 use Rattle.rules.specs.Requests.{storeRequest}
 use Rattle.rules.specs.Skeleton.{atFront}
-
-pub at-front : (bytes l : List ℕ) → overwrite l 0 bytes ≡ atFront bytes l
-unfolding atFront
-at-front bytes l = overwrite-front l bytes
 
 -- the kind, and one number or two
 pub length-head : (k a : ℕ) → length (k ∷ encode 4 a) ≡ 5
@@ -32,12 +28,12 @@ behind-longer l k a b y =
     ∙ rw (append-assoc (encode 4 a) (encode 4 b) y)
 
 -- a store's page behind its head
-pub behind-store : (l m out : List ℕ) (d i size : ℕ) (page : List ℕ) → m ≡ overwrite l 0 (7 ∷ (encode 4 d ++ (encode 4 i ++ encode 4 size))) → out ≡ overwrite m 13 page → out ≡ atFront (storeRequest d i size page) l
+pub behind-store : (l m out : List ℕ) (d i size : ℕ) (page : List ℕ) → m ≡ overwrite l 0 (7 ∷ (encode 4 d ++ (encode 4 i ++ encode 4 size))) → out ≡ overwrite m 13 page
+    → out ≡ atFront (storeRequest d i size page) l
 unfolding storeRequest
 behind-store l m out d i size page e f =
     let n : length (encode 4 d ++ (encode 4 i ++ encode 4 size)) ≡ 12 = simp (length-append, length-encode) in
     f
     ∙ rw e
     (overwrite-next l 0 (7 ∷ (encode 4 d ++ (encode 4 i ++ encode 4 size))) page 13 (omega arith) (omega arith)
-    ∙ rw (append-assoc (encode 4 d) (encode 4 i ++ encode 4 size) page, append-assoc (encode 4 i) (encode 4 size) page)
-    (at-front (7 ∷ (encode 4 d ++ (encode 4 i ++ (encode 4 size ++ page)))) l))
+    ∙ rw (append-assoc (encode 4 d) (encode 4 i ++ encode 4 size) page, append-assoc (encode 4 i) (encode 4 size) page))

@@ -1,7 +1,7 @@
 // Host requests written over the front of the caller's request buffer (document 01, 'Requests and replies'), the page of a store among them.
 ghost use mathlib.Core.Path.{_≡_};
 ghost use mathlib.Core.List.{_∷_, _++_};
-ghost use Prim.Native.Nat.{_+_, _-_, _≤_, min};
+ghost use Prim.Native.Nat.{_+_, _≤_};
 ghost use lib.ListN.{length};
 ghost use Rattle.lists.specs.LittleEndian.{encode};
 ghost use Rattle.lists.specs.Parts.{overwrite};
@@ -101,25 +101,6 @@ pub fn write_cut(out: &mut [u8], descriptor: u32, size: u32) -> usize
     9
 }
 
-fn smaller(a: usize, b: usize) -> usize
-    ensures { λ r. ⌜ r ≡ min a b ⌝ }
-{
-    if a < b {
-        return a;
-    }
-    b
-}
-
-// What a has over b.
-fn excess(a: usize, b: usize) -> usize
-    ensures { λ r. ⌜ r ≡ a - b ⌝ }
-{
-    if a < b {
-        return 0;
-    }
-    a - b
-}
-
 fn put_zeros(out: &mut [u8], at: usize, n: usize)
     requires { ⌜ at + n ≤ length (now out) ⌝ }
     ensures { λ _. ⌜ now (out .exit) ≡ overwrite (now (out .entry)) at (zeros n) ⌝ }
@@ -148,12 +129,15 @@ fn put_written(out: &mut [u8], at: usize, page: &[u8], position: usize, bytes: &
 {
     put_page(out, at, page);
     let start = i * limits::PAGE_BYTES;
-    let from = excess(start, position);
-    let to = smaller(bytes.len(), excess(start + limits::PAGE_BYTES, position));
+    let from = numbers::excess(start, position);
+    let to = numbers::smaller(
+        bytes.len(),
+        numbers::excess(start + limits::PAGE_BYTES, position),
+    );
     if to <= from {
         return;
     }
-    let place = at + excess(position, start);
+    let place = at + numbers::excess(position, start);
     buffers::put(out, place, &bytes[from..to]);
 }
 
@@ -162,7 +146,7 @@ fn put_cut(out: &mut [u8], at: usize, page: &[u8], size: usize, i: usize)
     requires { ⌜ (at + PAGE-BYTES ≤ length (now out)) × (length (now page) ≤ PAGE-BYTES) × (size ≤ FILE-BYTES) × (i ≤ 64) ⌝ }
     ensures { λ _. ⌜ now (out .exit) ≡ overwrite (now (out .entry)) at (fill (shrinking size) i (now (page .entry))) ⌝ }
 {
-    let n = smaller(page.len(), excess(size, i * limits::PAGE_BYTES));
+    let n = numbers::smaller(page.len(), numbers::excess(size, i * limits::PAGE_BYTES));
     put_page(out, at, &page[..n]);
 }
 

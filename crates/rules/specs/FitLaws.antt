@@ -24,7 +24,7 @@ use Rattle.filesystem.specs.Rights.{covers}
 use Rattle.filesystem.specs.Paths.{Path, pathBytes, joined, componentForm, tooLong, childAt, walk, walkChecks, parentChecks, parentOf, lastOf}
 use Rattle.filesystem.specs.PathLaws.{walk-place, walk-last, parent-place}
 use Rattle.filesystem.specs.Image.{Image, parse}
-use Rattle.filesystem.specs.Sound.{Sound, to-sound, limits-at, by-kind, findId-only}
+use Rattle.filesystem.specs.Sound.{gone, Sound, to-sound, limits-at, by-kind, findId-only}
 use Rattle.filesystem.specs.SoundLaws.{root-parent-length, file-children}
 use Rattle.rules.specs.Calls.{Call, create, mkdir, openAs, close, seek, read, write, truncate, remove, rmdir, chmod, readdir, stat, callBytes, readCall}
 use Rattle.rules.specs.CallLaws.{PathFits, CallFits, call-was-written}
@@ -36,12 +36,9 @@ use Rattle.rules.specs.Valid.{ValidOpen, ValidTables, Valid, CreatingFit
 use Rattle.rules.specs.Positions.{seek-exactly}
 use Rattle.rules.specs.TableLaws.{cursor-valid, open-valid, close-valid, mode-valid, add-valid, delete-valid}
 
--- a place that is not absent, and one that is not present
+-- a place that is not absent
 there : {A : Type 0} (l : List A) (k : ℕ) → absent l k ≡ false → k < length l
 there l k e = leb-false _ _ e
-
-gone : {A : Type 0} (l : List A) (k : ℕ) → present l k ≡ false → length l ≤ k
-gone l k e = leb-true _ _ (not-false _ e)
 
 -- Paths.
 last-form : (c : List ℕ) (cs : Path) → every componentForm (c ∷ cs) ≡ true → componentForm (lastOf (c ∷ cs)) ≡ true

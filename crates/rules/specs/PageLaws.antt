@@ -13,7 +13,7 @@ use Rattle.lists.specs.Pick.{pick, pick-true, pick-false}
 use Rattle.lists.specs.Equal.{Is, isT, isF, is, and-fst}
 use Rattle.lists.specs.Cells.{inside, tab, length-tab, getD-tab, tab-cong, tab-append}
 use Rattle.filesystem.specs.Tables.{pagesFor}
-use Rattle.rules.specs.Pages.{pageAt, pageOf, part, resized, splice, overlay, pagePart, Change, writing, shrinking, first, last, fetches, fill, bytesAfter, sizeAfter, FitsSize}
+use Rattle.rules.specs.Pages.{pageAt, pageOf, bytesAt, resized, splice, overlay, pagePart, Change, writing, shrinking, first, last, fetches, fill, bytesAfter, sizeAfter, FitsSize}
 
 -- a number against a range
 pub data Where (p n j : ℕ) : Type 0 where
@@ -136,17 +136,17 @@ fetch-in (writing p d) size i f l h e = ltb-true (i * 1024) size (and-fst _ _ e)
 fetch-in (shrinking n) size i f l h e = omega arith
 
 -- A read: what the pages so far have given, and the part of one more. It runs from `from` to below `to`.
-part-from : (b : List ℕ) (p i from to : ℕ) → p ≤ from → i * 1024 ≤ from → to ≤ i * 1024 + 1024
-    → part b p (from - p) ++ part (pageOf b i) (from - i * 1024) (to - from) ≡ part b p (from - p + (to - from))
-unfolding part
-part-from b p i from to h l m =
+bytesAt-from : (b : List ℕ) (p i from to : ℕ) → p ≤ from → i * 1024 ≤ from → to ≤ i * 1024 + 1024
+    → bytesAt b p (from - p) ++ bytesAt (pageOf b i) (from - i * 1024) (to - from) ≡ bytesAt b p (from - p + (to - from))
+unfolding bytesAt
+bytesAt-from b p i from to h l m =
     ap (λ s. tab (from - p) (λ j. getD b (p + j) 0) ++ s)
     (tab-cong _ _ _ (λ j k. getD-page b i (from - i * 1024 + j) (omega arith) ∙ ap (λ x. getD b x 0) (omega arith)))
     ∙ tab-append (from - p) (to - from) (λ j. getD b (p + j) 0)
 
-pub part-more : (b : List ℕ) (p n i : ℕ) → pageAt p ≤ i → i * 1024 < p + n
-    → part b p (max p (i * 1024) - p) ++ pagePart (pageOf b i) p n i ≡ part b p (min (p + n) (suc i * 1024) - p)
+pub bytesAt-more : (b : List ℕ) (p n i : ℕ) → pageAt p ≤ i → i * 1024 < p + n
+    → bytesAt b p (max p (i * 1024) - p) ++ pagePart (pageOf b i) p n i ≡ bytesAt b p (min (p + n) (suc i * 1024) - p)
 unfolding pagePart pageAt
-part-more b p n i l h =
-    part-from b p i (max p (i * 1024)) (min (p + n) (i * 1024 + 1024)) (omega arith) (omega arith) (omega arith)
-    ∙ ap (part b p) (omega arith)
+bytesAt-more b p n i l h =
+    bytesAt-from b p i (max p (i * 1024)) (min (p + n) (i * 1024 + 1024)) (omega arith) (omega arith) (omega arith)
+    ∙ ap (bytesAt b p) (omega arith)

@@ -18,8 +18,8 @@ unfoldable pub pageOf : List ℕ → ℕ → List ℕ
 pageOf b i = tab PAGE-BYTES (λ j. getD b (i * PAGE-BYTES + j) 0)
 
 -- n bytes from a position on
-unfoldable pub part : List ℕ → (position n : ℕ) → List ℕ
-part b position n = tab n (λ j. getD b (position + j) 0)
+unfoldable pub bytesAt : List ℕ → (position n : ℕ) → List ℕ
+bytesAt b position n = tab n (λ j. getD b (position + j) 0)
 
 -- the bytes as n of them: cut, or with zeros behind
 unfoldable pub resized : List ℕ → ℕ → List ℕ
@@ -38,7 +38,7 @@ overlay page position d i =
 -- of a page i that came, the bytes that lie in n bytes from a position on
 unfoldable pub pagePart : (page : List ℕ) (position n i : ℕ) → List ℕ
 pagePart page position n i =
-    part page (max position (i * PAGE-BYTES) - i * PAGE-BYTES) (min (position + n) (i * PAGE-BYTES + PAGE-BYTES) - max position (i * PAGE-BYTES))
+    bytesAt page (max position (i * PAGE-BYTES) - i * PAGE-BYTES) (min (position + n) (i * PAGE-BYTES + PAGE-BYTES) - max position (i * PAGE-BYTES))
 
 -- A call that changes a file's bytes: a write at the cursor, or a truncation to fewer bytes.
 pub data Change : Type 0 where

@@ -23,18 +23,15 @@ use Rattle.lists.specs.Form.{times, whole, whole-read-back, whole-was-written}
 use Rattle.lists.specs.Checks.{Passed}
 use Rattle.filesystem.specs.Tables.{Node, Tables, noNode, noOpenFile, hasId, hasDescriptor, hasParent, nodeAt, present, findId, findDescriptor, children}
 use Rattle.filesystem.specs.Image.{sameId}
-use Rattle.filesystem.specs.Sound.{Sound, to-sound, limits-at, name-short, by-kind}
+use Rattle.filesystem.specs.Sound.{gone, Sound, to-sound, limits-at, name-short, by-kind}
 use Rattle.rules.specs.Requests.{asked, creating, opening, listing, stating}
 use Rattle.rules.specs.Rules.{signedOf, isNumber, isDescriptor, Entry, entryForm, entryOf, sameEntry, isListing, statBytes, statusChecks, replyChecks}
 use Rattle.rules.specs.Valid.{ValidNodes}
 use Rattle.rules.specs.RightReplies.{RightId, RightDescriptor, RightListing}
 
--- a place past the end, and none held
+-- a place past the end
 none-there : {A : Type 0} (l : List A) (k : ℕ) → length l ≤ k → present l k ≡ false
 none-there l k h = ap not (le-leb _ _ h)
-
-gone : {A : Type 0} (l : List A) (k : ℕ) → present l k ≡ false → length l ≤ k
-gone l k e = leb-true _ _ (not-false _ e)
 
 -- Status and descriptor, as signed numbers.
 signed-is : (r : List ℕ) (n : ℕ) → signedOf r ≡ pos n → decode r ≡ n

@@ -2,10 +2,10 @@
 -- Assumes nothing.
 use mathlib.Core.Path.{_≡_, sym}
 use mathlib.Core.Bool.{Bool, true, false}
-use mathlib.Core.List.{List, [], _++_}
+use mathlib.Core.List.{List, []}
 use Prim.Native.Nat.{ℕ, _+_, _-_, _*_}
-use lib.ListN.{length, drop}
 use Rattle.lists.specs.All.{Bytes}
+use Rattle.lists.specs.Parts.{overwrite}
 use Rattle.filesystem.specs.Tables.{NODES, NAME-BYTES, Tables, freshTables}
 use Rattle.rules.specs.Requests.{storeLength, Pending, idle}
 
@@ -56,8 +56,8 @@ requestBytes (refused n) = []
 requestBytes (stopped n) = []
 
 -- 'what lies behind is untouched'
-unfoldable pub atFront : List ℕ → List ℕ → List ℕ
-atFront bytes buffer = bytes ++ drop (length bytes) buffer
+abbrev pub atFront : List ℕ → List ℕ → List ℕ
+atFront bytes buffer = overwrite buffer 0 bytes
 
 -- The caller's buffers after a call or a reply: bytes at the front of one, the other untouched; after a refusal or a stop both are. A save's
 -- own buffer, likewise.

@@ -12,7 +12,7 @@ use Rattle.lists.specs.PartLaws.{drop-take, getD-part, length-part, part-before
 use Rattle.lists.specs.Search.{without}
 use Rattle.filesystem.specs.Tables.{Node, noNode, nodeAt, pagesFor, pageTotal}
 use Rattle.filesystem.specs.Image.{divide}
-use Rattle.tables.specs.SearchLaws.{rest, rest-none}
+use Rattle.lists.specs.Scans.{rest, rest-none}
 
 pub total-append : (ns ms : List Node) → pageTotal (ns ++ ms) ≡ pageTotal ns + pageTotal ms
 unfolding pageTotal

@@ -2,15 +2,16 @@
 -- Assumes nothing.
 use mathlib.Core.Path.{_≡_, refl, sym, ap, _∙_}
 use mathlib.Core.Bool.{Bool}
-use mathlib.Core.List.{List, _++_}
+use mathlib.Core.List.{List}
 use Prim.Native.Nat.{ℕ, zero, suc, _+_, _-_, _*_, _/_, _%_, _≤_, _<_}
 use native.Mathlib.Omega.{arith}
 use lib.Dec.{ltb, leb, eqb}
-use lib.ListN.{length, getD, drop}
+use lib.ListN.{length, getD}
 use borrow.Author.Tests.{lt-ltb, le-ltb, eq-eqb, ne-eqb}
 use Rattle.lists.specs.Pick.{pick}
+use Rattle.lists.specs.Parts.{overwrite}
 use Rattle.lists.specs.Cells.{tab, length-tab, getD-tab}
-use Rattle.text.specs.First.{first}
+use Rattle.lists.specs.Search.{place}
 use Rattle.text.specs.declared.hex.Decoded.{Decoded}
 use Rattle.text.specs.declared.hex.Decoded.the-variants.{Bytes, BadDigit, Odd, TooLong}
 
@@ -44,12 +45,12 @@ isBad c = leb 16 (valueOf c)
 -- what reading digits into a buffer answers: the first bad digit, an odd number of them, more bytes than room, or the bytes
 unfoldable pub decodeOf : List ℕ → ℕ → Decoded
 decodeOf s room =
-    pick (ltb (first isBad s) (length s)) (BadDigit (first isBad s))
+    pick (ltb (place isBad s) (length s)) (BadDigit (place isBad s))
     (pick (eqb (length s % 2) 1) Odd (pick (ltb room (length s / 2)) TooLong (Bytes (length s / 2))))
 
 -- and what the buffer then holds: the bytes at its front, or what it held
 unfoldable pub decodedIn : Decoded → List ℕ → List ℕ → List ℕ
-decodedIn (Bytes n) s d = bytesOf s ++ drop n d
+decodedIn (Bytes n) s d = overwrite d 0 (bytesOf s)
 decodedIn (BadDigit i) s d = d
 decodedIn Odd s d = d
 decodedIn TooLong s d = d
@@ -72,18 +73,18 @@ bytesOf-at s k h = getD-tab (length s / 2) (λ k. pairOf (getD s (2 * k) 0) (get
 
 -- what decoding answers, case by case
 module _ (s : List ℕ) (room : ℕ) where
-  pub decode-bad : first isBad s < length s → BadDigit (first isBad s) ≡ decodeOf s room
+  pub decode-bad : place isBad s < length s → BadDigit (place isBad s) ≡ decodeOf s room
   unfolding decodeOf pick
   decode-bad h = rw (lt-ltb _ _ h)
 
-  pub decode-odd : length s ≤ first isBad s → length s % 2 ≡ 1 → Odd ≡ decodeOf s room
+  pub decode-odd : length s ≤ place isBad s → length s % 2 ≡ 1 → Odd ≡ decodeOf s room
   unfolding decodeOf pick
   decode-odd h o = rw (le-ltb _ _ h, eq-eqb _ _ o)
 
-  pub decode-long : length s ≤ first isBad s → (length s % 2 ≡ 1 → ⊥) → room < length s / 2 → TooLong ≡ decodeOf s room
+  pub decode-long : length s ≤ place isBad s → (length s % 2 ≡ 1 → ⊥) → room < length s / 2 → TooLong ≡ decodeOf s room
   unfolding decodeOf pick
   decode-long h e l = rw (le-ltb _ _ h, ne-eqb _ _ e, lt-ltb _ _ l)
 
-  pub decode-bytes : length s ≤ first isBad s → (length s % 2 ≡ 1 → ⊥) → length s / 2 ≤ room → Bytes (length s / 2) ≡ decodeOf s room
+  pub decode-bytes : length s ≤ place isBad s → (length s % 2 ≡ 1 → ⊥) → length s / 2 ≤ room → Bytes (length s / 2) ≡ decodeOf s room
   unfolding decodeOf pick
   decode-bytes h e l = rw (le-ltb _ _ h, ne-eqb _ _ e, le-ltb _ _ l)

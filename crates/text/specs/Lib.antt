@@ -1,5 +1,3 @@
-pub mod First
-pub mod Front
 pub mod Hex
 pub mod Decimal
 pub mod Line

@@ -11,14 +11,14 @@ use lib.ListN.{length, getD, drop}
 use lib.Seq.{drop-cons, drop-length}
 use borrow.Author.Tests.{eq-eqb, ne-eqb}
 use Rattle.lists.specs.Pick.{pick, pick-ind}
-use Rattle.text.specs.First.{first}
+use Rattle.lists.specs.Search.{place}
 
 abbrev pub isNewline : ℕ → Bool
 isNewline c = eqb c 10
 
 -- e is where the line that starts at a ends: at the first newline, or at the end of the text
 pub record LineEnd (s : List ℕ) (a e : ℕ) : Type 0 where
-  pub found : e ≡ a + first isNewline (drop a s)
+  pub found : e ≡ a + place isNewline (drop a s)
   pub after : a ≤ e
   pub inside : e ≤ length s
 

@@ -1,9 +1,9 @@
 // Lower-case hexadecimal digits, two to a byte.
 ghost use mathlib.Core.Path.{_≡_};
-ghost use mathlib.Core.List.{_++_};
 ghost use Prim.Native.Nat.{_*_, _/_, _≤_, _<_};
-ghost use lib.ListN.{length, drop};
-ghost use Rattle.text.specs.First.{first};
+ghost use lib.ListN.{length};
+ghost use Rattle.lists.specs.Parts.{overwrite};
+ghost use Rattle.lists.specs.Search.{place};
 ghost use Rattle.text.specs.Hex.{digitOf, valueOf, halfOf, hexOf, pairOf, bytesOf, isBad, decodeOf, decodedIn};
 
 // What reading digits into a buffer answers: how many bytes, or why none.
@@ -64,7 +64,7 @@ fn pair(a: u8, b: u8) -> u8
 // Writes the digits of `bytes` to the front of `out`.
 pub fn encode(bytes: &[u8], out: &mut [u8])
     requires { ⌜ 2 * length (now bytes) ≤ length (now out) ⌝ }
-    ensures { λ _. ⌜ now (out .exit) ≡ hexOf (now (bytes .entry)) ++ drop (2 * length (now (bytes .entry))) (now (out .entry)) ⌝ }
+    ensures { λ _. ⌜ now (out .exit) ≡ overwrite (now (out .entry)) 0 (hexOf (now (bytes .entry))) ⌝ }
 {
     let n = bytes.len();
     let mut i = 0;
@@ -76,7 +76,7 @@ pub fn encode(bytes: &[u8], out: &mut [u8])
 
 // The index of the first byte that is no digit, or the length.
 fn first_bad(text: &[u8]) -> usize
-    ensures { λ r. ⌜ r ≡ first isBad (now (text .entry)) ⌝ }
+    ensures { λ r. ⌜ r ≡ place isBad (now (text .entry)) ⌝ }
 {
     let mut i = 0;
     while i < text.len() {
@@ -91,7 +91,7 @@ fn first_bad(text: &[u8]) -> usize
 // Writes the bytes of `text`'s digits to the front of `out`.
 fn fill(text: &[u8], out: &mut [u8])
     requires { ⌜ length (now text) / 2 ≤ length (now out) ⌝ }
-    ensures { λ _. ⌜ now (out .exit) ≡ bytesOf (now (text .entry)) ++ drop (length (now (text .entry)) / 2) (now (out .entry)) ⌝ }
+    ensures { λ _. ⌜ now (out .exit) ≡ overwrite (now (out .entry)) 0 (bytesOf (now (text .entry))) ⌝ }
 {
     let n = text.len() / 2;
     let mut i = 0;

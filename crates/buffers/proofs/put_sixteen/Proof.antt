@@ -11,27 +11,6 @@ use borrow.Author.Needs.{needs}
 use Rattle.buffers.proofs.put_sixteen.Statement.{statement}
 use Rattle.buffers.proofs.put_sixteen.Tie as tie
 
-u64-at-requires : tie.Need-u64-at-requires
-u64-at-requires c κs = search needs
-
-put-number-requires : tie.Need-put-number-requires
-put-number-requires c κs = search needs
-
-add-put-number : tie.Need-add-put-number
-add-put-number c = search needs
-
-add-u64-at : tie.Need-add-u64-at
-add-u64-at c = search needs
-
-u64-at-requires-2 : tie.Need-u64-at-requires-2
-u64-at-requires-2 c κs = search needs
-
-put-number-requires-2 : tie.Need-put-number-requires-2
-put-number-requires-2 c κs = search needs
-
-same-length : tie.Need-same-length
-same-length c = search needs
-
 returns : tie.Need-returns
 returns c =
     let a = c .before .before .before .before .before .before .before .before .before .before .before .before .args in
@@ -44,13 +23,5 @@ returns c =
 
 pub put-sixteen-spec : {M : Type 1} → statement M
 put-sixteen-spec =
-    tie.close
-    (tie.spec
-    u64-at-requires
-    put-number-requires
-    add-put-number
-    add-u64-at
-    u64-at-requires-2
-    put-number-requires-2
-    same-length
-    returns)
+    tie.close (tie.spec (λ c κs. search needs) (λ c κs. search needs) (λ c. search needs) (λ c. search needs) (λ c κs. search needs) (λ c κs. search needs)
+    (λ c. search needs) returns)

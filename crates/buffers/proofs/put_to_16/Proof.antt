@@ -10,27 +10,6 @@ use borrow.Author.Needs.{needs}
 use Rattle.buffers.proofs.put_to_16.Statement.{statement}
 use Rattle.buffers.proofs.put_to_16.Tie as tie
 
-sub-last : tie.Need-sub-last
-sub-last c = search needs
-
-u64-at-requires : tie.Need-u64-at-requires
-u64-at-requires c κs = search needs
-
-put-number-requires : tie.Need-put-number-requires
-put-number-requires c κs = search needs
-
-add-put-number : tie.Need-add-put-number
-add-put-number c = search needs
-
-u64-at-requires-2 : tie.Need-u64-at-requires-2
-u64-at-requires-2 c κs = search needs
-
-put-number-requires-2 : tie.Need-put-number-requires-2
-put-number-requires-2 c κs = search needs
-
-same-length : tie.Need-same-length
-same-length c = search needs
-
 returns : tie.Need-returns
 returns c =
     let a = c .before .before .before .before .before .before .before .before .before .before .before .before .args in
@@ -42,13 +21,5 @@ returns c =
 
 pub put-to-16-spec : {M : Type 1} → statement M
 put-to-16-spec =
-    tie.close
-    (tie.spec
-    sub-last
-    u64-at-requires
-    put-number-requires
-    add-put-number
-    u64-at-requires-2
-    put-number-requires-2
-    same-length
-    returns)
+    tie.close (tie.spec (λ c. search needs) (λ c κs. search needs) (λ c κs. search needs) (λ c. search needs) (λ c κs. search needs) (λ c κs. search needs)
+    (λ c. search needs) returns)

@@ -8,21 +8,6 @@ use borrow.Author.Needs.{needs}
 use Rattle.buffers.proofs.put_to_32.Statement.{statement}
 use Rattle.buffers.proofs.put_to_32.Tie as tie
 
-sub-last : tie.Need-sub-last
-sub-last c = search needs
-
-put-sixteen-requires : tie.Need-put-sixteen-requires
-put-sixteen-requires c κs = search needs
-
-add-put-sixteen : tie.Need-add-put-sixteen
-add-put-sixteen c = search needs
-
-put-sixteen-requires-2 : tie.Need-put-sixteen-requires-2
-put-sixteen-requires-2 c κs = search needs
-
-same-length : tie.Need-same-length
-same-length c = search needs
-
 returns : tie.Need-returns
 returns c =
     let a = c .before .before .before .before .before .before .before .before .before .before .args in
@@ -30,11 +15,4 @@ returns c =
 
 pub put-to-32-spec : {M : Type 1} → statement M
 put-to-32-spec =
-    tie.close
-    (tie.spec
-    sub-last
-    put-sixteen-requires
-    add-put-sixteen
-    put-sixteen-requires-2
-    same-length
-    returns)
+    tie.close (tie.spec (λ c. search needs) (λ c κs. search needs) (λ c. search needs) (λ c κs. search needs) (λ c. search needs) returns)

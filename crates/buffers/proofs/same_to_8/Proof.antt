@@ -9,25 +9,10 @@ use borrow.Author.Needs.{needs}
 use Rattle.buffers.proofs.same_to_8.Statement.{statement}
 use Rattle.buffers.proofs.same_to_8.Tie as tie
 
-sub-last : tie.Need-sub-last
-sub-last c = search needs
-
-u32-at-requires : tie.Need-u32-at-requires
-u32-at-requires c κs = search needs
-
-u32-at-requires-2 : tie.Need-u32-at-requires-2
-u32-at-requires-2 c κs = search needs
-
 returns : tie.Need-returns
 returns c =
     let a = c .before .before .before .before .before .args in
     word-differs (a .a .now) (a .b .now) 0 4 _ _ (c .before .before .u32-at .ensures) (c .before .u32-at2 .ensures) (c .if1 .taken)
-
-u32-at-requires-3 : tie.Need-u32-at-requires-3
-u32-at-requires-3 c κs = search needs
-
-u32-at-requires-4 : tie.Need-u32-at-requires-4
-u32-at-requires-4 c κs = search needs
 
 returns-2 : tie.Need-returns-2
 returns-2 c =
@@ -40,12 +25,4 @@ returns-2 c =
 
 pub same-to-8-spec : {M : Type 1} → statement M
 same-to-8-spec =
-    tie.close
-    (tie.spec
-    sub-last
-    u32-at-requires
-    u32-at-requires-2
-    returns
-    u32-at-requires-3
-    u32-at-requires-4
-    returns-2)
+    tie.close (tie.spec (λ c. search needs) (λ c κs. search needs) (λ c κs. search needs) returns (λ c κs. search needs) (λ c κs. search needs) returns-2)

@@ -16,15 +16,6 @@ Inv-loop a b last i₀ i = (i ≤ last + 7) × (take i a ≡ take i b)
 abbrev μ-loop : tie.MeasureT-loop
 μ-loop a b last i₀ i = last + 8 - i
 
-sub-last : tie.Need-sub-last Inv-loop μ-loop
-sub-last c = search needs
-
-u64-at-requires : tie.Need-u64-at-requires Inv-loop μ-loop
-u64-at-requires c κs = search needs
-
-u64-at-requires-2 : tie.Need-u64-at-requires-2 Inv-loop μ-loop
-u64-at-requires-2 c κs = search needs
-
 returns : tie.Need-returns Inv-loop μ-loop
 returns c =
     let a = c .before .before .before .before .before .args in
@@ -33,22 +24,10 @@ returns c =
 loop-holds : tie.Need-loop-holds Inv-loop μ-loop
 loop-holds c = (omega arith, refl)
 
-u64-at-requires-3 : tie.Need-u64-at-requires-3 Inv-loop μ-loop
-u64-at-requires-3 c κs = search needs
-
-u64-at-requires-4 : tie.Need-u64-at-requires-4 Inv-loop μ-loop
-u64-at-requires-4 c κs = search needs
-
 returns-2 : tie.Need-returns-2 Inv-loop μ-loop
 returns-2 c =
     let a = c .before .before .before .before .before .before .before .before .before .before .args in
     word-differs (a .a .now) (a .b .now) (c .before .before .before .before .loop .i) 8 _ _ (c .before .before .u64-at3 .ensures) (c .before .u64-at4 .ensures) (c .if2 .taken)
-
-add-i : tie.Need-add-i Inv-loop μ-loop
-add-i c = search needs
-
-loop-less : tie.Need-loop-less Inv-loop μ-loop
-loop-less c = search needs
 
 loop-again : tie.Need-loop-again Inv-loop μ-loop
 loop-again c =
@@ -69,19 +48,5 @@ returns-3 c =
 
 pub same-words-spec : {M : Type 1} → statement M
 same-words-spec =
-    tie.close
-    (tie.spec
-    Inv-loop
-    μ-loop
-    sub-last
-    u64-at-requires
-    u64-at-requires-2
-    returns
-    loop-holds
-    u64-at-requires-3
-    u64-at-requires-4
-    returns-2
-    add-i
-    loop-less
-    loop-again
-    returns-3)
+    tie.close (tie.spec Inv-loop μ-loop (λ c. search needs) (λ c κs. search needs) (λ c κs. search needs) returns loop-holds (λ c κs. search needs)
+    (λ c κs. search needs) returns-2 (λ c. search needs) (λ c. search needs) loop-again returns-3)

@@ -20,33 +20,12 @@ abbrev μ-loop : tie.MeasureT-loop
 loop-holds : tie.Need-loop-holds Inv-loop μ-loop
 loop-holds c = (omega arith, refl, rw (sub-self (c .before .args .n)) (sym (move-none 0 (c .before .args .m .now) (c .before .args .to + c .before .args .n) (c .before .args .from + c .before .args .n))))
 
-add-block-at : tie.Need-add-block-at Inv-loop μ-loop
-add-block-at c = search needs
-
-block-at-requires : tie.Need-block-at-requires Inv-loop μ-loop
-block-at-requires c κs = search needs
-
-add-put-block : tie.Need-add-put-block Inv-loop μ-loop
-add-put-block c = search needs
-
-put-block-requires : tie.Need-put-block-requires Inv-loop μ-loop
-put-block-requires c κs = search needs
-
-loop-less : tie.Need-loop-less Inv-loop μ-loop
-loop-less c = search needs
-
 loop-again : tie.Need-loop-again Inv-loop μ-loop
 loop-again c =
     let l = c .before .before .before .before .before .before .before .loop in
     let a = c .before .before .before .before .before .before .before .before .before .args in
     let e : c .before .before .put-block .last .0 ≡ overwrite (l .m) (a .to + (l .i - 128)) (part (a .from + (l .i - 128)) 128 (l .m)) = c .before .before .put-block .ensures ∙ rw (c .before .before .before .before .block-at .ensures) in
     (omega arith, omega arith, rw (e, l .inv .2) (block-up (a .m .now) (a .to) (a .from) (a .n) (l .i) 128 (omega arith) (omega arith) (omega arith) (omega arith)))
-
-bytes-up-requires : tie.Need-bytes-up-requires Inv-loop μ-loop
-bytes-up-requires c κs = search needs
-
-same-length : tie.Need-same-length Inv-loop μ-loop
-same-length c = search needs
 
 returns : tie.Need-returns Inv-loop μ-loop
 returns c =
@@ -59,17 +38,5 @@ returns c =
 
 pub shift-up-spec : {M : Type 1} → statement M
 shift-up-spec =
-    tie.close
-    (tie.spec
-    Inv-loop
-    μ-loop
-    loop-holds
-    add-block-at
-    block-at-requires
-    add-put-block
-    put-block-requires
-    loop-less
-    loop-again
-    bytes-up-requires
-    same-length
-    returns)
+    tie.close (tie.spec Inv-loop μ-loop loop-holds (λ c. search needs) (λ c κs. search needs) (λ c. search needs) (λ c κs. search needs) (λ c. search needs)
+    loop-again (λ c κs. search needs) (λ c. search needs) returns)

@@ -12,9 +12,6 @@ use borrow.Author.Needs.{needs}
 use Rattle.handle_calls.proofs.is_full.Statement.{statement}
 use Rattle.handle_calls.proofs.is_full.Tie as tie
 
-first-page-requires : tie.Need-first-page-requires
-first-page-requires c κs = search needs
-
 returns : tie.Need-returns
 unfolding noRoom tablesIn
 returns c o =
@@ -23,12 +20,9 @@ returns c o =
     let e : length ns ≡ a .n = count-nodes (a .m .now) (a .n) (omega arith) in
     ap (ltb 1024) (c .first-page .ensures .0 ∙ sym (pages-past ns (a .k) (a .size) (omega arith)))
 
-pages-with-requires : tie.Need-pages-with-requires
-pages-with-requires c κs = search needs
-
 returns-2 : tie.Need-returns-2
 unfolding noRoom tablesIn
 returns-2 c o = ap (ltb 1024) (c .pages-with .ensures)
 
 pub is-full-spec : {M : Type 1} → statement M
-is-full-spec = tie.close (tie.spec first-page-requires returns pages-with-requires returns-2)
+is-full-spec = tie.close (tie.spec (λ c κs. search needs) returns (λ c κs. search needs) returns-2)

@@ -10,18 +10,12 @@ use borrow.Author.Needs.{needs}
 use Rattle.handle_calls.proofs.judge_close.Statement.{statement}
 use Rattle.handle_calls.proofs.judge_close.Tie as tie
 
-find-handle-requires : tie.Need-find-handle-requires
-find-handle-requires c κs = search needs
-
 returns : tie.Need-returns
 unfolding tablesIn
 returns c =
     let a = c .before .before .before .args in
     let e : length (take (a .o) (memOf (a .m .now) .opens)) ≡ a .o = count-opens (a .m .now) (a .o) (omega arith) in
     sym (close-refused (tablesIn (a .n) (a .o) (memOf (a .m .now))) (a .handle) _ (c .before .find-handle .ensures) (omega arith))
-
-find-id-requires : tie.Need-find-id-requires
-find-id-requires c κs = search needs
 
 returns-2 : tie.Need-returns-2
 unfolding tablesIn
@@ -32,4 +26,4 @@ returns-2 c =
 
 pub judge-close-spec : {M : Type 1} → statement M
 judge-close-spec =
-    tie.close (tie.spec find-handle-requires returns find-id-requires returns-2)
+    tie.close (tie.spec (λ c κs. search needs) returns (λ c κs. search needs) returns-2)

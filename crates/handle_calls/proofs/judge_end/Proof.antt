@@ -8,15 +8,6 @@ use borrow.Author.Needs.{needs}
 use Rattle.handle_calls.proofs.judge_end.Statement.{statement}
 use Rattle.handle_calls.proofs.judge_end.Tie as tie
 
-find-id-requires : tie.Need-find-id-requires
-find-id-requires c κs = search needs
-
-size-at-requires : tie.Need-size-at-requires
-size-at-requires c κs = search needs
-
-cast-if1 : tie.Need-cast-if1
-cast-if1 c = search needs
-
 returns : tie.Need-returns
 returns c =
     let a = c .before .before .before .before .args in
@@ -28,4 +19,4 @@ returns-2 c =
     sym (end-within (take (a .n) (memOf (a .m .now) .nodes)) (a .handle) (a .k) (a .position) _ _ (c .before .before .find-id .ensures) (c .before .size-at .ensures) (omega arith))
 
 pub judge-end-spec : {M : Type 1} → statement M
-judge-end-spec = tie.close (tie.spec find-id-requires size-at-requires cast-if1 returns returns-2)
+judge-end-spec = tie.close (tie.spec (λ c κs. search needs) (λ c κs. search needs) (λ c. search needs) returns returns-2)

@@ -7,20 +7,11 @@ use borrow.Author.Needs.{needs}
 use Rattle.handle_calls.proofs.judge_read.Statement.{statement}
 use Rattle.handle_calls.proofs.judge_read.Tie as tie
 
-find-handle-requires : tie.Need-find-handle-requires
-find-handle-requires c κs = search needs
-
-lacks-right-requires : tie.Need-lacks-right-requires
-lacks-right-requires c κs = search needs
-
 returns : tie.Need-returns
 unfolding tablesIn
 returns c count =
     let a = c .before .before .before .before .args in
     sym (read-refused (tablesIn (a .n) (a .o) (memOf (a .m .now))) (a .handle) _ (c .before .before .find-handle .ensures) count (sym (c .before .lacks-right .ensures) ∙ c .if1 .taken))
-
-find-id-requires : tie.Need-find-id-requires
-find-id-requires c κs = search needs
 
 returns-2 : tie.Need-returns-2
 unfolding tablesIn
@@ -30,4 +21,4 @@ returns-2 c count =
 
 pub judge-read-spec : {M : Type 1} → statement M
 judge-read-spec =
-    tie.close (tie.spec find-handle-requires lacks-right-requires returns find-id-requires returns-2)
+    tie.close (tie.spec (λ c κs. search needs) (λ c κs. search needs) returns (λ c κs. search needs) returns-2)

@@ -10,18 +10,12 @@ use borrow.Author.Needs.{needs}
 use Rattle.handle_calls.proofs.judge_seek.Statement.{statement}
 use Rattle.handle_calls.proofs.judge_seek.Tie as tie
 
-find-handle-requires : tie.Need-find-handle-requires
-find-handle-requires c κs = search needs
-
 returns : tie.Need-returns
 unfolding tablesIn
 returns c =
     let a = c .before .before .before .args in
     let e : length (take (a .o) (memOf (a .m .now) .opens)) ≡ a .o = count-opens (a .m .now) (a .o) (omega arith) in
     sym (seek-refused (tablesIn (a .n) (a .o) (memOf (a .m .now))) (a .handle) _ (c .before .find-handle .ensures) (a .position) (omega arith))
-
-judge-end-requires : tie.Need-judge-end-requires
-judge-end-requires c κs = search needs
 
 returns-2 : tie.Need-returns-2
 unfolding tablesIn
@@ -32,4 +26,4 @@ returns-2 c =
     ∙ sym (seek-handled (tablesIn (a .n) (a .o) (memOf (a .m .now))) (a .handle) _ (c .before .before .find-handle .ensures) (a .position) (omega arith))
 
 pub judge-seek-spec : {M : Type 1} → statement M
-judge-seek-spec = tie.close (tie.spec find-handle-requires returns judge-end-requires returns-2)
+judge-seek-spec = tie.close (tie.spec (λ c κs. search needs) returns (λ c κs. search needs) returns-2)

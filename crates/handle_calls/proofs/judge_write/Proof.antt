@@ -10,12 +10,6 @@ use borrow.Author.Needs.{needs}
 use Rattle.handle_calls.proofs.judge_write.Statement.{statement}
 use Rattle.handle_calls.proofs.judge_write.Tie as tie
 
-find-handle-requires : tie.Need-find-handle-requires
-find-handle-requires c κs = search needs
-
-lacks-right-requires : tie.Need-lacks-right-requires
-lacks-right-requires c κs = search needs
-
 returns : tie.Need-returns
 unfolding tablesIn
 returns c =
@@ -35,12 +29,6 @@ open-cursor-requires c κs =
     let h = has-place (a .m .now) (a .o) 2 _ (omega arith) (sym (c .before .before .lacks-right .ensures) ∙ c .before .if1 .left) in
     (omega arith, omega arith)
 
-cast-end : tie.Need-cast-end
-cast-end c = search needs
-
-add-end : tie.Need-add-end
-add-end c = search needs
-
 returns-3 : tie.Need-returns-3
 unfolding tablesIn
 returns-3 c =
@@ -48,21 +36,6 @@ returns-3 c =
     let has = sym (c .before .before .before .before .lacks-right .ensures) ∙ c .before .before .before .if1 .left in
     let ends = ap (λ (x : ℕ). x + length (a .bytes .now)) (c .before .open-cursor .ensures ∙ has-cursor (a .m .now) (a .o) 2 _ (omega arith) has) in
     sym (write-long (tablesIn (a .n) (a .o) (memOf (a .m .now))) (a .handle) _ (c .before .before .before .before .before .find-handle .ensures) (a .bytes .now) _ ends has (omega arith))
-
-find-id-requires : tie.Need-find-id-requires
-find-id-requires c κs = search needs
-
-size-at-requires : tie.Need-size-at-requires
-size-at-requires c κs = search needs
-
-cast-larger : tie.Need-cast-larger
-cast-larger c = search needs
-
-larger-requires : tie.Need-larger-requires
-larger-requires c κs = search needs
-
-is-full-requires : tie.Need-is-full-requires
-is-full-requires c κs = search needs
 
 returns-4 : tie.Need-returns-4
 unfolding tablesIn
@@ -84,20 +57,5 @@ returns-5 c =
 
 pub judge-write-spec : {M : Type 1} → statement M
 judge-write-spec =
-    tie.close
-    (tie.spec
-    find-handle-requires
-    lacks-right-requires
-    returns
-    returns-2
-    open-cursor-requires
-    cast-end
-    add-end
-    returns-3
-    find-id-requires
-    size-at-requires
-    cast-larger
-    larger-requires
-    is-full-requires
-    returns-4
-    returns-5)
+    tie.close (tie.spec (λ c κs. search needs) (λ c κs. search needs) returns returns-2 open-cursor-requires (λ c. search needs) (λ c. search needs) returns-3
+    (λ c κs. search needs) (λ c κs. search needs) (λ c. search needs) (λ c κs. search needs) (λ c κs. search needs) returns-4 returns-5)

@@ -20,12 +20,6 @@ returns c =
     let e : length os ≡ a .o = count-opens (a .m .now) (a .o) (omega arith) in
     sym (lacks-absent os (a .right) (a .k) (omega arith))
 
-open-rights-requires : tie.Need-open-rights-requires
-open-rights-requires c κs = search needs
-
-div-result : tie.Need-div-result
-div-result c = search needs
-
 returns-2 : tie.Need-returns-2
 returns-2 c =
     let a = c .before .before .before .args in
@@ -35,4 +29,4 @@ returns-2 c =
     ap (λ x. not (eqb (x / a .right % 2) 1)) q ∙ sym (lacks-there os (a .right) (a .k) (omega arith))
 
 pub lacks-right-spec : {M : Type 1} → statement M
-lacks-right-spec = tie.close (tie.spec returns open-rights-requires div-result returns-2)
+lacks-right-spec = tie.close (tie.spec returns (λ c κs. search needs) (λ c. search needs) returns-2)

@@ -16,13 +16,10 @@ returns c =
     let e : length ns ≡ a .n = count-nodes (a .m .now) (a .n) (omega arith) in
     sym (size-past ns (a .k) (omega arith))
 
-node-size-requires : tie.Need-node-size-requires
-node-size-requires c κs = search needs
-
 returns-2 : tie.Need-returns-2
 returns-2 c =
     let a = c .before .before .before .args in
     c .node-size .ensures ∙ sym (size-front (a .n) (memOf (a .m .now) .nodes) (a .k) (omega arith))
 
 pub size-at-spec : {M : Type 1} → statement M
-size-at-spec = tie.close (tie.spec returns node-size-requires returns-2)
+size-at-spec = tie.close (tie.spec returns (λ c κs. search needs) returns-2)

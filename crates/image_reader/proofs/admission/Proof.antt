@@ -31,12 +31,6 @@ returns c =
     let l = a .lengths .now in
     admit-limits ID-BYTES b l x (sym (c .before .is-in-limits .ensures) ∙ not-true _ (c .if1 .taken))
 
-record-name-requires : tie.Need-record-name-requires
-record-name-requires c κs = search needs
-
-is-named-requires : tie.Need-is-named-requires
-is-named-requires c κs = search needs
-
 returns-2 : tie.Need-returns-2
 returns-2 c =
     let a = c .before .before .before .before .before .before .before .args in
@@ -47,9 +41,6 @@ returns-2 c =
     let nq : (c .before .is-named .result) ≡ isNamed x = c .before .is-named .ensures ∙ ap (λ (n : List ℕ). componentForm n && leb (length n) NAME-BYTES) (c .before .before .record-name .ensures) in
     admit-name ID-BYTES b l x (sym nq ∙ not-true _ (c .if2 .taken))
 
-clashes-requires : tie.Need-clashes-requires
-clashes-requires c κs = search needs
-
 returns-3 : tie.Need-returns-3
 returns-3 c =
     let a = c .before .before .before .before .before .before .before .before .before .args in
@@ -59,9 +50,6 @@ returns-3 c =
     let l = a .lengths .now in
     admit-clash ID-BYTES b l x (sym (c .before .clashes .ensures) ∙ c .if3 .taken)
 
-parent-place-requires : tie.Need-parent-place-requires
-parent-place-requires c κs = search needs
-
 returns-4 : tie.Need-returns-4
 returns-4 c =
     let a = c .before .before .before .before .before .before .before .before .before .before .before .args in
@@ -70,12 +58,6 @@ returns-4 c =
     let b = nodesFrom ID-BYTES s 4 (a .i) in
     let l = a .lengths .now in
     admit-orphan ID-BYTES b l x (omega (arith, length-from ID-BYTES s 4 (a .i), c .before .parent-place .ensures))
-
-add-result : tie.Need-add-result
-add-result c = search needs
-
-shared-slice-read-result : tie.Need-shared-slice-read-result
-shared-slice-read-result c = search needs
 
 cast-result : tie.Need-cast-result
 cast-result c = omega (arith, c .shared-slice-known3 .given (c .before .before .parent-place .result))
@@ -103,19 +85,5 @@ returns-5 c =
 
 pub admission-spec : {M : Type 1} → statement M
 admission-spec =
-    tie.close
-    (tie.spec
-    is-in-limits-requires
-    returns
-    record-name-requires
-    is-named-requires
-    returns-2
-    clashes-requires
-    returns-3
-    parent-place-requires
-    returns-4
-    add-result
-    shared-slice-read-result
-    cast-result
-    add-result-2
-    returns-5)
+    tie.close (tie.spec is-in-limits-requires returns (λ c κs. search needs) (λ c κs. search needs) returns-2 (λ c κs. search needs) returns-3 (λ c κs. search needs)
+    returns-4 (λ c. search needs) (λ c. search needs) cast-result add-result-2 returns-5)

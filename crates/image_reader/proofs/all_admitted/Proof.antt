@@ -21,9 +21,6 @@ Inv-loop image n lengths₀ at₀ i₀ lengths at i =
 abbrev μ-loop : tie.MeasureT-loop
 μ-loop image n lengths₀ at₀ i₀ lengths at i = n - i
 
-slice-write-lengths : tie.Need-slice-write-lengths Inv-loop μ-loop
-slice-write-lengths c = search needs
-
 record-end-requires : tie.Need-record-end-requires Inv-loop μ-loop
 record-end-requires c κs =
     let a = c .before .before .args in
@@ -64,9 +61,6 @@ returns c =
     let l = c .before .before .before .before .loop in
     sym (sym (l .inv .5) ∙ admitted-stop ID-BYTES s (l .at) (l .i) (a .n) (l .lengths) (l .inv .3) (omega arith) (omega (arith, c .before .admission .ensures)))
 
-cast-lengths : tie.Need-cast-lengths Inv-loop μ-loop
-cast-lengths c = search needs
-
 slice-write-lengths-2 : tie.Need-slice-write-lengths-2 Inv-loop μ-loop
 slice-write-lengths-2 c = let a = c .before .before .before .before .before .before .before .before .args in omega (arith, c .before .before .before .before .loop .inv .2, length-set (a .lengths .now) 0 0)
 
@@ -78,12 +72,6 @@ record-end-requires-2 c κs =
     let h = record-in ID-BYTES s (l .at) (a .n - l .i) (omega arith) in
     let g = record-least ID-BYTES s (l .at) in
     omega (arith, h, g, l .inv .4)
-
-add-i : tie.Need-add-i Inv-loop μ-loop
-add-i c = search needs
-
-loop-less : tie.Need-loop-less Inv-loop μ-loop
-loop-less c = search needs
 
 loop-again : tie.Need-loop-again Inv-loop μ-loop
 loop-again c =
@@ -113,21 +101,5 @@ returns-2 c =
 
 pub all-admitted-spec : {M : Type 1} → statement M
 all-admitted-spec =
-    tie.close
-    (tie.spec
-    Inv-loop
-    μ-loop
-    slice-write-lengths
-    record-end-requires
-    loop-holds
-    admission-requires
-    same-length
-    returns
-    cast-lengths
-    slice-write-lengths-2
-    record-end-requires-2
-    add-i
-    loop-less
-    loop-again
-    same-length-2
-    returns-2)
+    tie.close (tie.spec Inv-loop μ-loop (λ c. search needs) record-end-requires loop-holds admission-requires same-length returns (λ c. search needs)
+    slice-write-lengths-2 record-end-requires-2 (λ c. search needs) (λ c. search needs) loop-again same-length-2 returns-2)

@@ -44,21 +44,12 @@ returns-3 c =
     let h = positive (a .n) (c .before .before .before .before .if1 .left) in
     not-limits ID-BYTES s (a .n) h (sym (c .before .is-in-limits .ensures) ∙ not-true _ (c .if3 .taken))
 
-page-sum-requires : tie.Need-page-sum-requires
-page-sum-requires c κs = search needs
-
 returns-4 : tie.Need-returns-4
 returns-4 c =
     let a = c .before .before .before .before .before .before .before .before .args in
     let s = a .image .now in
     let h = positive (a .n) (c .before .before .before .before .before .before .if1 .left) in
     not-pages ID-BYTES s (a .n) h (omega (arith, c .before .page-sum .ensures))
-
-slice-aggregate-all-admitted : tie.Need-slice-aggregate-all-admitted
-slice-aggregate-all-admitted c = search needs
-
-all-admitted-requires : tie.Need-all-admitted-requires
-all-admitted-requires c κs = search needs
 
 returns-5 : tie.Need-returns-5
 returns-5 c =
@@ -70,15 +61,5 @@ returns-5 c =
 
 pub are-sound-spec : {M : Type 1} → statement M
 are-sound-spec =
-    tie.close
-    (tie.spec
-    returns
-    is-root-requires
-    returns-2
-    is-in-limits-requires
-    returns-3
-    page-sum-requires
-    returns-4
-    slice-aggregate-all-admitted
-    all-admitted-requires
-    returns-5)
+    tie.close (tie.spec returns is-root-requires returns-2 is-in-limits-requires returns-3 (λ c κs. search needs) returns-4 (λ c. search needs)
+    (λ c κs. search needs) returns-5)

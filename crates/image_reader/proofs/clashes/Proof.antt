@@ -53,12 +53,6 @@ record-end-requires c κs =
     let g = record-least ID-BYTES s (l .a) in
     omega (arith, h, g, l .inv .1)
 
-add-seen : tie.Need-add-seen Inv-loop μ-loop
-add-seen c = search needs
-
-loop-less : tie.Need-loop-less Inv-loop μ-loop
-loop-less c = search needs
-
 loop-again : tie.Need-loop-again Inv-loop μ-loop
 loop-again c =
     let a = c .before .before .before .before .before .before .args in
@@ -82,15 +76,4 @@ returns-2 c =
 
 pub clashes-spec : {M : Type 1} → statement M
 clashes-spec =
-    tie.close
-    (tie.spec
-    Inv-loop
-    μ-loop
-    loop-holds
-    is-clash-requires
-    returns
-    record-end-requires
-    add-seen
-    loop-less
-    loop-again
-    returns-2)
+    tie.close (tie.spec Inv-loop μ-loop loop-holds is-clash-requires returns record-end-requires (λ c. search needs) (λ c. search needs) loop-again returns-2)

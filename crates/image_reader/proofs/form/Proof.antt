@@ -17,17 +17,8 @@ use Rattle.image_reader.proofs.form.Tie as tie
 returns : tie.Need-returns
 returns c = let s = c .before .before .args .image .now in no-form ID-BYTES s _ (formed-short ID-BYTES s (c .if1 .taken))
 
-u32-at-requires : tie.Need-u32-at-requires
-u32-at-requires c κs = search needs
-
-cast-n : tie.Need-cast-n
-cast-n c = search needs
-
 returns-2 : tie.Need-returns-2
 returns-2 c = let s = c .before .before .before .before .args .image .now in no-form ID-BYTES s _ (formed-many ID-BYTES s (omega (arith, c .before .u32-at .ensures)))
-
-records-end-requires : tie.Need-records-end-requires
-records-end-requires c κs = search needs
 
 returns-3 : tie.Need-returns-3
 returns-3 c =
@@ -48,21 +39,6 @@ returns-4 c =
     let q = c .before .before .records-end .ensures .0 ∙ ap (λ (n : ℕ). pick (leb (endFrom ID-BYTES s 4 n) (length s)) (endFrom ID-BYTES s 4 n) 0) (c .before .before .before .before .u32-at .ensures) in
     let g = end-some ID-BYTES s (c .before .before .records-end .result) E q (c .before .if3 .left) in
     no-form ID-BYTES s _ (formed-cut ID-BYTES s (omega (arith, g)))
-
-u32-at-requires-2 : tie.Need-u32-at-requires-2
-u32-at-requires-2 c κs = search needs
-
-cast-k : tie.Need-cast-k
-cast-k c = search needs
-
-sub-if5 : tie.Need-sub-if5
-sub-if5 c = search needs
-
-sub-if5-2 : tie.Need-sub-if5-2
-sub-if5-2 c = search needs
-
-mul-if5 : tie.Need-mul-if5
-mul-if5 c = search needs
 
 returns-5 : tie.Need-returns-5
 returns-5 c =
@@ -85,20 +61,5 @@ returns-6 c =
 
 pub form-spec : {M : Type 1} → statement M
 form-spec =
-    tie.close
-    (tie.spec
-    returns
-    u32-at-requires
-    cast-n
-    returns-2
-    records-end-requires
-    returns-3
-    sub-if4
-    returns-4
-    u32-at-requires-2
-    cast-k
-    sub-if5
-    sub-if5-2
-    mul-if5
-    returns-5
-    returns-6)
+    tie.close (tie.spec returns (λ c κs. search needs) (λ c. search needs) returns-2 (λ c κs. search needs) returns-3 sub-if4 returns-4 (λ c κs. search needs)
+    (λ c. search needs) (λ c. search needs) (λ c. search needs) (λ c. search needs) returns-5 returns-6)

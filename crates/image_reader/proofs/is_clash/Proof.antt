@@ -35,15 +35,6 @@ returns-2 c = let s = c .before .before .before .before .before .before .before 
     let d : eqb (x .id) (y .id) ≡ false = ne-eqb _ _ (λ q. c .before .before .before .if1 .left (c .before .before .before .before .before .record-id .ensures ∙ q ∙ sym (c .before .before .before .before .record-id2 .ensures))) in
     let e : eqb (x .parent) (y .parent) ≡ false = ne-eqb _ _ (λ q. c .if2 .taken (c .before .before .record-parent .ensures ∙ q ∙ sym (c .before .record-parent2 .ensures))) in rw (d, e)
 
-record-name-requires : tie.Need-record-name-requires
-record-name-requires c κs = search needs
-
-record-name-requires-2 : tie.Need-record-name-requires-2
-record-name-requires-2 c κs = search needs
-
-same-requires : tie.Need-same-requires
-same-requires c κs = search needs
-
 returns-3 : tie.Need-returns-3
 returns-3 c = let s = c .before .before .before .before .before .before .before .before .before .before .args .image .now in let x = recordAt ID-BYTES s (c .before .before .before .before .before .before .before .before .before .before .args .a) in let y = recordAt ID-BYTES s (c .before .before .before .before .before .before .before .before .before .before .args .b) in
     let d : eqb (x .id) (y .id) ≡ false = ne-eqb _ _ (λ q. c .before .before .before .before .before .before .if1 .left (c .before .before .before .before .before .before .before .before .record-id .ensures ∙ q ∙ sym (c .before .before .before .before .before .before .before .record-id2 .ensures))) in
@@ -52,15 +43,5 @@ returns-3 c = let s = c .before .before .before .before .before .before .before 
 
 pub is-clash-spec : {M : Type 1} → statement M
 is-clash-spec =
-    tie.close
-    (tie.spec
-    record-id-requires
-    record-id-requires-2
-    returns
-    record-parent-requires
-    record-parent-requires-2
-    returns-2
-    record-name-requires
-    record-name-requires-2
-    same-requires
-    returns-3)
+    tie.close (tie.spec record-id-requires record-id-requires-2 returns record-parent-requires record-parent-requires-2 returns-2 (λ c κs. search needs)
+    (λ c κs. search needs) (λ c κs. search needs) returns-3)

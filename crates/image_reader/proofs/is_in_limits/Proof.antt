@@ -11,34 +11,20 @@ use mathlib.Core.Bool.{_&&_, _||_}
 use Rattle.lists.specs.All.{Bytes}
 use Rattle.lists.specs.EqualLaws.{bytes-of}
 use Rattle.filesystem.specs.Image.{inLimits}
-use Rattle.image_reader.specs.TestLaws.{and-false, id-below}
+use Rattle.lists.specs.Equal.{and-false}
+use Rattle.image_reader.specs.TestLaws.{id-below}
 use borrow.Author.Needs.{needs}
 use Rattle.image_reader.proofs.is_in_limits.Statement.{statement}
 use Rattle.image_reader.proofs.is_in_limits.Tie as tie
-
-record-id-requires : tie.Need-record-id-requires
-record-id-requires c κs = search needs
 
 returns : tie.Need-returns
 unfolding inLimits
 returns c = let x = recordAt ID-BYTES (c .before .before .before .args .image .now) (c .before .before .before .args .at) in let e : eqb (x .id) 0 ≡ true = eq-eqb _ _ (sym (c .before .record-id .ensures) ∙ c .if1 .taken) in rw e
 
-record-mode-requires : tie.Need-record-mode-requires
-record-mode-requires c κs = search needs
-
 returns-2 : tie.Need-returns-2
 unfolding inLimits
 returns-2 c = let x = recordAt ID-BYTES (c .before .before .before .before .before .args .image .now) (c .before .before .before .before .before .args .at) in let d : eqb (x .id) 0 ≡ false = ne-eqb _ _ (λ q. c .before .before .if1 .left (c .before .before .before .record-id .ensures ∙ q)) in
     let e : leb (x .mode) 7 ≡ false = lt-leb (x .mode) 7 (omega (arith, c .before .record-mode .ensures)) in rw (d, e) (sym (and-false (ltb (x .id) (256 ^ ID-BYTES))))
-
-record-kind-requires : tie.Need-record-kind-requires
-record-kind-requires c κs = search needs
-
-record-size-requires : tie.Need-record-size-requires
-record-size-requires c κs = search needs
-
-is-kind-and-size-requires : tie.Need-is-kind-and-size-requires
-is-kind-and-size-requires c κs = search needs
 
 returns-3 : tie.Need-returns-3
 unfolding inLimits
@@ -52,13 +38,5 @@ returns-3 c = let x = recordAt ID-BYTES (c .before .before .before .before .befo
 
 pub is-in-limits-spec : {M : Type 1} → statement M
 is-in-limits-spec =
-    tie.close
-    (tie.spec
-    record-id-requires
-    returns
-    record-mode-requires
-    returns-2
-    record-kind-requires
-    record-size-requires
-    is-kind-and-size-requires
+    tie.close (tie.spec (λ c κs. search needs) returns (λ c κs. search needs) returns-2 (λ c κs. search needs) (λ c κs. search needs) (λ c κs. search needs)
     returns-3)

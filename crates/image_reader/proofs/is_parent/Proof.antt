@@ -10,19 +10,13 @@ use borrow.Author.Needs.{needs}
 use Rattle.image_reader.proofs.is_parent.Statement.{statement}
 use Rattle.image_reader.proofs.is_parent.Tie as tie
 
-record-id-requires : tie.Need-record-id-requires
-record-id-requires c κs = search needs
-
 returns : tie.Need-returns
 returns c = let x = recordAt ID-BYTES (c .before .before .before .args .image .now) (c .before .before .before .args .a) in
     let e : eqb (x .id) (c .before .before .before .args .id) ≡ false = ne-eqb _ _ (λ q. c .if1 .taken (c .before .record-id .ensures ∙ q)) in rw e
-
-record-kind-requires : tie.Need-record-kind-requires
-record-kind-requires c κs = search needs
 
 returns-2 : tie.Need-returns-2
 returns-2 c = let x = recordAt ID-BYTES (c .before .before .before .before .args .image .now) (c .before .before .before .before .args .a) in
     let e : eqb (x .id) (c .before .before .before .before .args .id) ≡ true = eq-eqb _ _ (sym (c .before .before .record-id .ensures) ∙ c .before .if1 .left) in rw e (ap (λ (k : ℕ). eqb k 2) (c .record-kind .ensures))
 
 pub is-parent-spec : {M : Type 1} → statement M
-is-parent-spec = tie.close (tie.spec record-id-requires returns record-kind-requires returns-2)
+is-parent-spec = tie.close (tie.spec (λ c κs. search needs) returns (λ c κs. search needs) returns-2)

@@ -19,23 +19,11 @@ abbrev μ-loop : tie.MeasureT-loop
 loop-holds : tie.Need-loop-holds Inv-loop μ-loop
 loop-holds c = (omega arith, refl)
 
-shared-slice-read-if1 : tie.Need-shared-slice-read-if1 Inv-loop μ-loop
-shared-slice-read-if1 c = search needs
-
 returns : tie.Need-returns Inv-loop μ-loop
 returns c = let n = c .before .before .before .before .args .name .now in let l = c .before .before .before .loop in sym (sym (l .inv .1) ∙ plain-zero n (l .i) (omega arith) (c .if1 .taken))
 
-shared-slice-read-if2 : tie.Need-shared-slice-read-if2 Inv-loop μ-loop
-shared-slice-read-if2 c = search needs
-
 returns-2 : tie.Need-returns-2 Inv-loop μ-loop
 returns-2 c = let n = c .before .before .before .before .before .before .args .name .now in let l = c .before .before .before .before .before .loop in sym (sym (l .inv .1) ∙ plain-slash n (l .i) (omega arith) (c .if2 .taken))
-
-add-i : tie.Need-add-i Inv-loop μ-loop
-add-i c = search needs
-
-loop-less : tie.Need-loop-less Inv-loop μ-loop
-loop-less c = search needs
 
 loop-again : tie.Need-loop-again Inv-loop μ-loop
 loop-again c = let n = c .before .before .before .before .before .before .args .name .now in let l = c .before .before .before .before .before .loop in (omega arith, sym (plain-next n (l .i) (omega arith) (c .before .before .if1 .left) (c .if2 .left)) ∙ l .inv .1)
@@ -45,16 +33,5 @@ returns-3 c = let n = c .before .before .args .name .now in let l = c .before .l
 
 pub is-plain-spec : {M : Type 1} → statement M
 is-plain-spec =
-    tie.close
-    (tie.spec
-    Inv-loop
-    μ-loop
-    loop-holds
-    shared-slice-read-if1
-    returns
-    shared-slice-read-if2
-    returns-2
-    add-i
-    loop-less
-    loop-again
+    tie.close (tie.spec Inv-loop μ-loop loop-holds (λ c. search needs) returns (λ c. search needs) returns-2 (λ c. search needs) (λ c. search needs) loop-again
     returns-3)

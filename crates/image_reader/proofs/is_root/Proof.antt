@@ -36,9 +36,6 @@ returns-3 c = let x = recordAt ID-BYTES (c .before .before .before .before .befo
     let e : eqb (x .kind) 2 ≡ true = eq-eqb _ _ (sym (c .before .before .before .record-kind .ensures) ∙ c .before .before .if2 .left) in
     let f : eqb (x .parent) 0 ≡ false = ne-eqb _ _ (λ q. c .if3 .taken (c .before .record-parent .ensures ∙ q)) in rw (d, e, f)
 
-record-name-requires : tie.Need-record-name-requires
-record-name-requires c κs = search needs
-
 returns-4 : tie.Need-returns-4
 returns-4 c = let x = recordAt ID-BYTES (c .before .before .before .before .before .before .before .before .args .image .now) (c .before .before .before .before .before .before .before .before .args .at) in let d : eqb (x .id) 1 ≡ true = eq-eqb _ _ (sym (c .before .before .before .before .before .before .record-id .ensures) ∙ c .before .before .before .before .before .if1 .left) in
     let e : eqb (x .kind) 2 ≡ true = eq-eqb _ _ (sym (c .before .before .before .before .record-kind .ensures) ∙ c .before .before .before .if2 .left) in
@@ -47,13 +44,4 @@ returns-4 c = let x = recordAt ID-BYTES (c .before .before .before .before .befo
 
 pub is-root-spec : {M : Type 1} → statement M
 is-root-spec =
-    tie.close
-    (tie.spec
-    record-id-requires
-    returns
-    record-kind-requires
-    returns-2
-    record-parent-requires
-    returns-3
-    record-name-requires
-    returns-4)
+    tie.close (tie.spec record-id-requires returns record-kind-requires returns-2 record-parent-requires returns-3 (λ c κs. search needs) returns-4)

@@ -17,9 +17,6 @@ use borrow.Author.Needs.{needs}
 use Rattle.image_reader.proofs.is_sound.Statement.{statement}
 use Rattle.image_reader.proofs.is_sound.Tie as tie
 
-form-requires : tie.Need-form-requires
-form-requires c κs = search needs
-
 returns : tie.Need-returns
 returns c =
     let s = c .before .before .before .args .image .now in
@@ -31,9 +28,6 @@ u32-at-requires c κs =
     let s = c .before .before .before .args .image .now in
     let (e, f) = form-some ID-BYTES s (c .before .form .result) (c .before .form .ensures) (c .if1 .left) in
     omega (arith, f .four)
-
-cast-n : tie.Need-cast-n
-cast-n c = search needs
 
 are-sound-requires : tie.Need-are-sound-requires
 are-sound-requires c κs =
@@ -55,9 +49,6 @@ u32-at-requires-2 c κs =
     let (e, f) = form-some ID-BYTES s (c .before .before .before .before .form .result) (c .before .before .before .before .form .ensures) (c .before .before .before .if1 .left) in
     omega (arith, e, f .within)
 
-cast-count : tie.Need-cast-count
-cast-count c = search needs
-
 page-sum-requires : tie.Need-page-sum-requires
 page-sum-requires c κs =
     let s = c .before .before .before .before .before .before .before .args .image .now in
@@ -77,15 +68,5 @@ returns-3 c =
 
 pub is-sound-spec : {M : Type 1} → statement M
 is-sound-spec =
-    tie.close
-    (tie.spec
-    form-requires
-    returns
-    u32-at-requires
-    cast-n
-    are-sound-requires
-    returns-2
-    u32-at-requires-2
-    cast-count
-    page-sum-requires
-    returns-3)
+    tie.close (tie.spec (λ c κs. search needs) returns u32-at-requires (λ c. search needs) are-sound-requires returns-2 u32-at-requires-2 (λ c. search needs)
+    page-sum-requires returns-3)

@@ -21,9 +21,6 @@ u32-at-requires c κs =
     let f = i .form in
     omega (arith, f .four)
 
-cast-n : tie.Need-cast-n
-cast-n c = search needs
-
 load-records-requires : tie.Need-load-records-requires
 load-records-requires c κs =
     let b = c .before .before .before .before in
@@ -43,9 +40,6 @@ load-digests-requires c κs =
     let r : c .before .before .before .load-records .result ≡ recordsEnd ID-BYTES s = c .before .before .before .load-records .ensures .1 .1 ∙ ap (endFrom ID-BYTES s 4) (c .before .before .before .before .before .u32-at .ensures) in
     (r, omega (arith, r, f .ends), i .few, omega (arith, c .before .before .before .load-records .ensures .1 .0, b .pre .1))
 
-same-length : tie.Need-same-length
-same-length c = search needs
-
 returns : tie.Need-returns
 returns c =
     let b = c .before .before .before .before .before .before .before .before .before .before .before in
@@ -58,11 +52,4 @@ returns c =
 
 pub load-image-spec : {M : Type 1} → statement M
 load-image-spec =
-    tie.close
-    (tie.spec
-    u32-at-requires
-    cast-n
-    load-records-requires
-    load-digests-requires
-    same-length
-    returns)
+    tie.close (tie.spec u32-at-requires (λ c. search needs) load-records-requires load-digests-requires (λ c. search needs) returns)

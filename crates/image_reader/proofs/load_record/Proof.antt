@@ -11,9 +11,6 @@ use borrow.Author.Needs.{needs}
 use Rattle.image_reader.proofs.load_record.Statement.{statement}
 use Rattle.image_reader.proofs.load_record.Tie as tie
 
-record-name-requires : tie.Need-record-name-requires
-record-name-requires c κs = search needs
-
 record-id-requires : tie.Need-record-id-requires
 record-id-requires c κs = let h = record-least ID-BYTES (c .before .before .before .args .image .now) (c .before .before .before .args .at) in omega (arith, h, c .before .before .before .pre .0)
 
@@ -32,12 +29,6 @@ record-size-requires c κs = let h = record-least ID-BYTES (c .before .before .b
 node-row-requires : tie.Need-node-row-requires
 node-row-requires c κs = omega (arith, ap length (c .before .before .before .before .before .record-name .ensures), c .before .before .before .before .before .before .before .before .pre .1)
 
-put-node-requires : tie.Need-put-node-requires
-put-node-requires c κs = search needs
-
-same-length : tie.Need-same-length
-same-length c = search needs
-
 returns : tie.Need-returns
 returns c =
     let a = c .before .before .before .before .before .before .before .before .before .before .before .before .before .args in
@@ -48,15 +39,5 @@ returns c =
 
 pub load-record-spec : {M : Type 1} → statement M
 load-record-spec =
-    tie.close
-    (tie.spec
-    record-name-requires
-    record-id-requires
-    record-parent-requires
-    record-kind-requires
-    record-mode-requires
-    record-size-requires
-    node-row-requires
-    put-node-requires
-    same-length
-    returns)
+    tie.close (tie.spec (λ c κs. search needs) record-id-requires record-parent-requires record-kind-requires record-mode-requires record-size-requires
+    node-row-requires (λ c κs. search needs) (λ c. search needs) returns)

@@ -55,12 +55,6 @@ record-end-requires c κs =
     let g = record-least ID-BYTES s (l .at) in
     omega (arith, h, g, l .inv .3, c .before .before .before .before .before .before .before .before .pre .2)
 
-add-i : tie.Need-add-i Inv-loop μ-loop
-add-i c = search needs
-
-loop-less : tie.Need-loop-less Inv-loop μ-loop
-loop-less c = search needs
-
 loop-again : tie.Need-loop-again Inv-loop μ-loop
 loop-again c =
     let a = c .before .before .before .before .before .before .before .before .before .args in
@@ -78,9 +72,6 @@ loop-again c =
           ∙ ap (λ (ns : List Node). withNodes ns (memOf (a .m .now))) (loaded-next ID-BYTES s (memOf (a .m .now) .nodes) (l .i) (l .at) (l .inv .2) (omega (arith, k, c .before .before .before .before .before .before .before .before .before .pre .1))),
     )
 
-same-length : tie.Need-same-length Inv-loop μ-loop
-same-length c = search needs
-
 returns : tie.Need-returns Inv-loop μ-loop
 returns c =
     let a = c .before .before .before .before .args in
@@ -91,15 +82,5 @@ returns c =
 
 pub load-records-spec : {M : Type 1} → statement M
 load-records-spec =
-    tie.close
-    (tie.spec
-    Inv-loop
-    μ-loop
-    loop-holds
-    load-record-requires
-    record-end-requires
-    add-i
-    loop-less
-    loop-again
-    same-length
+    tie.close (tie.spec Inv-loop μ-loop loop-holds load-record-requires record-end-requires (λ c. search needs) (λ c. search needs) loop-again (λ c. search needs)
     returns)

@@ -35,9 +35,6 @@ record-size-requires c κs =
     let g = record-least ID-BYTES s (l .at) in
     omega (arith, h, g, l .inv .1)
 
-pages-for-requires : tie.Need-pages-for-requires Inv-loop μ-loop
-pages-for-requires c κs = search needs
-
 add-total : tie.Need-add-total Inv-loop μ-loop
 add-total c = omega arith
 
@@ -49,12 +46,6 @@ record-end-requires c κs =
     let h = record-in ID-BYTES s (l .at) (a .n - l .i) (omega arith) in
     let g = record-least ID-BYTES s (l .at) in
     omega (arith, h, g, l .inv .1)
-
-add-i : tie.Need-add-i Inv-loop μ-loop
-add-i c = search needs
-
-loop-less : tie.Need-loop-less Inv-loop μ-loop
-loop-less c = search needs
 
 loop-again : tie.Need-loop-again Inv-loop μ-loop
 loop-again c =
@@ -77,16 +68,5 @@ returns c =
 
 pub page-sum-spec : {M : Type 1} → statement M
 page-sum-spec =
-    tie.close
-    (tie.spec
-    Inv-loop
-    μ-loop
-    loop-holds
-    record-size-requires
-    pages-for-requires
-    add-total
-    record-end-requires
-    add-i
-    loop-less
-    loop-again
-    returns)
+    tie.close (tie.spec Inv-loop μ-loop loop-holds record-size-requires (λ c κs. search needs) add-total record-end-requires (λ c. search needs) (λ c. search needs)
+    loop-again returns)

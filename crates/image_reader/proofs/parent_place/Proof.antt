@@ -62,12 +62,6 @@ record-end-requires c κs =
     let g = record-least ID-BYTES s (l .a) in
     omega (arith, h, g, l .inv .1)
 
-add-k : tie.Need-add-k Inv-loop μ-loop
-add-k c = search needs
-
-loop-less : tie.Need-loop-less Inv-loop μ-loop
-loop-less c = search needs
-
 loop-again : tie.Need-loop-again Inv-loop μ-loop
 loop-again c =
     let a = c .before .before .before .before .before .before .before .args in
@@ -92,16 +86,5 @@ returns-2 c =
 
 pub parent-place-spec : {M : Type 1} → statement M
 parent-place-spec =
-    tie.close
-    (tie.spec
-    Inv-loop
-    μ-loop
-    record-parent-requires
-    loop-holds
-    is-parent-requires
-    returns
-    record-end-requires
-    add-k
-    loop-less
-    loop-again
-    returns-2)
+    tie.close (tie.spec Inv-loop μ-loop record-parent-requires loop-holds is-parent-requires returns record-end-requires (λ c. search needs) (λ c. search needs)
+    loop-again returns-2)

@@ -8,21 +8,6 @@ use borrow.Author.Needs.{needs}
 use Rattle.image_reader.proofs.record_end.Statement.{statement}
 use Rattle.image_reader.proofs.record_end.Tie as tie
 
-add-result : tie.Need-add-result
-add-result c = search needs
-
-mul-result : tie.Need-mul-result
-mul-result c = search needs
-
-add-result-2 : tie.Need-add-result-2
-add-result-2 c = search needs
-
-add-result-3 : tie.Need-add-result-3
-add-result-3 c = search needs
-
-shared-slice-read-result : tie.Need-shared-slice-read-result
-shared-slice-read-result c = search needs
-
 cast-result : tie.Need-cast-result
 cast-result c = omega (arith, c .shared-slice-known .given (c .before .args .at + 2 * ID-BYTES + 6))
 
@@ -35,13 +20,4 @@ returns c = let h = c .shared-slice-known .given (c .before .args .at + 2 * ID-B
 
 pub record-end-spec : {M : Type 1} → statement M
 record-end-spec =
-    tie.close
-    (tie.spec
-    add-result
-    mul-result
-    add-result-2
-    add-result-3
-    shared-slice-read-result
-    cast-result
-    add-result-4
-    returns)
+    tie.close (tie.spec (λ c. search needs) (λ c. search needs) (λ c. search needs) (λ c. search needs) (λ c. search needs) cast-result add-result-4 returns)

@@ -4,12 +4,9 @@ use borrow.Author.Needs.{needs}
 use Rattle.image_reader.proofs.record_id.Statement.{statement}
 use Rattle.image_reader.proofs.record_id.Tie as tie
 
-number-at-requires : tie.Need-number-at-requires
-number-at-requires c κs = search needs
-
 returns : tie.Need-returns
 unfolding recordAt
 returns c = c .number-at .ensures
 
 pub record-id-spec : {M : Type 1} → statement M
-record-id-spec = tie.close (tie.spec number-at-requires returns)
+record-id-spec = tie.close (tie.spec (λ c κs. search needs) returns)

@@ -5,18 +5,9 @@ use borrow.Author.Needs.{needs}
 use Rattle.image_reader.proofs.record_kind.Statement.{statement}
 use Rattle.image_reader.proofs.record_kind.Tie as tie
 
-mul-result : tie.Need-mul-result
-mul-result c = search needs
-
-add-result : tie.Need-add-result
-add-result c = search needs
-
-shared-slice-read-result : tie.Need-shared-slice-read-result
-shared-slice-read-result c = search needs
-
 returns : tie.Need-returns
 unfolding recordAt
 returns c = refl
 
 pub record-kind-spec : {M : Type 1} → statement M
-record-kind-spec = tie.close (tie.spec mul-result add-result shared-slice-read-result returns)
+record-kind-spec = tie.close (tie.spec (λ c. search needs) (λ c. search needs) (λ c. search needs) returns)

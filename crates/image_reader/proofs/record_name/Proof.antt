@@ -20,9 +20,6 @@ sub-result c = omega arith
 part-result-start : tie.Need-part-result-start
 part-result-start c = omega arith
 
-part-result-end : tie.Need-part-result-end
-part-result-end c = search needs
-
 returns : tie.Need-returns
 unfolding part
 returns c =
@@ -31,5 +28,4 @@ returns c =
 
 pub record-name-spec : {M : Type 1} → statement M
 record-name-spec =
-    tie.close
-    (tie.spec add-start record-end-requires sub-result part-result-start part-result-end returns)
+    tie.close (tie.spec add-start record-end-requires sub-result part-result-start (λ c. search needs) returns)

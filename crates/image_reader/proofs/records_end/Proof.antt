@@ -19,9 +19,6 @@ abbrev μ-loop : tie.MeasureT-loop
 loop-holds : tie.Need-loop-holds Inv-loop μ-loop
 loop-holds c = let e : c .before .args .n - 0 ≡ c .before .args .n = omega arith in (omega arith, omega arith, ap (endFrom ID-BYTES (c .before .args .image .now) 4) e)
 
-sub-if1 : tie.Need-sub-if1 Inv-loop μ-loop
-sub-if1 c = search needs
-
 returns : tie.Need-returns Inv-loop μ-loop
 returns c =
     let a = c .before .before .before .before .args in
@@ -29,21 +26,12 @@ returns c =
     let l = c .before .before .loop in
     (no-end ID-BYTES s (endFrom ID-BYTES s 4 (a .n)) (omega (arith, cut-front ID-BYTES s (l .at) (a .n - l .i) (omega arith) (omega arith), l .inv .2)), omega arith)
 
-record-end-requires : tie.Need-record-end-requires Inv-loop μ-loop
-record-end-requires c κs = search needs
-
 returns-2 : tie.Need-returns-2 Inv-loop μ-loop
 returns-2 c =
     let a = c .before .before .before .before .before .before .args in
     let s = a .image .now in
     let l = c .before .before .before .before .loop in
     (no-end ID-BYTES s (endFrom ID-BYTES s 4 (a .n)) (omega (arith, cut-record ID-BYTES s (l .at) (a .n - l .i) (omega arith) (omega (arith, c .before .record-end .ensures .0)), l .inv .2)), omega arith)
-
-add-i : tie.Need-add-i Inv-loop μ-loop
-add-i c = search needs
-
-loop-less : tie.Need-loop-less Inv-loop μ-loop
-loop-less c = search needs
 
 loop-again : tie.Need-loop-again Inv-loop μ-loop
 loop-again c =
@@ -64,16 +52,5 @@ returns-3 c =
 
 pub records-end-spec : {M : Type 1} → statement M
 records-end-spec =
-    tie.close
-    (tie.spec
-    Inv-loop
-    μ-loop
-    loop-holds
-    sub-if1
-    returns
-    record-end-requires
-    returns-2
-    add-i
-    loop-less
-    loop-again
+    tie.close (tie.spec Inv-loop μ-loop loop-holds (λ c. search needs) returns (λ c κs. search needs) returns-2 (λ c. search needs) (λ c. search needs) loop-again
     returns-3)

@@ -8,21 +8,6 @@ use borrow.Author.Needs.{needs}
 use Rattle.image_writer.proofs.record_middle.Statement.{statement}
 use Rattle.image_writer.proofs.record_middle.Tie as tie
 
-bytes4-requires : tie.Need-bytes4-requires
-bytes4-requires c κs = search needs
-
-array-read-t9 : tie.Need-array-read-t9
-array-read-t9 c = search needs
-
-array-read-t12 : tie.Need-array-read-t12
-array-read-t12 c = search needs
-
-array-read-t15 : tie.Need-array-read-t15
-array-read-t15 c = search needs
-
-array-read-t18 : tie.Need-array-read-t18
-array-read-t18 c = search needs
-
 returns : tie.Need-returns
 unfolding middle encode
 returns c =
@@ -34,5 +19,4 @@ returns c =
 
 pub record-middle-spec : {M : Type 1} → statement M
 record-middle-spec =
-    tie.close
-    (tie.spec bytes4-requires array-read-t9 array-read-t12 array-read-t15 array-read-t18 returns)
+    tie.close (tie.spec (λ c κs. search needs) (λ c. search needs) (λ c. search needs) (λ c. search needs) (λ c. search needs) returns)

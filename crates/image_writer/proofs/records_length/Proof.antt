@@ -20,27 +20,6 @@ abbrev μ-loop : tie.MeasureT-loop
 loop-holds : tie.Need-loop-holds Inv-loop μ-loop
 loop-holds c = (omega arith, omega arith, omega arith)
 
-node-name-requires : tie.Need-node-name-requires Inv-loop μ-loop
-node-name-requires c κs = search needs
-
-mul-total : tie.Need-mul-total Inv-loop μ-loop
-mul-total c = search needs
-
-add-total : tie.Need-add-total Inv-loop μ-loop
-add-total c = search needs
-
-add-total-2 : tie.Need-add-total-2 Inv-loop μ-loop
-add-total-2 c = search needs
-
-add-total-3 : tie.Need-add-total-3 Inv-loop μ-loop
-add-total-3 c = search needs
-
-add-i : tie.Need-add-i Inv-loop μ-loop
-add-i c = search needs
-
-loop-less : tie.Need-loop-less Inv-loop μ-loop
-loop-less c = search needs
-
 loop-again : tie.Need-loop-again Inv-loop μ-loop
 loop-again c =
     let a = c .before .before .before .before .args in
@@ -58,17 +37,5 @@ returns c =
 
 pub records-length-spec : {M : Type 1} → statement M
 records-length-spec =
-    tie.close
-    (tie.spec
-    Inv-loop
-    μ-loop
-    loop-holds
-    node-name-requires
-    mul-total
-    add-total
-    add-total-2
-    add-total-3
-    add-i
-    loop-less
-    loop-again
-    returns)
+    tie.close (tie.spec Inv-loop μ-loop loop-holds (λ c κs. search needs) (λ c. search needs) (λ c. search needs) (λ c. search needs) (λ c. search needs)
+    (λ c. search needs) (λ c. search needs) loop-again returns)

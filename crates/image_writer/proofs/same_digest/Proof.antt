@@ -7,17 +7,8 @@ use borrow.Author.Needs.{needs}
 use Rattle.image_writer.proofs.same_digest.Statement.{statement}
 use Rattle.image_writer.proofs.same_digest.Tie as tie
 
-seal-requires : tie.Need-seal-requires
-seal-requires c κs = search needs
-
-slice-aggregate-same : tie.Need-slice-aggregate-same
-slice-aggregate-same c = search needs
-
-same-requires : tie.Need-same-requires
-same-requires c κs = search needs
-
 returns : tie.Need-returns
 returns c = c .same .ensures ∙ ap (λ (d : List ℕ). equal d (c .before .before .before .before .before .args .expected .now)) (c .before .before .seal .ensures)
 
 pub same-digest-spec : {M : Type 1} → statement M
-same-digest-spec = tie.close (tie.spec seal-requires slice-aggregate-same same-requires returns)
+same-digest-spec = tie.close (tie.spec (λ c κs. search needs) (λ c. search needs) (λ c κs. search needs) returns)

@@ -11,18 +11,6 @@ use borrow.Author.Needs.{needs}
 use Rattle.image_writer.proofs.write_ids.Statement.{statement}
 use Rattle.image_writer.proofs.write_ids.Tie as tie
 
-put-number-requires : tie.Need-put-number-requires
-put-number-requires c κs = search needs
-
-add-put-number : tie.Need-add-put-number
-add-put-number c = search needs
-
-put-number-requires-2 : tie.Need-put-number-requires-2
-put-number-requires-2 c κs = search needs
-
-same-length : tie.Need-same-length
-same-length c = search needs
-
 returns : tie.Need-returns
 returns c =
     let a = c .before .before .before .before .before .before .before .before .before .args in
@@ -32,5 +20,4 @@ returns c =
 
 pub write-ids-spec : {M : Type 1} → statement M
 write-ids-spec =
-    tie.close
-    (tie.spec put-number-requires add-put-number put-number-requires-2 same-length returns)
+    tie.close (tie.spec (λ c κs. search needs) (λ c. search needs) (λ c κs. search needs) (λ c. search needs) returns)

@@ -33,12 +33,6 @@ write-record-requires c κs =
     let p = records-in (a .m .now) (a .n) (omega arith) ID-BYTES (l .i) (omega arith) in
     (omega arith, omega arith, omega (arith, p, l .inv .3, l .inv .1))
 
-add-i : tie.Need-add-i Inv-loop μ-loop
-add-i c = search needs
-
-loop-less : tie.Need-loop-less Inv-loop μ-loop
-loop-less c = search needs
-
 loop-again : tie.Need-loop-again Inv-loop μ-loop
 loop-again c =
     let a = c .before .before .before .before .before .before .before .before .args in
@@ -48,9 +42,6 @@ loop-again c =
     let i : l .i < a .n = omega arith in
     let p = records-in (a .m .now) (a .n) h ID-BYTES (l .i) i in
     (omega arith, omega arith, record-next (a .m .now) (a .n) h ID-BYTES (l .i) i (l .out) (l .next) (omega (arith, p, l .inv .3, l .inv .1)) (r .ensures .0) (r .ensures .1) ∙ l .inv .2, omega (arith, p, l .inv .3, r .ensures .1))
-
-same-length : tie.Need-same-length Inv-loop μ-loop
-same-length c = search needs
 
 returns : tie.Need-returns Inv-loop μ-loop
 returns c =
@@ -62,14 +53,4 @@ returns c =
 
 pub write-records-spec : {M : Type 1} → statement M
 write-records-spec =
-    tie.close
-    (tie.spec
-    Inv-loop
-    μ-loop
-    loop-holds
-    write-record-requires
-    add-i
-    loop-less
-    loop-again
-    same-length
-    returns)
+    tie.close (tie.spec Inv-loop μ-loop loop-holds write-record-requires (λ c. search needs) (λ c. search needs) loop-again (λ c. search needs) returns)

@@ -12,21 +12,12 @@ use borrow.Author.Needs.{needs}
 use Rattle.memory.proofs.is_child.Statement.{statement}
 use Rattle.memory.proofs.is_child.Tie as tie
 
-node-parent-requires : tie.Need-node-parent-requires
-node-parent-requires c κs = search needs
-
 returns : tie.Need-returns
 returns c =
     let a = c .before .before .before .before .args in
     let n = nodeAt (memOf (a .m .now) .nodes) (a .i) in
     let e : eqb (n .parent) (a .parent) ≡ false = ne-eqb _ _ (λ q. c .if1 .taken (c .before .node-parent .ensures ∙ q)) in
     rw e
-
-node-name-requires : tie.Need-node-name-requires
-node-name-requires c κs = search needs
-
-same-requires : tie.Need-same-requires
-same-requires c κs = search needs
 
 returns-2 : tie.Need-returns-2
 returns-2 c =
@@ -37,4 +28,4 @@ returns-2 c =
 
 pub is-child-spec : {M : Type 1} → statement M
 is-child-spec =
-    tie.close (tie.spec node-parent-requires returns node-name-requires same-requires returns-2)
+    tie.close (tie.spec (λ c κs. search needs) returns (λ c κs. search needs) (λ c κs. search needs) returns-2)

@@ -7,24 +7,6 @@ use borrow.Author.Needs.{needs}
 use Rattle.memory.proofs.keep_digests.Statement.{statement}
 use Rattle.memory.proofs.keep_digests.Tie as tie
 
-add-shift : tie.Need-add-shift
-add-shift c = search needs
-
-mul-shift : tie.Need-mul-shift
-mul-shift c = search needs
-
-add-shift-2 : tie.Need-add-shift-2
-add-shift-2 c = search needs
-
-mul-shift-2 : tie.Need-mul-shift-2
-mul-shift-2 c = search needs
-
-shift-requires : tie.Need-shift-requires
-shift-requires c κs = search needs
-
-same-length : tie.Need-same-length
-same-length c = search needs
-
 returns : tie.Need-returns
 returns c =
     let a = c .before .before .before .before .before .args in
@@ -32,5 +14,4 @@ returns c =
 
 pub keep-digests-spec : {M : Type 1} → statement M
 keep-digests-spec =
-    tie.close
-    (tie.spec add-shift mul-shift add-shift-2 mul-shift-2 shift-requires same-length returns)
+    tie.close (tie.spec (λ c. search needs) (λ c. search needs) (λ c. search needs) (λ c. search needs) (λ c κs. search needs) (λ c. search needs) returns)

@@ -7,27 +7,6 @@ use borrow.Author.Needs.{needs}
 use Rattle.memory.proofs.move_opens.Statement.{statement}
 use Rattle.memory.proofs.move_opens.Tie as tie
 
-mul-shift : tie.Need-mul-shift
-mul-shift c = search needs
-
-add-shift : tie.Need-add-shift
-add-shift c = search needs
-
-mul-shift-2 : tie.Need-mul-shift-2
-mul-shift-2 c = search needs
-
-add-shift-2 : tie.Need-add-shift-2
-add-shift-2 c = search needs
-
-mul-shift-3 : tie.Need-mul-shift-3
-mul-shift-3 c = search needs
-
-shift-requires : tie.Need-shift-requires
-shift-requires c κs = search needs
-
-same-length : tie.Need-same-length
-same-length c = search needs
-
 returns : tie.Need-returns
 returns c =
     let a = c .before .before .before .before .before .args in
@@ -35,13 +14,5 @@ returns c =
 
 pub move-opens-spec : {M : Type 1} → statement M
 move-opens-spec =
-    tie.close
-    (tie.spec
-    mul-shift
-    add-shift
-    mul-shift-2
-    add-shift-2
-    mul-shift-3
-    shift-requires
-    same-length
-    returns)
+    tie.close (tie.spec (λ c. search needs) (λ c. search needs) (λ c. search needs) (λ c. search needs) (λ c. search needs) (λ c κs. search needs)
+    (λ c. search needs) returns)

@@ -12,15 +12,6 @@ use borrow.Author.Needs.{needs}
 use Rattle.memory.proofs.node_id.Statement.{statement}
 use Rattle.memory.proofs.node_id.Tie as tie
 
-mul-u64-at : tie.Need-mul-u64-at
-mul-u64-at c = search needs
-
-add-u64-at : tie.Need-add-u64-at
-add-u64-at c = search needs
-
-u64-at-requires : tie.Need-u64-at-requires
-u64-at-requires c κs = search needs
-
 returns : tie.Need-returns
 unfolding nodeOf field
 returns c =
@@ -29,4 +20,4 @@ returns c =
     ∙ sym (ap (λ (n : Node). n .id) (node-at (a .m .now) (a .i) (omega arith)) ∙ field-part (nodesAt + a .i * nodeWidth) nodeWidth 0 8 (a .m .now) (omega arith) ∙ rw (add-zero (nodesAt + a .i * nodeWidth)))
 
 pub node-id-spec : {M : Type 1} → statement M
-node-id-spec = tie.close (tie.spec mul-u64-at add-u64-at u64-at-requires returns)
+node-id-spec = tie.close (tie.spec (λ c. search needs) (λ c. search needs) (λ c κs. search needs) returns)

@@ -11,18 +11,6 @@ use borrow.Author.Needs.{needs}
 use Rattle.memory.proofs.node_mode.Statement.{statement}
 use Rattle.memory.proofs.node_mode.Tie as tie
 
-mul-result : tie.Need-mul-result
-mul-result c = search needs
-
-add-result : tie.Need-add-result
-add-result c = search needs
-
-add-result-2 : tie.Need-add-result-2
-add-result-2 c = search needs
-
-shared-slice-read-result : tie.Need-shared-slice-read-result
-shared-slice-read-result c = search needs
-
 returns : tie.Need-returns
 unfolding nodeOf
 returns c =
@@ -33,4 +21,4 @@ returns c =
 
 pub node-mode-spec : {M : Type 1} → statement M
 node-mode-spec =
-    tie.close (tie.spec mul-result add-result add-result-2 shared-slice-read-result returns)
+    tie.close (tie.spec (λ c. search needs) (λ c. search needs) (λ c. search needs) (λ c. search needs) returns)

@@ -14,36 +14,6 @@ use borrow.Author.Needs.{needs}
 use Rattle.memory.proofs.node_name.Statement.{statement}
 use Rattle.memory.proofs.node_name.Tie as tie
 
-mul-at : tie.Need-mul-at
-mul-at c = search needs
-
-add-at : tie.Need-add-at
-add-at c = search needs
-
-add-name-length : tie.Need-add-name-length
-add-name-length c = search needs
-
-shared-slice-read-name-length : tie.Need-shared-slice-read-name-length
-shared-slice-read-name-length c = search needs
-
-name-length-requires : tie.Need-name-length-requires
-name-length-requires c κs = search needs
-
-add-start : tie.Need-add-start
-add-start c = search needs
-
-add-end : tie.Need-add-end
-add-end c = search needs
-
-sub-result : tie.Need-sub-result
-sub-result c = search needs
-
-part-result-start : tie.Need-part-result-start
-part-result-start c = search needs
-
-part-result-end : tie.Need-part-result-end
-part-result-end c = search needs
-
 returns : tie.Need-returns
 unfolding part
 returns c =
@@ -55,16 +25,5 @@ returns c =
 
 pub node-name-spec : {M : Type 1} → statement M
 node-name-spec =
-    tie.close
-    (tie.spec
-    mul-at
-    add-at
-    add-name-length
-    shared-slice-read-name-length
-    name-length-requires
-    add-start
-    add-end
-    sub-result
-    part-result-start
-    part-result-end
-    returns)
+    tie.close (tie.spec (λ c. search needs) (λ c. search needs) (λ c. search needs) (λ c. search needs) (λ c κs. search needs) (λ c. search needs)
+    (λ c. search needs) (λ c. search needs) (λ c. search needs) (λ c. search needs) returns)

@@ -11,18 +11,6 @@ use borrow.Author.Needs.{needs}
 use Rattle.memory.proofs.node_parent.Statement.{statement}
 use Rattle.memory.proofs.node_parent.Tie as tie
 
-mul-u64-at : tie.Need-mul-u64-at
-mul-u64-at c = search needs
-
-add-u64-at : tie.Need-add-u64-at
-add-u64-at c = search needs
-
-add-u64-at-2 : tie.Need-add-u64-at-2
-add-u64-at-2 c = search needs
-
-u64-at-requires : tie.Need-u64-at-requires
-u64-at-requires c κs = search needs
-
 returns : tie.Need-returns
 unfolding nodeOf field
 returns c =
@@ -31,4 +19,4 @@ returns c =
     ∙ sym (ap (λ (n : Node). n .parent) (node-at (a .m .now) (a .i) (omega arith)) ∙ field-part (nodesAt + a .i * nodeWidth) nodeWidth 8 8 (a .m .now) (omega arith))
 
 pub node-parent-spec : {M : Type 1} → statement M
-node-parent-spec = tie.close (tie.spec mul-u64-at add-u64-at add-u64-at-2 u64-at-requires returns)
+node-parent-spec = tie.close (tie.spec (λ c. search needs) (λ c. search needs) (λ c. search needs) (λ c κs. search needs) returns)

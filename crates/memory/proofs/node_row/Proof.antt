@@ -11,27 +11,6 @@ use borrow.Author.Needs.{needs}
 use Rattle.memory.proofs.node_row.Statement.{statement}
 use Rattle.memory.proofs.node_row.Tie as tie
 
-cast-node-front : tie.Need-cast-node-front
-cast-node-front c = search needs
-
-node-front-requires : tie.Need-node-front-requires
-node-front-requires c κs = search needs
-
-slice-aggregate-put-bytes : tie.Need-slice-aggregate-put-bytes
-slice-aggregate-put-bytes c = search needs
-
-slice-aggregate-put-bytes-2 : tie.Need-slice-aggregate-put-bytes-2
-slice-aggregate-put-bytes-2 c = search needs
-
-put-bytes-requires : tie.Need-put-bytes-requires
-put-bytes-requires c κs = search needs
-
-slice-aggregate-put : tie.Need-slice-aggregate-put
-slice-aggregate-put c = search needs
-
-put-requires : tie.Need-put-requires
-put-requires c κs = search needs
-
 returns : tie.Need-returns
 returns c =
     let a = c .before .before .before .before .before .before .before .before .before .args in
@@ -42,13 +21,5 @@ returns c =
 
 pub node-row-spec : {M : Type 1} → statement M
 node-row-spec =
-    tie.close
-    (tie.spec
-    cast-node-front
-    node-front-requires
-    slice-aggregate-put-bytes
-    slice-aggregate-put-bytes-2
-    put-bytes-requires
-    slice-aggregate-put
-    put-requires
-    returns)
+    tie.close (tie.spec (λ c. search needs) (λ c κs. search needs) (λ c. search needs) (λ c. search needs) (λ c κs. search needs) (λ c. search needs)
+    (λ c κs. search needs) returns)

@@ -11,18 +11,6 @@ use borrow.Author.Needs.{needs}
 use Rattle.memory.proofs.node_size.Statement.{statement}
 use Rattle.memory.proofs.node_size.Tie as tie
 
-mul-u32-at : tie.Need-mul-u32-at
-mul-u32-at c = search needs
-
-add-u32-at : tie.Need-add-u32-at
-add-u32-at c = search needs
-
-add-u32-at-2 : tie.Need-add-u32-at-2
-add-u32-at-2 c = search needs
-
-u32-at-requires : tie.Need-u32-at-requires
-u32-at-requires c κs = search needs
-
 returns : tie.Need-returns
 unfolding nodeOf field
 returns c =
@@ -31,4 +19,4 @@ returns c =
     ∙ sym (ap (λ (n : Node). n .size) (node-at (a .m .now) (a .i) (omega arith)) ∙ field-part (nodesAt + a .i * nodeWidth) nodeWidth 18 4 (a .m .now) (omega arith))
 
 pub node-size-spec : {M : Type 1} → statement M
-node-size-spec = tie.close (tie.spec mul-u32-at add-u32-at add-u32-at-2 u32-at-requires returns)
+node-size-spec = tie.close (tie.spec (λ c. search needs) (λ c. search needs) (λ c. search needs) (λ c κs. search needs) returns)

@@ -11,18 +11,6 @@ use borrow.Author.Needs.{needs}
 use Rattle.memory.proofs.open_descriptor.Statement.{statement}
 use Rattle.memory.proofs.open_descriptor.Tie as tie
 
-mul-u32-at : tie.Need-mul-u32-at
-mul-u32-at c = search needs
-
-add-u32-at : tie.Need-add-u32-at
-add-u32-at c = search needs
-
-add-u32-at-2 : tie.Need-add-u32-at-2
-add-u32-at-2 c = search needs
-
-u32-at-requires : tie.Need-u32-at-requires
-u32-at-requires c κs = search needs
-
 returns : tie.Need-returns
 unfolding openOf field
 returns c =
@@ -32,4 +20,4 @@ returns c =
 
 pub open-descriptor-spec : {M : Type 1} → statement M
 open-descriptor-spec =
-    tie.close (tie.spec mul-u32-at add-u32-at add-u32-at-2 u32-at-requires returns)
+    tie.close (tie.spec (λ c. search needs) (λ c. search needs) (λ c. search needs) (λ c κs. search needs) returns)

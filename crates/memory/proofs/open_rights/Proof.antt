@@ -11,18 +11,6 @@ use borrow.Author.Needs.{needs}
 use Rattle.memory.proofs.open_rights.Statement.{statement}
 use Rattle.memory.proofs.open_rights.Tie as tie
 
-mul-result : tie.Need-mul-result
-mul-result c = search needs
-
-add-result : tie.Need-add-result
-add-result c = search needs
-
-add-result-2 : tie.Need-add-result-2
-add-result-2 c = search needs
-
-shared-slice-read-result : tie.Need-shared-slice-read-result
-shared-slice-read-result c = search needs
-
 returns : tie.Need-returns
 unfolding openOf
 returns c =
@@ -33,4 +21,4 @@ returns c =
 
 pub open-rights-spec : {M : Type 1} → statement M
 open-rights-spec =
-    tie.close (tie.spec mul-result add-result add-result-2 shared-slice-read-result returns)
+    tie.close (tie.spec (λ c. search needs) (λ c. search needs) (λ c. search needs) (λ c. search needs) returns)

@@ -7,16 +7,10 @@ use borrow.Author.Needs.{needs}
 use Rattle.memory.proofs.put_digests.Statement.{statement}
 use Rattle.memory.proofs.put_digests.Tie as tie
 
-put-requires : tie.Need-put-requires
-put-requires c κs = search needs
-
-same-length : tie.Need-same-length
-same-length c = search needs
-
 returns : tie.Need-returns
 returns c =
     let a = c .before .before .before .before .before .before .args in
     (ap memOf (c .before .before .put .ensures) ∙ mem-digests (a .m .now) (a .x .now) (a .n) (omega arith) (omega arith) (omega arith), omega arith)
 
 pub put-digests-spec : {M : Type 1} → statement M
-put-digests-spec = tie.close (tie.spec put-requires same-length returns)
+put-digests-spec = tie.close (tie.spec (λ c κs. search needs) (λ c. search needs) returns)

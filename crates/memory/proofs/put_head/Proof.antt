@@ -11,21 +11,6 @@ use borrow.Author.Needs.{needs}
 use Rattle.memory.proofs.put_head.Statement.{statement}
 use Rattle.memory.proofs.put_head.Tie as tie
 
-bytes8-requires : tie.Need-bytes8-requires
-bytes8-requires c κs = search needs
-
-mul-put : tie.Need-mul-put
-mul-put c = search needs
-
-slice-aggregate-put : tie.Need-slice-aggregate-put
-slice-aggregate-put c = search needs
-
-put-requires : tie.Need-put-requires
-put-requires c κs = search needs
-
-same-length : tie.Need-same-length
-same-length c = search needs
-
 returns : tie.Need-returns
 returns c =
     let a = c .before .before .before .before .before .before .before .args in
@@ -34,5 +19,4 @@ returns c =
 
 pub put-head-spec : {M : Type 1} → statement M
 put-head-spec =
-    tie.close
-    (tie.spec bytes8-requires mul-put slice-aggregate-put put-requires same-length returns)
+    tie.close (tie.spec (λ c κs. search needs) (λ c. search needs) (λ c. search needs) (λ c κs. search needs) (λ c. search needs) returns)

@@ -7,21 +7,6 @@ use borrow.Author.Needs.{needs}
 use Rattle.memory.proofs.put_open.Statement.{statement}
 use Rattle.memory.proofs.put_open.Tie as tie
 
-mul-put : tie.Need-mul-put
-mul-put c = search needs
-
-add-put : tie.Need-add-put
-add-put c = search needs
-
-slice-aggregate-put : tie.Need-slice-aggregate-put
-slice-aggregate-put c = search needs
-
-put-requires : tie.Need-put-requires
-put-requires c κs = search needs
-
-same-length : tie.Need-same-length
-same-length c = search needs
-
 returns : tie.Need-returns
 returns c =
     let a = c .before .before .before .before .before .before .args in
@@ -30,4 +15,4 @@ returns c =
 
 pub put-open-spec : {M : Type 1} → statement M
 put-open-spec =
-    tie.close (tie.spec mul-put add-put slice-aggregate-put put-requires same-length returns)
+    tie.close (tie.spec (λ c. search needs) (λ c. search needs) (λ c. search needs) (λ c κs. search needs) (λ c. search needs) returns)

@@ -14,21 +14,6 @@ use borrow.Author.Needs.{needs}
 use Rattle.memory.proofs.set_mode.Statement.{statement}
 use Rattle.memory.proofs.set_mode.Tie as tie
 
-mul-m : tie.Need-mul-m
-mul-m c = search needs
-
-add-m : tie.Need-add-m
-add-m c = search needs
-
-add-m-2 : tie.Need-add-m-2
-add-m-2 c = search needs
-
-slice-write-m : tie.Need-slice-write-m
-slice-write-m c = search needs
-
-same-length : tie.Need-same-length
-same-length c = search needs
-
 returns : tie.Need-returns
 returns c =
     let a = c .args in
@@ -38,4 +23,4 @@ returns c =
     (ap memOf e ∙ mem-mode (a .m .now) (omega arith) (a .i) (a .mode) (omega arith) (omega arith), simp length-set)
 
 pub set-mode-spec : {M : Type 1} → statement M
-set-mode-spec = tie.close (tie.spec mul-m add-m add-m-2 slice-write-m same-length returns)
+set-mode-spec = tie.close (tie.spec (λ c. search needs) (λ c. search needs) (λ c. search needs) (λ c. search needs) (λ c. search needs) returns)

@@ -7,15 +7,6 @@ use borrow.Author.Needs.{needs}
 use Rattle.memory.proofs.stage.Statement.{statement}
 use Rattle.memory.proofs.stage.Tie as tie
 
-add-put : tie.Need-add-put
-add-put c = search needs
-
-put-requires : tie.Need-put-requires
-put-requires c κs = search needs
-
-same-length : tie.Need-same-length
-same-length c = search needs
-
 returns : tie.Need-returns
 returns c =
     let a = c .before .before .before .before .before .before .args in
@@ -23,4 +14,4 @@ returns c =
     (ap memOf e ∙ mem-staged (a .m .now) (a .x .now) (omega arith) (a .at) (omega arith), omega arith)
 
 pub stage-spec : {M : Type 1} → statement M
-stage-spec = tie.close (tie.spec add-put put-requires same-length returns)
+stage-spec = tie.close (tie.spec (λ c. search needs) (λ c κs. search needs) (λ c. search needs) returns)

@@ -11,21 +11,6 @@ use borrow.Author.Needs.{needs}
 use Rattle.memory.proofs.staged.Statement.{statement}
 use Rattle.memory.proofs.staged.Tie as tie
 
-add-start : tie.Need-add-start
-add-start c = search needs
-
-add-end : tie.Need-add-end
-add-end c = search needs
-
-sub-result : tie.Need-sub-result
-sub-result c = search needs
-
-part-result-start : tie.Need-part-result-start
-part-result-start c = search needs
-
-part-result-end : tie.Need-part-result-end
-part-result-end c = search needs
-
 returns : tie.Need-returns
 unfolding part
 returns c =
@@ -34,4 +19,4 @@ returns c =
 
 pub staged-spec : {M : Type 1} → statement M
 staged-spec =
-    tie.close (tie.spec add-start add-end sub-result part-result-start part-result-end returns)
+    tie.close (tie.spec (λ c. search needs) (λ c. search needs) (λ c. search needs) (λ c. search needs) (λ c. search needs) returns)

@@ -5,21 +5,9 @@ use borrow.Author.Needs.{needs}
 use Rattle.numbers.proofs.bytes4.Statement.{statement}
 use Rattle.numbers.proofs.bytes4.Tie as tie
 
-cast-t6 : tie.Need-cast-t6
-cast-t6 c = search needs
-
-cast-t8 : tie.Need-cast-t8
-cast-t8 c = search needs
-
-cast-t10 : tie.Need-cast-t10
-cast-t10 c = search needs
-
-cast-t12 : tie.Need-cast-t12
-cast-t12 c = search needs
-
 returns : tie.Need-returns
 unfolding encode
 returns c = refl
 
 pub bytes4-spec : {M : Type 1} → statement M
-bytes4-spec = tie.close (tie.spec cast-t6 cast-t8 cast-t10 cast-t12 returns)
+bytes4-spec = tie.close (tie.spec (λ c. search needs) (λ c. search needs) (λ c. search needs) (λ c. search needs) returns)

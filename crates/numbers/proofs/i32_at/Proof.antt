@@ -6,14 +6,8 @@ use borrow.Author.Needs.{needs}
 use Rattle.numbers.proofs.i32_at.Statement.{statement}
 use Rattle.numbers.proofs.i32_at.Tie as tie
 
-u32-at-requires : tie.Need-u32-at-requires
-u32-at-requires c κs = search needs
-
-signed-of-requires : tie.Need-signed-of-requires
-signed-of-requires c κs = search needs
-
 returns : tie.Need-returns
 returns c = toZ-ofZ (search needs) ∙ c .signed-of .ensures ∙ ap (signed 4) (c .before .u32-at .ensures)
 
 pub i32-at-spec : {M : Type 1} → statement M
-i32-at-spec = tie.close (tie.spec u32-at-requires signed-of-requires returns)
+i32-at-spec = tie.close (tie.spec (λ c κs. search needs) (λ c κs. search needs) returns)

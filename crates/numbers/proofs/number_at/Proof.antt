@@ -22,9 +22,6 @@ loop-holds c =
     let e : a .w - a .w ≡ 0 = omega arith in
     (omega arith, rw e (sym (decode-none (a .at + a .w) (a .b .now))), rw (e, pow-zero) (omega arith))
 
-sub-i : tie.Need-sub-i Inv-loop μ-loop
-sub-i c = search needs
-
 mul-x : tie.Need-mul-x Inv-loop μ-loop
 mul-x c =
     let a = c .before .before .before .args in
@@ -32,24 +29,12 @@ mul-x c =
     let r : 256 ^ (a .w - l .i) ≤ 72057594037927936 = pow-le-pow-right {n = 256} (omega arith) {i = a .w - l .i} {j = 7} (omega arith) in
     omega (arith, l .inv .2)
 
-add-wide : tie.Need-add-wide Inv-loop μ-loop
-add-wide c = search needs
-
-shared-slice-read-wide : tie.Need-shared-slice-read-wide Inv-loop μ-loop
-shared-slice-read-wide c = search needs
-
-wide-requires : tie.Need-wide-requires Inv-loop μ-loop
-wide-requires c κs = search needs
-
 add-x : tie.Need-add-x Inv-loop μ-loop
 add-x c =
     let a = c .before .before .before .before .before .args in
     let l = c .before .before .before .loop in
     let r : 256 ^ (a .w - l .i) ≤ 72057594037927936 = pow-le-pow-right {n = 256} (omega arith) {i = a .w - l .i} {j = 7} (omega arith) in
     omega (arith, l .inv .2)
-
-loop-less : tie.Need-loop-less Inv-loop μ-loop
-loop-less c = search needs
 
 loop-again : tie.Need-loop-again Inv-loop μ-loop
 loop-again c =
@@ -71,17 +56,5 @@ returns c =
 
 pub number-at-spec : {M : Type 1} → statement M
 number-at-spec =
-    tie.close
-    (tie.spec
-    Inv-loop
-    μ-loop
-    loop-holds
-    sub-i
-    mul-x
-    add-wide
-    shared-slice-read-wide
-    wide-requires
-    add-x
-    loop-less
-    loop-again
-    returns)
+    tie.close (tie.spec Inv-loop μ-loop loop-holds (λ c. search needs) mul-x (λ c. search needs) (λ c. search needs) (λ c κs. search needs) add-x (λ c. search needs)
+    loop-again returns)

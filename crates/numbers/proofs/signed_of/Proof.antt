@@ -8,15 +8,6 @@ use borrow.Author.Needs.{needs}
 use Rattle.numbers.proofs.signed_of.Statement.{statement}
 use Rattle.numbers.proofs.signed_of.Tie as tie
 
-cast-result : tie.Need-cast-result
-cast-result c = search needs
-
-sub-result : tie.Need-sub-result
-sub-result c = search needs
-
-cast-result-2 : tie.Need-cast-result-2
-cast-result-2 c = search needs
-
 returns : tie.Need-returns
 returns c = rw (lt-ltb _ _ (c .if1 .taken)) (sym (signed-low 4 (c .before .args .x) (omega arith)))
 
@@ -27,4 +18,4 @@ returns-2 c =
     rw (e, le-ltb _ _ (c .if1 .left)) (sym (signed-high 4 x (omega arith)))
 
 pub signed-of-spec : {M : Type 1} → statement M
-signed-of-spec = tie.close (tie.spec cast-result sub-result cast-result-2 returns returns-2)
+signed-of-spec = tie.close (tie.spec (λ c. search needs) (λ c. search needs) (λ c. search needs) returns returns-2)

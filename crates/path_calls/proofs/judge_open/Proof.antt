@@ -9,20 +9,11 @@ use borrow.Author.Needs.{needs}
 use Rattle.path_calls.proofs.judge_open.Statement.{statement}
 use Rattle.path_calls.proofs.judge_open.Tie as tie
 
-judge-reach-requires : tie.Need-judge-reach-requires
-judge-reach-requires c κs = search needs
-
-enum-known-w : tie.Need-enum-known-w
-enum-known-w c = search needs
-
 open-own-requires : tie.Need-open-own-requires
 open-own-requires c κs =
     let a = c .before .before .before .before .before .before .args in
     let h = reached-front (a .m .now) (a .n) (a .o) (a .path .now) (omega arith) (omega arith) _ _ (c .before .before .before .judge-reach .ensures (a .o)) (c .before .w .given .1) .1 in
     search needs
-
-enum-known-w-2 : tie.Need-enum-known-w-2
-enum-known-w-2 c = search needs
 
 returns : tie.Need-returns
 unfolding tablesIn
@@ -38,5 +29,4 @@ returns-2 c =
 
 pub judge-open-spec : {M : Type 1} → statement M
 judge-open-spec =
-    tie.close
-    (tie.spec judge-reach-requires enum-known-w open-own-requires enum-known-w-2 returns returns-2)
+    tie.close (tie.spec (λ c κs. search needs) (λ c. search needs) open-own-requires (λ c. search needs) returns returns-2)

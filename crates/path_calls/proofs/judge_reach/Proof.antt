@@ -7,21 +7,6 @@ use borrow.Author.Needs.{needs}
 use Rattle.path_calls.proofs.judge_reach.Statement.{statement}
 use Rattle.path_calls.proofs.judge_reach.Tie as tie
 
-form-requires : tie.Need-form-requires
-form-requires c κs = search needs
-
-enum-told : tie.Need-enum-told
-enum-told c = search needs
-
-enum-told-2 : tie.Need-enum-told-2
-enum-told-2 c = search needs
-
-enum-told-3 : tie.Need-enum-told-3
-enum-told-3 c = search needs
-
-walk-requires : tie.Need-walk-requires
-walk-requires c κs = search needs
-
 returns : tie.Need-returns
 returns c o =
     let a = c .before .before .before .before .before .args in
@@ -40,4 +25,4 @@ returns-3 c o =
 
 pub judge-reach-spec : {M : Type 1} → statement M
 judge-reach-spec =
-    tie.close (tie.spec form-requires enum-told enum-told-2 enum-told-3 walk-requires returns returns-2 returns-3)
+    tie.close (tie.spec (λ c κs. search needs) (λ c. search needs) (λ c. search needs) (λ c. search needs) (λ c κs. search needs) returns returns-2 returns-3)

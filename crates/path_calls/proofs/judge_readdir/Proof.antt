@@ -9,20 +9,11 @@ use borrow.Author.Needs.{needs}
 use Rattle.path_calls.proofs.judge_readdir.Statement.{statement}
 use Rattle.path_calls.proofs.judge_readdir.Tie as tie
 
-judge-reach-requires : tie.Need-judge-reach-requires
-judge-reach-requires c κs = search needs
-
-enum-known-w : tie.Need-enum-known-w
-enum-known-w c = search needs
-
 readdir-own-requires : tie.Need-readdir-own-requires
 readdir-own-requires c κs =
     let a = c .before .before .before .before .before .before .args in
     let h = reached-front (a .m .now) (a .n) 0 (a .path .now) (omega arith) (omega arith) _ _ (c .before .before .before .judge-reach .ensures 0) (c .before .w .given .1) .1 in
     search needs
-
-enum-known-w-2 : tie.Need-enum-known-w-2
-enum-known-w-2 c = search needs
 
 returns : tie.Need-returns
 unfolding tablesIn
@@ -38,11 +29,4 @@ returns-2 c o =
 
 pub judge-readdir-spec : {M : Type 1} → statement M
 judge-readdir-spec =
-    tie.close
-    (tie.spec
-    judge-reach-requires
-    enum-known-w
-    readdir-own-requires
-    enum-known-w-2
-    returns
-    returns-2)
+    tie.close (tie.spec (λ c κs. search needs) (λ c. search needs) readdir-own-requires (λ c. search needs) returns returns-2)

@@ -10,12 +10,6 @@ use borrow.Author.Needs.{needs}
 use Rattle.path_calls.proofs.judge_rmdir.Statement.{statement}
 use Rattle.path_calls.proofs.judge_rmdir.Tie as tie
 
-judge-way-requires : tie.Need-judge-way-requires
-judge-way-requires c κs = search needs
-
-enum-known-w : tie.Need-enum-known-w
-enum-known-w c = search needs
-
 rmdir-own-requires : tie.Need-rmdir-own-requires
 rmdir-own-requires c κs =
     let a = c .before .before .before .before .before .before .args in
@@ -23,9 +17,6 @@ rmdir-own-requires c κs =
     let k = h .2 in
     let d = h .3 in
     search needs
-
-enum-known-w-2 : tie.Need-enum-known-w-2
-enum-known-w-2 c = search needs
 
 returns : tie.Need-returns
 unfolding tablesIn
@@ -42,5 +33,4 @@ returns-2 c o =
 
 pub judge-rmdir-spec : {M : Type 1} → statement M
 judge-rmdir-spec =
-    tie.close
-    (tie.spec judge-way-requires enum-known-w rmdir-own-requires enum-known-w-2 returns returns-2)
+    tie.close (tie.spec (λ c κs. search needs) (λ c. search needs) rmdir-own-requires (λ c. search needs) returns returns-2)

@@ -10,19 +10,13 @@ use Rattle.filesystem.specs.Tables.{NODES}
 use Rattle.filesystem.specs.Paths.{childAt}
 use Rattle.memory.specs.Layout.{memOf}
 use Rattle.paths.specs.WalkLaws.{child-front}
-use Rattle.paths.specs.declared.Placed.the-variants.{Refused as barred}
+use Rattle.paths.specs.declared.Placed.the-variants.{Refused as refusedPlace}
 use Rattle.path_calls.specs.Rows.{bit, no-bit}
 use Rattle.path_calls.specs.Own.{nameOwn}
 use Rattle.tables.specs.RowsInUse.{count-nodes}
 use borrow.Author.Needs.{needs}
 use Rattle.path_calls.proofs.name_own.Statement.{statement}
 use Rattle.path_calls.proofs.name_own.Tie as tie
-
-node-id-requires : tie.Need-node-id-requires
-node-id-requires c κs = search needs
-
-find-child-requires : tie.Need-find-child-requires
-find-child-requires c κs = search needs
 
 returns : tie.Need-returns
 unfolding nameOwn
@@ -31,10 +25,7 @@ returns c =
     let ns = memOf (a .m .now) .nodes in
     let n : length (take (a .n) ns) ≡ a .n = count-nodes (a .m .now) (a .n) (omega arith) in
     let k = child-front (a .n) ns (a .d) _ _ _ (omega arith) (c .before .before .node-id .ensures) (c .before .find-child .ensures) in
-    sym (check-stops barred 17 _ _ _ (ap not (lt-leb (length (take (a .n) ns)) (childAt (take (a .n) ns) (a .d) (a .name .now)) (omega (arith, k)))))
-
-node-mode-requires : tie.Need-node-mode-requires
-node-mode-requires c κs = search needs
+    sym (check-stops refusedPlace 17 _ _ _ (ap not (lt-leb (length (take (a .n) ns)) (childAt (take (a .n) ns) (a .d) (a .name .now)) (omega (arith, k)))))
 
 returns-2 : tie.Need-returns-2
 unfolding nameOwn
@@ -44,7 +35,7 @@ returns-2 c =
     let n : length (take (a .n) ns) ≡ a .n = count-nodes (a .m .now) (a .n) (omega arith) in
     let k = child-front (a .n) ns (a .d) _ _ _ (omega arith) (c .before .before .before .before .node-id .ensures) (c .before .before .before .find-child .ensures) in
     let f = le-leb (length (take (a .n) ns)) (childAt (take (a .n) ns) (a .d) (a .name .now)) (omega (arith, k)) in
-    sym (check-passes barred 17 _ _ _ (ap not f) ∙ check-stops barred 13 _ _ _ (ap not (no-bit (a .n) ns (a .d) (omega arith) _ 2 (c .before .node-mode .ensures) (c .if2 .taken))))
+    sym (check-passes refusedPlace 17 _ _ _ (ap not f) ∙ check-stops refusedPlace 13 _ _ _ (ap not (no-bit (a .n) ns (a .d) (omega arith) _ 2 (c .before .node-mode .ensures) (c .if2 .taken))))
 
 returns-3 : tie.Need-returns-3
 unfolding nameOwn
@@ -55,7 +46,7 @@ returns-3 c =
     let k = child-front (a .n) ns (a .d) _ _ _ (omega arith) (c .before .before .before .before .before .node-id .ensures) (c .before .before .before .before .find-child .ensures) in
     let f = le-leb (length (take (a .n) ns)) (childAt (take (a .n) ns) (a .d) (a .name .now)) (omega (arith, k)) in
     let g = bit (a .n) ns (a .d) (omega arith) _ 2 (c .before .before .node-mode .ensures) (c .before .if2 .left) in
-    sym (check-passes barred 17 _ _ _ (ap not f) ∙ check-passes barred 13 _ _ _ (ap not g) ∙ check-stops barred 28 _ _ _ (le-leb NODES (length (take (a .n) ns)) (omega arith)))
+    sym (check-passes refusedPlace 17 _ _ _ (ap not f) ∙ check-passes refusedPlace 13 _ _ _ (ap not g) ∙ check-stops refusedPlace 28 _ _ _ (le-leb NODES (length (take (a .n) ns)) (omega arith)))
 
 returns-4 : tie.Need-returns-4
 unfolding nameOwn
@@ -67,16 +58,8 @@ returns-4 c =
     let f = le-leb (length (take (a .n) ns)) (childAt (take (a .n) ns) (a .d) (a .name .now)) (omega (arith, k)) in
     let g = bit (a .n) ns (a .d) (omega arith) _ 2 (c .before .before .node-mode .ensures) (c .before .if2 .left) in
     let h = lt-leb NODES (length (take (a .n) ns)) (omega arith) in
-    sym (decide-passed barred _ _ (both (ap not f) (both (ap not g) (both h none))))
+    sym (decide-passed refusedPlace _ _ (both (ap not f) (both (ap not g) (both h none))))
 
 pub name-own-spec : {M : Type 1} → statement M
 name-own-spec =
-    tie.close
-    (tie.spec
-    node-id-requires
-    find-child-requires
-    returns
-    node-mode-requires
-    returns-2
-    returns-3
-    returns-4)
+    tie.close (tie.spec (λ c κs. search needs) (λ c κs. search needs) returns (λ c κs. search needs) returns-2 returns-3 returns-4)

@@ -12,15 +12,6 @@ use borrow.Author.Needs.{needs}
 use Rattle.path_calls.proofs.new_own.Statement.{statement}
 use Rattle.path_calls.proofs.new_own.Tie as tie
 
-walk-parent-requires : tie.Need-walk-parent-requires
-walk-parent-requires c κs = search needs
-
-enum-told : tie.Need-enum-told
-enum-told c = search needs
-
-enum-known-w : tie.Need-enum-known-w
-enum-known-w c = search needs
-
 sub-name-own : tie.Need-sub-name-own
 sub-name-own c =
     let a = c .before .before .before .before .before .before .args in
@@ -33,17 +24,11 @@ part-name-own-start c =
     let h = holds-front (a .m .now) (a .n) (a .path .now) (omega arith) (omega arith) _ _ _ (c .before .before .before .walk-parent .ensures) (c .before .w .given .1) .0 .start-within in
     search needs
 
-part-name-own-end : tie.Need-part-name-own-end
-part-name-own-end c = search needs
-
 name-own-requires : tie.Need-name-own-requires
 name-own-requires c κs =
     let a = c .before .before .before .before .before .before .before .args in
     let h = holds-front (a .m .now) (a .n) (a .path .now) (omega arith) (omega arith) _ _ _ (c .before .before .before .before .walk-parent .ensures) (c .before .before .w .given .1) .1 in
     search needs
-
-enum-known-w-2 : tie.Need-enum-known-w-2
-enum-known-w-2 c = search needs
 
 returns : tie.Need-returns
 returns c =
@@ -66,16 +51,5 @@ returns-3 c =
 
 pub new-own-spec : {M : Type 1} → statement M
 new-own-spec =
-    tie.close
-    (tie.spec
-    walk-parent-requires
-    enum-told
-    enum-known-w
-    sub-name-own
-    part-name-own-start
-    part-name-own-end
-    name-own-requires
-    enum-known-w-2
-    returns
-    returns-2
-    returns-3)
+    tie.close (tie.spec (λ c κs. search needs) (λ c. search needs) (λ c. search needs) sub-name-own part-name-own-start (λ c. search needs) name-own-requires
+    (λ c. search needs) returns returns-2 returns-3)

@@ -8,7 +8,7 @@ use Rattle.lists.specs.All.{both, none}
 use Rattle.lists.specs.Checks.{decide-passed, check-passes, check-stops}
 use Rattle.filesystem.specs.Tables.{OPEN-FILES}
 use Rattle.memory.specs.Layout.{memOf}
-use Rattle.paths.specs.declared.Walked.the-variants.{Refused as stopped}
+use Rattle.paths.specs.declared.Walked.the-variants.{Refused as refusedNode}
 use Rattle.tables.specs.View.{tablesIn}
 use Rattle.path_calls.specs.Rows.{covers-front, folder, no-folder, is-open, not-open}
 use Rattle.path_calls.specs.Own.{openOwn}
@@ -17,20 +17,11 @@ use borrow.Author.Needs.{needs}
 use Rattle.path_calls.proofs.open_own.Statement.{statement}
 use Rattle.path_calls.proofs.open_own.Tie as tie
 
-node-kind-requires : tie.Need-node-kind-requires
-node-kind-requires c κs = search needs
-
 returns : tie.Need-returns
 unfolding openOwn tablesIn
 returns c =
     let a = c .before .before .before .args in
-    sym (check-stops stopped 21 _ _ _ (folder (a .n) (memOf (a .m .now) .nodes) (a .k) (omega arith) _ (c .before .node-kind .ensures) (c .if1 .taken)))
-
-node-mode-requires : tie.Need-node-mode-requires
-node-mode-requires c κs = search needs
-
-covers-requires : tie.Need-covers-requires
-covers-requires c κs = search needs
+    sym (check-stops refusedNode 21 _ _ _ (folder (a .n) (memOf (a .m .now) .nodes) (a .k) (omega arith) _ (c .before .node-kind .ensures) (c .if1 .taken)))
 
 returns-2 : tie.Need-returns-2
 unfolding openOwn tablesIn
@@ -39,13 +30,7 @@ returns-2 c =
     let ns = memOf (a .m .now) .nodes in
     let f = no-folder (a .n) ns (a .k) (omega arith) _ (c .before .before .before .before .node-kind .ensures) (c .before .before .before .if1 .left) in
     let g = ap not (sym (covers-front (a .n) ns (a .k) (omega arith) _ _ (a .rights) (c .before .before .node-mode .ensures) (c .before .covers .ensures))) ∙ c .if2 .taken in
-    sym (check-passes stopped 21 _ _ _ f ∙ check-stops stopped 13 _ _ _ g)
-
-node-id-requires : tie.Need-node-id-requires
-node-id-requires c κs = search needs
-
-find-handle-requires : tie.Need-find-handle-requires
-find-handle-requires c κs = search needs
+    sym (check-passes refusedNode 21 _ _ _ f ∙ check-stops refusedNode 13 _ _ _ g)
 
 returns-3 : tie.Need-returns-3
 unfolding openOwn tablesIn
@@ -55,7 +40,7 @@ returns-3 c =
     let f = no-folder (a .n) ns (a .k) (omega arith) _ (c .before .before .before .before .before .before .before .node-kind .ensures) (c .before .before .before .before .before .before .if1 .left) in
     let g = ap not (sym (covers-front (a .n) ns (a .k) (omega arith) _ _ (a .rights) (c .before .before .before .before .before .node-mode .ensures) (c .before .before .before .before .covers .ensures))) ∙ c .before .before .before .if2 .left in
     let h = is-open (a .m .now) (a .n) (a .o) (a .k) (omega arith) (omega arith) _ _ (c .before .before .node-id .ensures) (c .before .find-handle .ensures) (omega arith) in
-    sym (check-passes stopped 21 _ _ _ f ∙ check-passes stopped 13 _ _ _ g ∙ check-stops stopped 16 _ _ _ h)
+    sym (check-passes refusedNode 21 _ _ _ f ∙ check-passes refusedNode 13 _ _ _ g ∙ check-stops refusedNode 16 _ _ _ h)
 
 returns-4 : tie.Need-returns-4
 unfolding openOwn tablesIn
@@ -67,7 +52,7 @@ returns-4 c =
     let g = ap not (sym (covers-front (a .n) ns (a .k) (omega arith) _ _ (a .rights) (c .before .before .before .before .before .before .node-mode .ensures) (c .before .before .before .before .before .covers .ensures))) ∙ c .before .before .before .before .if2 .left in
     let h = not-open (a .m .now) (a .n) (a .o) (a .k) (omega arith) (omega arith) _ _ (c .before .before .before .node-id .ensures) (c .before .before .find-handle .ensures) (omega arith) in
     let l : length os ≡ a .o = count-opens (a .m .now) (a .o) (omega arith) in
-    sym (check-passes stopped 21 _ _ _ f ∙ check-passes stopped 13 _ _ _ g ∙ check-passes stopped 16 _ _ _ h ∙ check-stops stopped 24 _ _ _ (le-leb OPEN-FILES (length os) (omega arith)))
+    sym (check-passes refusedNode 21 _ _ _ f ∙ check-passes refusedNode 13 _ _ _ g ∙ check-passes refusedNode 16 _ _ _ h ∙ check-stops refusedNode 24 _ _ _ (le-leb OPEN-FILES (length os) (omega arith)))
 
 returns-5 : tie.Need-returns-5
 unfolding openOwn tablesIn
@@ -79,19 +64,9 @@ returns-5 c =
     let g = ap not (sym (covers-front (a .n) ns (a .k) (omega arith) _ _ (a .rights) (c .before .before .before .before .before .before .node-mode .ensures) (c .before .before .before .before .before .covers .ensures))) ∙ c .before .before .before .before .if2 .left in
     let h = not-open (a .m .now) (a .n) (a .o) (a .k) (omega arith) (omega arith) _ _ (c .before .before .before .node-id .ensures) (c .before .before .find-handle .ensures) (omega arith) in
     let l : length os ≡ a .o = count-opens (a .m .now) (a .o) (omega arith) in
-    sym (decide-passed stopped _ _ (both f (both g (both h (both (lt-leb OPEN-FILES (length os) (omega arith)) none)))))
+    sym (decide-passed refusedNode _ _ (both f (both g (both h (both (lt-leb OPEN-FILES (length os) (omega arith)) none)))))
 
 pub open-own-spec : {M : Type 1} → statement M
 open-own-spec =
-    tie.close
-    (tie.spec
-    node-kind-requires
-    returns
-    node-mode-requires
-    covers-requires
-    returns-2
-    node-id-requires
-    find-handle-requires
-    returns-3
-    returns-4
-    returns-5)
+    tie.close (tie.spec (λ c κs. search needs) returns (λ c κs. search needs) (λ c κs. search needs) returns-2 (λ c κs. search needs) (λ c κs. search needs)
+    returns-3 returns-4 returns-5)

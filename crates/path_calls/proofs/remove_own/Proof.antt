@@ -5,7 +5,7 @@ use mathlib.Core.Bool.{not}
 use Rattle.lists.specs.All.{both, none}
 use Rattle.lists.specs.Checks.{decide-passed, check-passes, check-stops}
 use Rattle.memory.specs.Layout.{memOf}
-use Rattle.paths.specs.declared.Walked.the-variants.{Refused as stopped}
+use Rattle.paths.specs.declared.Walked.the-variants.{Refused as refusedNode}
 use Rattle.tables.specs.View.{tablesIn}
 use Rattle.path_calls.specs.Rows.{folder, no-folder, bit, no-bit, is-open, not-open}
 use Rattle.path_calls.specs.Own.{removeOwn}
@@ -13,17 +13,11 @@ use borrow.Author.Needs.{needs}
 use Rattle.path_calls.proofs.remove_own.Statement.{statement}
 use Rattle.path_calls.proofs.remove_own.Tie as tie
 
-node-kind-requires : tie.Need-node-kind-requires
-node-kind-requires c κs = search needs
-
 returns : tie.Need-returns
 unfolding removeOwn tablesIn
 returns c =
     let a = c .before .before .before .args in
-    sym (check-stops stopped 21 _ _ _ (folder (a .n) (memOf (a .m .now) .nodes) (a .k) (omega arith) _ (c .before .node-kind .ensures) (c .if1 .taken)))
-
-node-mode-requires : tie.Need-node-mode-requires
-node-mode-requires c κs = search needs
+    sym (check-stops refusedNode 21 _ _ _ (folder (a .n) (memOf (a .m .now) .nodes) (a .k) (omega arith) _ (c .before .node-kind .ensures) (c .if1 .taken)))
 
 returns-2 : tie.Need-returns-2
 unfolding removeOwn tablesIn
@@ -31,13 +25,7 @@ returns-2 c =
     let a = c .before .before .before .before .before .args in
     let ns = memOf (a .m .now) .nodes in
     let f = no-folder (a .n) ns (a .k) (omega arith) _ (c .before .before .before .node-kind .ensures) (c .before .before .if1 .left) in
-    sym (check-passes stopped 21 _ _ _ f ∙ check-stops stopped 13 _ _ _ (ap not (no-bit (a .n) ns (a .d) (omega arith) _ 2 (c .before .node-mode .ensures) (c .if2 .taken))))
-
-node-id-requires : tie.Need-node-id-requires
-node-id-requires c κs = search needs
-
-find-handle-requires : tie.Need-find-handle-requires
-find-handle-requires c κs = search needs
+    sym (check-passes refusedNode 21 _ _ _ f ∙ check-stops refusedNode 13 _ _ _ (ap not (no-bit (a .n) ns (a .d) (omega arith) _ 2 (c .before .node-mode .ensures) (c .if2 .taken))))
 
 returns-3 : tie.Need-returns-3
 unfolding removeOwn tablesIn
@@ -47,7 +35,7 @@ returns-3 c =
     let f = no-folder (a .n) ns (a .k) (omega arith) _ (c .before .before .before .before .before .before .node-kind .ensures) (c .before .before .before .before .before .if1 .left) in
     let g = bit (a .n) ns (a .d) (omega arith) _ 2 (c .before .before .before .before .node-mode .ensures) (c .before .before .before .if2 .left) in
     let h = is-open (a .m .now) (a .n) (a .o) (a .k) (omega arith) (omega arith) _ _ (c .before .before .node-id .ensures) (c .before .find-handle .ensures) (omega arith) in
-    sym (check-passes stopped 21 _ _ _ f ∙ check-passes stopped 13 _ _ _ (ap not g) ∙ check-stops stopped 16 _ _ _ h)
+    sym (check-passes refusedNode 21 _ _ _ f ∙ check-passes refusedNode 13 _ _ _ (ap not g) ∙ check-stops refusedNode 16 _ _ _ h)
 
 returns-4 : tie.Need-returns-4
 unfolding removeOwn tablesIn
@@ -57,17 +45,8 @@ returns-4 c =
     let f = no-folder (a .n) ns (a .k) (omega arith) _ (c .before .before .before .before .before .before .node-kind .ensures) (c .before .before .before .before .before .if1 .left) in
     let g = bit (a .n) ns (a .d) (omega arith) _ 2 (c .before .before .before .before .node-mode .ensures) (c .before .before .before .if2 .left) in
     let h = not-open (a .m .now) (a .n) (a .o) (a .k) (omega arith) (omega arith) _ _ (c .before .before .node-id .ensures) (c .before .find-handle .ensures) (omega arith) in
-    sym (decide-passed stopped _ _ (both f (both (ap not g) (both h none))))
+    sym (decide-passed refusedNode _ _ (both f (both (ap not g) (both h none))))
 
 pub remove-own-spec : {M : Type 1} → statement M
 remove-own-spec =
-    tie.close
-    (tie.spec
-    node-kind-requires
-    returns
-    node-mode-requires
-    returns-2
-    node-id-requires
-    find-handle-requires
-    returns-3
-    returns-4)
+    tie.close (tie.spec (λ c κs. search needs) returns (λ c κs. search needs) returns-2 (λ c κs. search needs) (λ c κs. search needs) returns-3 returns-4)

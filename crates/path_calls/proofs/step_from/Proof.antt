@@ -5,15 +5,6 @@ use borrow.Author.Needs.{needs}
 use Rattle.path_calls.proofs.step_from.Statement.{statement}
 use Rattle.path_calls.proofs.step_from.Tie as tie
 
-last-step-requires : tie.Need-last-step-requires
-last-step-requires c κs = search needs
-
-enum-known-w : tie.Need-enum-known-w
-enum-known-w c = search needs
-
-enum-known-w-2 : tie.Need-enum-known-w-2
-enum-known-w-2 c = search needs
-
 returns : tie.Need-returns
 unfolding wayOf
 returns c =
@@ -26,4 +17,4 @@ returns-2 c =
 
 pub step-from-spec : {M : Type 1} → statement M
 step-from-spec =
-    tie.close (tie.spec last-step-requires enum-known-w enum-known-w-2 returns returns-2)
+    tie.close (tie.spec (λ c κs. search needs) (λ c. search needs) (λ c. search needs) returns returns-2)

@@ -7,20 +7,11 @@ use lib.ListN.{length, take, drop, length-drop}
 use lib.Seq.{take-all}
 use Rattle.paths.specs.Walks.{childStep}
 use Rattle.memory.specs.Layout.{memOf}
-use Rattle.path_calls.specs.Reached.{wayOf, both-root, both-in, both-barred}
+use Rattle.path_calls.specs.Reached.{wayOf, both-root, both-in, both-refused}
 use Rattle.path_calls.specs.Rows.{holds-front}
 use borrow.Author.Needs.{needs}
 use Rattle.path_calls.proofs.walk_both.Statement.{statement}
 use Rattle.path_calls.proofs.walk_both.Tie as tie
-
-walk-parent-requires : tie.Need-walk-parent-requires
-walk-parent-requires c κs = search needs
-
-enum-told : tie.Need-enum-told
-enum-told c = search needs
-
-enum-known-w : tie.Need-enum-known-w
-enum-known-w c = search needs
 
 sub-step-from : tie.Need-sub-step-from
 sub-step-from c =
@@ -34,17 +25,11 @@ part-step-from-start c =
     let h = holds-front (a .m .now) (a .n) (a .path .now) (omega arith) (omega arith) _ _ _ (c .before .before .before .walk-parent .ensures) (c .before .w .given .1) .0 .start-within in
     search needs
 
-part-step-from-end : tie.Need-part-step-from-end
-part-step-from-end c = search needs
-
 step-from-requires : tie.Need-step-from-requires
 step-from-requires c κs =
     let a = c .before .before .before .before .before .before .before .args in
     let h = holds-front (a .m .now) (a .n) (a .path .now) (omega arith) (omega arith) _ _ _ (c .before .before .before .before .walk-parent .ensures) (c .before .before .w .given .1) .1 in
     search needs
-
-enum-known-w-2 : tie.Need-enum-known-w-2
-enum-known-w-2 c = search needs
 
 returns : tie.Need-returns
 returns c =
@@ -63,20 +48,9 @@ returns-2 c =
 returns-3 : tie.Need-returns-3
 returns-3 c =
     let a = c .before .before .before .before .before .before .args in
-    sym (both-barred (take (a .n) (memOf (a .m .now) .nodes)) (a .path .now) _ (sym (c .before .before .before .walk-parent .ensures) ∙ c .before .w2 .given .1))
+    sym (both-refused (take (a .n) (memOf (a .m .now) .nodes)) (a .path .now) _ (sym (c .before .before .before .walk-parent .ensures) ∙ c .before .w2 .given .1))
 
 pub walk-both-spec : {M : Type 1} → statement M
 walk-both-spec =
-    tie.close
-    (tie.spec
-    walk-parent-requires
-    enum-told
-    enum-known-w
-    sub-step-from
-    part-step-from-start
-    part-step-from-end
-    step-from-requires
-    enum-known-w-2
-    returns
-    returns-2
-    returns-3)
+    tie.close (tie.spec (λ c κs. search needs) (λ c. search needs) (λ c. search needs) sub-step-from part-step-from-start (λ c. search needs) step-from-requires
+    (λ c. search needs) returns returns-2 returns-3)

@@ -9,9 +9,6 @@ use borrow.Author.Needs.{needs}
 use Rattle.paths.proofs.covers.Statement.{statement}
 use Rattle.paths.proofs.covers.Tie as tie
 
-cover-entry-requires : tie.Need-cover-entry-requires
-cover-entry-requires c κs = search needs
-
 -- past the table
 returns : tie.Need-returns
 unfolding covers coverTable
@@ -20,13 +17,10 @@ returns c =
     let h : length coverTable ≤ 8 * (a .rights - 1) + a .mode = omega arith in
     sym (ap (λ (x : ℕ). eqb x 1) (List·getD-eq-default coverTable 0 h))
 
-array-read-result : tie.Need-array-read-result
-array-read-result c = search needs
-
 -- the whole table, computed
 returns-2 : tie.Need-returns-2
 unfolding covers coverTable
 returns-2 c = ap (λ (k : ℕ). eqb (getD coverTable k 0) 1) (c .before .cover-entry .ensures)
 
 pub covers-spec : {M : Type 1} → statement M
-covers-spec = tie.close (tie.spec cover-entry-requires returns array-read-result returns-2)
+covers-spec = tie.close (tie.spec (λ c κs. search needs) returns (λ c. search needs) returns-2)

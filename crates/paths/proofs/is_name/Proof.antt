@@ -8,17 +8,11 @@ use Rattle.paths.proofs.is_name.Tie as tie
 returns : tie.Need-returns
 returns c = name-empty (c .before .args .part .now) (c .if1 .taken)
 
-shared-slice-read-if2 : tie.Need-shared-slice-read-if2
-shared-slice-read-if2 c = search needs
-
 returns-2 : tie.Need-returns-2
 returns-2 c = name-first (c .before .before .before .args .part .now) (omega arith) (c .if2 .taken)
 
 returns-3 : tie.Need-returns-3
 returns-3 c = name-dot (c .before .before .before .before .args .part .now) (c .if3 .taken) (c .before .if2 .left)
-
-shared-slice-read-if4 : tie.Need-shared-slice-read-if4
-shared-slice-read-if4 c = search needs
 
 returns-4 : tie.Need-returns-4
 returns-4 c = name-second (c .before .before .before .before .before .before .args .part .now) (omega arith) (c .if4 .taken)
@@ -28,12 +22,4 @@ returns-5 c = name-dots (c .before .before .before .before .before .before .args
 
 pub is-name-spec : {M : Type 1} → statement M
 is-name-spec =
-    tie.close
-    (tie.spec
-    returns
-    shared-slice-read-if2
-    returns-2
-    returns-3
-    shared-slice-read-if4
-    returns-4
-    returns-5)
+    tie.close (tie.spec returns (λ c. search needs) returns-2 returns-3 (λ c. search needs) returns-4 returns-5)

@@ -9,12 +9,6 @@ use borrow.Author.Needs.{needs}
 use Rattle.paths.proofs.last_step.Statement.{statement}
 use Rattle.paths.proofs.last_step.Tie as tie
 
-node-id-requires : tie.Need-node-id-requires
-node-id-requires c κs = search needs
-
-find-child-requires : tie.Need-find-child-requires
-find-child-requires c κs = search needs
-
 returns : tie.Need-returns
 returns c =
     let a = c .before .before .before .before .before .args in
@@ -32,4 +26,4 @@ returns-2 c =
     sym (child-there ns (a .d) _ _ k (omega arith))
 
 pub last-step-spec : {M : Type 1} → statement M
-last-step-spec = tie.close (tie.spec node-id-requires find-child-requires returns returns-2)
+last-step-spec = tie.close (tie.spec (λ c κs. search needs) (λ c κs. search needs) returns returns-2)

@@ -5,7 +5,7 @@ use mathlib.Core.Path.{_≡_, refl}
 use lib.ListN.{length, drop}
 use Rattle.lists.specs.Search.{place}
 use Rattle.paths.specs.Parts.{isEnd, end-slash, end-zero, end-neither}
-use Rattle.paths.specs.Scans.{scan-here, scan-on, scan-end}
+use Rattle.lists.specs.Scans.{scan-here, scan-on, scan-end}
 use borrow.Author.Needs.{needs}
 use Rattle.paths.proofs.part_end.Statement.{statement}
 use Rattle.paths.proofs.part_end.Tie as tie
@@ -19,29 +19,17 @@ abbrev μ-loop : tie.MeasureT-loop
 loop-holds : tie.Need-loop-holds Inv-loop μ-loop
 loop-holds c = (omega arith, omega arith, refl)
 
-shared-slice-read-if1 : tie.Need-shared-slice-read-if1 Inv-loop μ-loop
-shared-slice-read-if1 c = search needs
-
 returns : tie.Need-returns Inv-loop μ-loop
 returns c =
     let s = c .before .before .before .before .args .path .now in
     let l = c .before .before .before .loop in
     (scan-here isEnd 0 _ s (l .i) (l .inv .2) (omega arith) (end-slash _ (c .if1 .taken)), omega arith, omega arith)
 
-shared-slice-read-if2 : tie.Need-shared-slice-read-if2 Inv-loop μ-loop
-shared-slice-read-if2 c = search needs
-
 returns-2 : tie.Need-returns-2 Inv-loop μ-loop
 returns-2 c =
     let s = c .before .before .before .before .before .before .args .path .now in
     let l = c .before .before .before .before .before .loop in
     (scan-here isEnd 0 _ s (l .i) (l .inv .2) (omega arith) (end-zero _ (c .if2 .taken)), omega arith, omega arith)
-
-add-i : tie.Need-add-i Inv-loop μ-loop
-add-i c = search needs
-
-loop-less : tie.Need-loop-less Inv-loop μ-loop
-loop-less c = search needs
 
 loop-again : tie.Need-loop-again Inv-loop μ-loop
 loop-again c =
@@ -57,16 +45,5 @@ returns-3 c =
 
 pub part-end-spec : {M : Type 1} → statement M
 part-end-spec =
-    tie.close
-    (tie.spec
-    Inv-loop
-    μ-loop
-    loop-holds
-    shared-slice-read-if1
-    returns
-    shared-slice-read-if2
-    returns-2
-    add-i
-    loop-less
-    loop-again
+    tie.close (tie.spec Inv-loop μ-loop loop-holds (λ c. search needs) returns (λ c. search needs) returns-2 (λ c. search needs) (λ c. search needs) loop-again
     returns-3)

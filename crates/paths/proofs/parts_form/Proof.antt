@@ -27,14 +27,8 @@ Inv-loop path long₀ at₀ end₀ long at end =
 abbrev μ-loop : tie.MeasureT-loop
 μ-loop path long₀ at₀ end₀ long at end = length path - end
 
-part-end-requires : tie.Need-part-end-requires Inv-loop μ-loop
-part-end-requires c κs = search needs
-
 loop-holds : tie.Need-loop-holds Inv-loop μ-loop
 loop-holds c = let e = c .part-end .ensures in (e .1, e .2, e .0, refl)
-
-shared-slice-read-if1 : tie.Need-shared-slice-read-if1 Inv-loop μ-loop
-shared-slice-read-if1 c = search needs
 
 returns : tie.Need-returns Inv-loop μ-loop
 returns c =
@@ -42,38 +36,11 @@ returns c =
     let l = c .before .before .before .loop in
     sym (l .inv .3 ∙ from-zero s (l .at) (l .end) (l .inv .2) (omega arith) (l .long) (omega arith) (c .if1 .taken))
 
-sub-is-name : tie.Need-sub-is-name Inv-loop μ-loop
-sub-is-name c = search needs
-
-part-is-name-start : tie.Need-part-is-name-start Inv-loop μ-loop
-part-is-name-start c = search needs
-
-part-is-name-end : tie.Need-part-is-name-end Inv-loop μ-loop
-part-is-name-end c = search needs
-
-is-name-requires : tie.Need-is-name-requires Inv-loop μ-loop
-is-name-requires c κs = search needs
-
 returns-2 : tie.Need-returns-2 Inv-loop μ-loop
 returns-2 c =
     let s = c .before .before .before .before .before .before .before .before .before .args .path .now in
     let l = c .before .before .before .before .before .before .loop in
     sym (l .inv .3 ∙ from-bad s (l .at) (l .end) (l .inv .2) (omega arith) (l .long) (omega arith) (c .before .before .before .if1 .left) (sym (c .before .is-name .ensures) ∙ not-true _ (c .if2 .taken)))
-
-sub-long-with : tie.Need-sub-long-with Inv-loop μ-loop
-sub-long-with c = search needs
-
-long-with-requires : tie.Need-long-with-requires Inv-loop μ-loop
-long-with-requires c κs = search needs
-
-add-at : tie.Need-add-at Inv-loop μ-loop
-add-at c = search needs
-
-part-end-requires-2 : tie.Need-part-end-requires-2 Inv-loop μ-loop
-part-end-requires-2 c κs = search needs
-
-loop-less : tie.Need-loop-less Inv-loop μ-loop
-loop-less c = search needs
 
 loop-again : tie.Need-loop-again Inv-loop μ-loop
 loop-again c =
@@ -83,29 +50,11 @@ loop-again c =
     let on = from-on s (l .at) (l .end) (l .inv .2) (omega arith) (l .long) (omega arith) (c .before .before .before .before .before .if1 .left) (sym (c .before .before .before .is-name .ensures) ∙ not-false _ (c .before .before .if2 .left)) in
     (e .1, e .2, e .0, l .inv .3 ∙ on ∙ ap (λ (b : Bool). partsForm b (split (drop (l .end + 1) s))) (sym (c .before .long-with .ensures)))
 
-sub-is-name-2 : tie.Need-sub-is-name-2 Inv-loop μ-loop
-sub-is-name-2 c = search needs
-
-part-is-name-start-2 : tie.Need-part-is-name-start-2 Inv-loop μ-loop
-part-is-name-start-2 c = search needs
-
-part-is-name-end-2 : tie.Need-part-is-name-end-2 Inv-loop μ-loop
-part-is-name-end-2 c = search needs
-
-is-name-requires-2 : tie.Need-is-name-requires-2 Inv-loop μ-loop
-is-name-requires-2 c κs = search needs
-
 returns-3 : tie.Need-returns-3 Inv-loop μ-loop
 returns-3 c =
     let s = c .before .before .before .before .before .before .before .args .path .now in
     let l = c .before .before .before .before .loop in
     sym (l .inv .3 ∙ last-bad s (l .at) (l .end) (l .inv .2) (omega arith) (l .long) (omega arith) (sym (c .before .is-name2 .ensures) ∙ not-true _ (c .if3 .taken)))
-
-sub-long-with-2 : tie.Need-sub-long-with-2 Inv-loop μ-loop
-sub-long-with-2 c = search needs
-
-long-with-requires-2 : tie.Need-long-with-requires-2 Inv-loop μ-loop
-long-with-requires-2 c κs = search needs
 
 returns-4 : tie.Need-returns-4 Inv-loop μ-loop
 unfolding lengthForm pick
@@ -125,31 +74,7 @@ returns-5 c =
 
 pub parts-form-spec : {M : Type 1} → statement M
 parts-form-spec =
-    tie.close
-    (tie.spec
-    Inv-loop
-    μ-loop
-    part-end-requires
-    loop-holds
-    shared-slice-read-if1
-    returns
-    sub-is-name
-    part-is-name-start
-    part-is-name-end
-    is-name-requires
-    returns-2
-    sub-long-with
-    long-with-requires
-    add-at
-    part-end-requires-2
-    loop-less
-    loop-again
-    sub-is-name-2
-    part-is-name-start-2
-    part-is-name-end-2
-    is-name-requires-2
-    returns-3
-    sub-long-with-2
-    long-with-requires-2
-    returns-4
-    returns-5)
+    tie.close (tie.spec Inv-loop μ-loop (λ c κs. search needs) loop-holds (λ c. search needs) returns (λ c. search needs) (λ c. search needs) (λ c. search needs)
+    (λ c κs. search needs) returns-2 (λ c. search needs) (λ c κs. search needs) (λ c. search needs) (λ c κs. search needs) (λ c. search needs)
+    loop-again (λ c. search needs) (λ c. search needs) (λ c. search needs) (λ c κs. search needs) returns-3 (λ c. search needs) (λ c κs. search needs)
+    returns-4 returns-5)

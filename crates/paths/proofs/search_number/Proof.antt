@@ -12,18 +12,12 @@ use borrow.Author.Needs.{needs}
 use Rattle.paths.proofs.search_number.Statement.{statement}
 use Rattle.paths.proofs.search_number.Tie as tie
 
-node-kind-requires : tie.Need-node-kind-requires
-node-kind-requires c κs = search needs
-
 returns : tie.Need-returns
 returns c =
     let a = c .before .before .before .args in
     let ns = memOf (a .m .now) .nodes in
     let e = ap isDirectory (node-front (a .n) ns (a .d) (omega arith)) in
     sym (search-no-folder (take (a .n) ns) (a .d) (e ∙ ne-eqb (nodeAt ns (a .d) .kind) 2 (λ q. c .if1 .taken (c .before .node-kind .ensures ∙ q))))
-
-node-mode-requires : tie.Need-node-mode-requires
-node-mode-requires c κs = search needs
 
 returns-2 : tie.Need-returns-2
 returns-2 c =
@@ -43,4 +37,4 @@ returns-3 c =
 
 pub search-number-spec : {M : Type 1} → statement M
 search-number-spec =
-    tie.close (tie.spec node-kind-requires returns node-mode-requires returns-2 returns-3)
+    tie.close (tie.spec (λ c κs. search needs) returns (λ c κs. search needs) returns-2 returns-3)

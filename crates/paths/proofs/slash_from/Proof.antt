@@ -6,7 +6,7 @@ use lib.ListN.{length, drop}
 use borrow.Author.Tests.{eq-eqb, ne-eqb}
 use Rattle.lists.specs.Search.{place}
 use Rattle.paths.specs.Parts.{isSlash}
-use Rattle.paths.specs.Scans.{scan-here, scan-on, scan-end}
+use Rattle.lists.specs.Scans.{scan-here, scan-on, scan-end}
 use borrow.Author.Needs.{needs}
 use Rattle.paths.proofs.slash_from.Statement.{statement}
 use Rattle.paths.proofs.slash_from.Tie as tie
@@ -20,20 +20,11 @@ abbrev μ-loop : tie.MeasureT-loop
 loop-holds : tie.Need-loop-holds Inv-loop μ-loop
 loop-holds c = (omega arith, omega arith, refl)
 
-shared-slice-read-if1 : tie.Need-shared-slice-read-if1 Inv-loop μ-loop
-shared-slice-read-if1 c = search needs
-
 returns : tie.Need-returns Inv-loop μ-loop
 returns c =
     let s = c .before .before .before .before .args .path .now in
     let l = c .before .before .before .loop in
     (scan-here isSlash 0 _ s (l .i) (l .inv .2) (omega arith) (eq-eqb _ _ (c .if1 .taken)), omega arith, omega arith)
-
-add-i : tie.Need-add-i Inv-loop μ-loop
-add-i c = search needs
-
-loop-less : tie.Need-loop-less Inv-loop μ-loop
-loop-less c = search needs
 
 loop-again : tie.Need-loop-again Inv-loop μ-loop
 loop-again c =
@@ -49,14 +40,4 @@ returns-2 c =
 
 pub slash-from-spec : {M : Type 1} → statement M
 slash-from-spec =
-    tie.close
-    (tie.spec
-    Inv-loop
-    μ-loop
-    loop-holds
-    shared-slice-read-if1
-    returns
-    add-i
-    loop-less
-    loop-again
-    returns-2)
+    tie.close (tie.spec Inv-loop μ-loop loop-holds (λ c. search needs) returns (λ c. search needs) (λ c. search needs) loop-again returns-2)

@@ -24,15 +24,6 @@ module _ (m s : List ℕ) (n : ℕ) (r : Placed) (e : r ≡ placed (take n (memO
   answer : (q : Placed) → r ≡ q → lastStep (take n (memOf m .nodes)) s q ≡ walked (take n (memOf m .nodes)) (componentsOf s)
   answer q p = ap (lastStep (take n (memOf m .nodes)) s) (sym p ∙ e) ∙ sym (walked-placed (take n (memOf m .nodes)) s)
 
-walk-parent-requires : tie.Need-walk-parent-requires
-walk-parent-requires c κs = search needs
-
-enum-told : tie.Need-enum-told
-enum-told c = search needs
-
-enum-known-way : tie.Need-enum-known-way
-enum-known-way c = search needs
-
 sub-last-step : tie.Need-sub-last-step
 sub-last-step c =
     let a = c .before .before .before .before .before .before .args in
@@ -44,18 +35,12 @@ part-last-step-start c =
     let h = holds (a .m .now) (a .path .now) (a .n) _ (c .before .before .before .walk-parent .ensures) _ _ (omega arith) (omega arith) (c .before .way .given .1) .start-within in
     search needs
 
-part-last-step-end : tie.Need-part-last-step-end
-part-last-step-end c = search needs
-
 last-step-requires : tie.Need-last-step-requires
 last-step-requires c κs =
     let a = c .before .before .before .before .before .before .before .args in
     let h = holds (a .m .now) (a .path .now) (a .n) _ (c .before .before .before .before .walk-parent .ensures) _ _ (omega arith) (omega arith) (c .before .before .way .given .1) .place-within in
     let k = count-nodes (a .m .now) (a .n) (omega arith) in
     (omega arith, omega arith, omega arith)
-
-enum-known-way-2 : tie.Need-enum-known-way-2
-enum-known-way-2 c = search needs
 
 returns : tie.Need-returns
 unfolding lastStep
@@ -78,16 +63,5 @@ returns-3 c = let a = c .before .before .before .before .before .before .args in
 
 pub walk-spec : {M : Type 1} → statement M
 walk-spec =
-    tie.close
-    (tie.spec
-    walk-parent-requires
-    enum-told
-    enum-known-way
-    sub-last-step
-    part-last-step-start
-    part-last-step-end
-    last-step-requires
-    enum-known-way-2
-    returns
-    returns-2
-    returns-3)
+    tie.close (tie.spec (λ c κs. search needs) (λ c. search needs) (λ c. search needs) sub-last-step part-last-step-start (λ c. search needs) last-step-requires
+    (λ c. search needs) returns returns-2 returns-3)

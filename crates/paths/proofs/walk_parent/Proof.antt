@@ -35,17 +35,11 @@ abbrev μ-loop : tie.MeasureT-loop
 returns : tie.Need-returns Inv-loop μ-loop
 returns c = let a = c .before .before .before .args in sym (placed-root (nodesIn (a .m .now) (a .n)) (a .path .now) (c .if1 .taken))
 
-slash-from-requires : tie.Need-slash-from-requires Inv-loop μ-loop
-slash-from-requires c κs = search needs
-
 loop-holds : tie.Need-loop-holds Inv-loop μ-loop
 loop-holds c =
     let a = c .before .before .before .before .args in
     let e = c .slash-from .ensures in
     (omega arith, e .1, e .2, e .0, placed-parts (nodesIn (a .m .now) (a .n)) (a .path .now) (omega arith))
-
-search-number-requires : tie.Need-search-number-requires Inv-loop μ-loop
-search-number-requires c κs = search needs
 
 returns-2 : tie.Need-returns-2 Inv-loop μ-loop
 returns-2 c =
@@ -53,21 +47,6 @@ returns-2 c =
     let l = c .before .before .before .loop in
     let ns = nodesIn (a .m .now) (a .n) in
     sym (l .inv .4 ∙ step-stop ns (a .path .now) (l .d) (l .at) (l .end) (l .inv .3) (omega arith) _ (c .before .search-number .ensures) (c .if2 .taken))
-
-node-id-requires : tie.Need-node-id-requires Inv-loop μ-loop
-node-id-requires c κs = search needs
-
-sub-find-child : tie.Need-sub-find-child Inv-loop μ-loop
-sub-find-child c = search needs
-
-part-find-child-start : tie.Need-part-find-child-start Inv-loop μ-loop
-part-find-child-start c = search needs
-
-part-find-child-end : tie.Need-part-find-child-end Inv-loop μ-loop
-part-find-child-end c = search needs
-
-find-child-requires : tie.Need-find-child-requires Inv-loop μ-loop
-find-child-requires c κs = search needs
 
 returns-3 : tie.Need-returns-3 Inv-loop μ-loop
 returns-3 c =
@@ -78,15 +57,6 @@ returns-3 c =
     let n : length ns ≡ a .n = count-nodes (a .m .now) (a .n) (omega arith) in
     let k = child-front (a .n) (memOf (a .m .now) .nodes) (l .d) _ _ _ (omega arith) (c .before .before .before .node-id .ensures) (c .before .find-child .ensures) in
     sym (l .inv .4 ∙ step-absent ns s (l .d) (l .at) (l .end) (l .inv .3) (omega arith) (omega arith) (sym (c .before .before .before .before .if2 .left) ∙ c .before .before .before .before .before .search-number .ensures) (omega (arith, k)))
-
-add-at : tie.Need-add-at Inv-loop μ-loop
-add-at c = search needs
-
-slash-from-requires-2 : tie.Need-slash-from-requires-2 Inv-loop μ-loop
-slash-from-requires-2 c κs = search needs
-
-loop-less : tie.Need-loop-less Inv-loop μ-loop
-loop-less c = search needs
 
 loop-again : tie.Need-loop-again Inv-loop μ-loop
 loop-again c =
@@ -99,9 +69,6 @@ loop-again c =
     let k = child-front (a .n) (memOf (a .m .now) .nodes) (l .d) _ _ _ (omega arith) (c .before .before .before .before .node-id .ensures) (c .before .before .find-child .ensures) in
     let on = step-on ns s (l .d) (l .at) (l .end) (l .inv .3) (omega arith) (omega arith) (sym (c .before .before .before .before .before .if2 .left) ∙ c .before .before .before .before .before .before .search-number .ensures) (omega (arith, k)) in
     (omega arith, e .1, e .2, e .0, l .inv .4 ∙ on ∙ ap (λ (x : ℕ). placedFrom ns (length s) x (split (drop (l .end + 1) s))) (sym k))
-
-search-number-requires-2 : tie.Need-search-number-requires-2 Inv-loop μ-loop
-search-number-requires-2 c κs = search needs
 
 returns-4 : tie.Need-returns-4 Inv-loop μ-loop
 returns-4 c =
@@ -119,25 +86,6 @@ returns-5 c =
 
 pub walk-parent-spec : {M : Type 1} → statement M
 walk-parent-spec =
-    tie.close
-    (tie.spec
-    Inv-loop
-    μ-loop
-    returns
-    slash-from-requires
-    loop-holds
-    search-number-requires
-    returns-2
-    node-id-requires
-    sub-find-child
-    part-find-child-start
-    part-find-child-end
-    find-child-requires
-    returns-3
-    add-at
-    slash-from-requires-2
-    loop-less
-    loop-again
-    search-number-requires-2
-    returns-4
-    returns-5)
+    tie.close (tie.spec Inv-loop μ-loop returns (λ c κs. search needs) loop-holds (λ c κs. search needs) returns-2 (λ c κs. search needs) (λ c. search needs)
+    (λ c. search needs) (λ c. search needs) (λ c κs. search needs) returns-3 (λ c. search needs) (λ c κs. search needs) (λ c. search needs) loop-again
+    (λ c κs. search needs) returns-4 returns-5)

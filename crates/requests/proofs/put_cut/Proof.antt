@@ -7,15 +7,6 @@ use borrow.Author.Needs.{needs}
 use Rattle.requests.proofs.put_cut.Statement.{statement}
 use Rattle.requests.proofs.put_cut.Tie as tie
 
-mul-excess : tie.Need-mul-excess
-mul-excess c = search needs
-
-excess-requires : tie.Need-excess-requires
-excess-requires c κs = search needs
-
-smaller-requires : tie.Need-smaller-requires
-smaller-requires c κs = search needs
-
 slice-aggregate-put-page : tie.Need-slice-aggregate-put-page
 slice-aggregate-put-page c =
     let e = c .before .before .smaller .ensures in
@@ -26,9 +17,6 @@ put-page-requires c κs =
     let e = c .before .before .smaller .ensures in
     (omega arith, rw (length-take-le (c .before .before .smaller .result) (c .before .before .before .before .before .before .args .page .now) (omega arith)) (omega arith))
 
-same-length : tie.Need-same-length
-same-length c = search needs
-
 returns : tie.Need-returns
 returns c =
     let a = c .before .before .before .before .before .before .before .before .before .args in
@@ -36,12 +24,4 @@ returns c =
 
 pub put-cut-spec : {M : Type 1} → statement M
 put-cut-spec =
-    tie.close
-    (tie.spec
-    mul-excess
-    excess-requires
-    smaller-requires
-    slice-aggregate-put-page
-    put-page-requires
-    same-length
-    returns)
+    tie.close (tie.spec (λ c. search needs) (λ c κs. search needs) (λ c κs. search needs) slice-aggregate-put-page put-page-requires (λ c. search needs) returns)

@@ -6,19 +6,10 @@ use borrow.Author.Needs.{needs}
 use Rattle.requests.proofs.put_head.Statement.{statement}
 use Rattle.requests.proofs.put_head.Tie as tie
 
-slice-write-out : tie.Need-slice-write-out
-slice-write-out c = search needs
-
-put-number-requires : tie.Need-put-number-requires
-put-number-requires c κs = search needs
-
-same-length : tie.Need-same-length
-same-length c = search needs
-
 returns : tie.Need-returns
 returns c =
     let a = c .before .before .before .before .before .args in
     rw (c .before .before .put-number .ensures) (overwrite-cons 0 (a .out .now) 0 (encode 4 (a .descriptor)) (a .kind) (omega arith))
 
 pub put-head-spec : {M : Type 1} → statement M
-put-head-spec = tie.close (tie.spec put-number-requires slice-write-out same-length returns)
+put-head-spec = tie.close (tie.spec (λ c κs. search needs) (λ c. search needs) (λ c. search needs) returns)

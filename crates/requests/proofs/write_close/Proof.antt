@@ -1,7 +1,7 @@
 -- `requests::write_close` meets its contract. Assumes nothing.
-use mathlib.Core.Path.{sym, _∙_}
+use mathlib.Core.Path.{sym}
 use Rattle.rules.specs.Requests.{storeLength, closeRequest}
-use Rattle.requests.specs.Heads.{at-front, length-head}
+use Rattle.requests.specs.Heads.{length-head}
 use borrow.Author.Needs.{needs}
 use Rattle.requests.proofs.write_close.Statement.{statement}
 use Rattle.requests.proofs.write_close.Tie as tie
@@ -10,14 +10,11 @@ put-head-requires : tie.Need-put-head-requires
 unfolding storeLength
 put-head-requires c κs = search needs
 
-same-length : tie.Need-same-length
-same-length c = search needs
-
 returns : tie.Need-returns
 unfolding closeRequest
 returns c =
     let a = c .before .before .before .before .before .args in
-    (c .before .before .put-head .ensures ∙ at-front (closeRequest (a .descriptor)) (a .out .now), sym (length-head 4 (a .descriptor)))
+    (c .before .before .put-head .ensures, sym (length-head 4 (a .descriptor)))
 
 pub write-close-spec : {M : Type 1} → statement M
-write-close-spec = tie.close (tie.spec put-head-requires same-length returns)
+write-close-spec = tie.close (tie.spec put-head-requires (λ c. search needs) returns)

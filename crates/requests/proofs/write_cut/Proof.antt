@@ -1,7 +1,7 @@
 -- `requests::write_cut` meets its contract. Assumes nothing.
-use mathlib.Core.Path.{sym, _∙_}
+use mathlib.Core.Path.{sym}
 use Rattle.rules.specs.Requests.{storeLength, cutRequest}
-use Rattle.requests.specs.Heads.{at-front, length-longer}
+use Rattle.requests.specs.Heads.{length-longer}
 use borrow.Author.Needs.{needs}
 use Rattle.requests.proofs.write_cut.Statement.{statement}
 use Rattle.requests.proofs.write_cut.Tie as tie
@@ -10,14 +10,11 @@ put-longer-requires : tie.Need-put-longer-requires
 unfolding storeLength
 put-longer-requires c κs = search needs
 
-same-length : tie.Need-same-length
-same-length c = search needs
-
 returns : tie.Need-returns
 unfolding cutRequest
 returns c =
     let a = c .before .before .before .before .before .args in
-    (c .before .before .put-longer .ensures ∙ at-front (cutRequest (a .descriptor) (a .size)) (a .out .now), sym (length-longer 8 (a .descriptor) (a .size)))
+    (c .before .before .put-longer .ensures, sym (length-longer 8 (a .descriptor) (a .size)))
 
 pub write-cut-spec : {M : Type 1} → statement M
-write-cut-spec = tie.close (tie.spec put-longer-requires same-length returns)
+write-cut-spec = tie.close (tie.spec put-longer-requires (λ c. search needs) returns)

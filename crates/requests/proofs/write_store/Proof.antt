@@ -15,9 +15,6 @@ put-written-requires : tie.Need-put-written-requires
 unfolding storeLength
 put-written-requires c κs = search needs
 
-same-length : tie.Need-same-length
-same-length c = search needs
-
 returns : tie.Need-returns
 unfolding storeLength
 returns c =
@@ -25,4 +22,4 @@ returns c =
     (behind-store (a .out .now) _ _ (a .descriptor) (a .i) (a .size) (fill (writing (a .position) (a .bytes .now)) (a .i) (a .page .now)) (c .before .before .before .before .before .before .put-store .ensures) (c .before .before .put-written .ensures), refl)
 
 pub write-store-spec : {M : Type 1} → statement M
-write-store-spec = tie.close (tie.spec put-store-requires put-written-requires same-length returns)
+write-store-spec = tie.close (tie.spec put-store-requires put-written-requires (λ c. search needs) returns)

@@ -15,9 +15,6 @@ put-cut-requires : tie.Need-put-cut-requires
 unfolding storeLength
 put-cut-requires c κs = search needs
 
-same-length : tie.Need-same-length
-same-length c = search needs
-
 returns : tie.Need-returns
 unfolding storeLength
 returns c =
@@ -25,4 +22,4 @@ returns c =
     (behind-store (a .out .now) _ _ (a .descriptor) (a .i) (a .size) (fill (shrinking (a .to)) (a .i) (a .page .now)) (c .before .before .before .before .before .before .put-store .ensures) (c .before .before .put-cut .ensures), refl)
 
 pub write-store-cut-spec : {M : Type 1} → statement M
-write-store-cut-spec = tie.close (tie.spec put-store-requires put-cut-requires same-length returns)
+write-store-cut-spec = tie.close (tie.spec put-store-requires put-cut-requires (λ c. search needs) returns)

@@ -12,12 +12,6 @@ use borrow.Author.Needs.{needs}
 use Rattle.tables.proofs.add_node.Statement.{statement}
 use Rattle.tables.proofs.add_node.Tie as tie
 
-put-node-requires : tie.Need-put-node-requires
-put-node-requires c κs = search needs
-
-same-length : tie.Need-same-length
-same-length c = search needs
-
 returns : tie.Need-returns
 returns c =
     let a = c .before .before .before .before .before .args in
@@ -26,4 +20,4 @@ returns c =
     (λ o. ap (viewOf (a .n + 1) o) (c .before .before .put-node .ensures .0) ∙ view-add m (a .n) o (nodeOf (a .row)) (omega arith) (c .before .before .before .before .before .pre .1), omega arith)
 
 pub add-node-spec : {M : Type 1} → statement M
-add-node-spec = tie.close (tie.spec put-node-requires same-length returns)
+add-node-spec = tie.close (tie.spec (λ c κs. search needs) (λ c. search needs) returns)

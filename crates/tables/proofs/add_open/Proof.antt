@@ -12,12 +12,6 @@ use borrow.Author.Needs.{needs}
 use Rattle.tables.proofs.add_open.Statement.{statement}
 use Rattle.tables.proofs.add_open.Tie as tie
 
-put-open-requires : tie.Need-put-open-requires
-put-open-requires c κs = search needs
-
-same-length : tie.Need-same-length
-same-length c = search needs
-
 returns : tie.Need-returns
 returns c =
     let a = c .before .before .before .before .before .args in
@@ -26,4 +20,4 @@ returns c =
     (λ n. ap (viewOf n (a .o + 1)) (c .before .before .put-open .ensures .0) ∙ view-open m n (a .o) (openOf (a .row)) (omega arith), omega arith)
 
 pub add-open-spec : {M : Type 1} → statement M
-add-open-spec = tie.close (tie.spec put-open-requires same-length returns)
+add-open-spec = tie.close (tie.spec (λ c κs. search needs) (λ c. search needs) returns)

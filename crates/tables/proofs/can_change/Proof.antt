@@ -19,18 +19,6 @@ returns c =
     let e : length (take (a .n) ns) ≡ a .n = length-take-le (a .n) ns (omega arith) in
     sym (may-change-no (take (a .n) ns) (a .k) (a .size) (a .from) (a .count) (λ h. omega arith))
 
-node-size-requires : tie.Need-node-size-requires
-node-size-requires c κs = search needs
-
-pages-for-requires : tie.Need-pages-for-requires
-pages-for-requires c κs = search needs
-
-first-page-requires : tie.Need-first-page-requires
-first-page-requires c κs = search needs
-
-pages-with-requires : tie.Need-pages-with-requires
-pages-with-requires c κs = search needs
-
 returns-2 : tie.Need-returns-2
 returns-2 c =
     let a = c .before .before .before .before .before .before .before .args in
@@ -49,12 +37,6 @@ returns-3 c =
     let w : c .before .before .pages-with .result ≡ pageTotal (setSize (take (a .n) ns) (a .k) (a .size)) = c .before .before .pages-with .ensures in
     sym (may-change-no (take (a .n) ns) (a .k) (a .size) (a .from) (a .count) (λ h. omega arith))
 
-pages-for-requires-2 : tie.Need-pages-for-requires-2
-pages-for-requires-2 c κs = search needs
-
-pages-change-requires : tie.Need-pages-change-requires
-pages-change-requires c κs = search needs
-
 returns-4 : tie.Need-returns-4
 unfolding nodeAt
 returns-4 c =
@@ -71,15 +53,5 @@ returns-4 c =
 
 pub can-change-spec : {M : Type 1} → statement M
 can-change-spec =
-    tie.close
-    (tie.spec
-    returns
-    node-size-requires
-    pages-for-requires
-    first-page-requires
-    pages-with-requires
-    returns-2
-    returns-3
-    pages-for-requires-2
-    pages-change-requires
-    returns-4)
+    tie.close (tie.spec returns (λ c κs. search needs) (λ c κs. search needs) (λ c κs. search needs) (λ c κs. search needs) returns-2 returns-3
+    (λ c κs. search needs) (λ c κs. search needs) returns-4)

@@ -22,9 +22,6 @@ abbrev μ-loop : tie.MeasureT-loop
 loop-holds : tie.Need-loop-holds Inv-loop μ-loop
 loop-holds c = (omega arith, sym (zero-add _))
 
-is-child-requires : tie.Need-is-child-requires Inv-loop μ-loop
-is-child-requires c κs = search needs
-
 returns : tie.Need-returns Inv-loop μ-loop
 unfolding findChild nodeAt
 returns c =
@@ -32,12 +29,6 @@ returns c =
     let l = c .before .before .before .loop in
     let f : length (memOf (a .m .now) .nodes) ≡ _ = length-nodes (a .m .now) in
     sym (place-hit noNode (memOf (a .m .now) .nodes) (a .nodes) (l .i) (omega arith) (isChild (a .parent) (a .name .now)) (l .inv .1) (omega arith) (sym (c .before .is-child .ensures) ∙ c .if1 .taken))
-
-add-i : tie.Need-add-i Inv-loop μ-loop
-add-i c = search needs
-
-loop-less : tie.Need-loop-less Inv-loop μ-loop
-loop-less c = search needs
 
 loop-again : tie.Need-loop-again Inv-loop μ-loop
 unfolding nodeAt
@@ -57,4 +48,4 @@ returns-2 c =
 
 pub find-child-spec : {M : Type 1} → statement M
 find-child-spec =
-    tie.close (tie.spec Inv-loop μ-loop loop-holds is-child-requires returns add-i loop-less loop-again returns-2)
+    tie.close (tie.spec Inv-loop μ-loop loop-holds (λ c κs. search needs) returns (λ c. search needs) (λ c. search needs) loop-again returns-2)

@@ -23,9 +23,6 @@ abbrev μ-loop : tie.MeasureT-loop
 loop-holds : tie.Need-loop-holds Inv-loop μ-loop
 loop-holds c = (omega arith, sym (zero-add _))
 
-open-descriptor-requires : tie.Need-open-descriptor-requires Inv-loop μ-loop
-open-descriptor-requires c κs = search needs
-
 returns : tie.Need-returns Inv-loop μ-loop
 unfolding findDescriptor openAt
 returns c =
@@ -33,12 +30,6 @@ returns c =
     let l = c .before .before .before .loop in
     let f : length (memOf (a .m .now) .opens) ≡ _ = length-opens (a .m .now) in
     sym (place-hit noOpenFile (memOf (a .m .now) .opens) (a .o) (l .i) (omega arith) (hasDescriptor (a .descriptor)) (l .inv .1) (omega arith) (eq-eqb _ _ (sym (c .before .open-descriptor .ensures) ∙ c .if1 .taken)))
-
-add-i : tie.Need-add-i Inv-loop μ-loop
-add-i c = search needs
-
-loop-less : tie.Need-loop-less Inv-loop μ-loop
-loop-less c = search needs
 
 loop-again : tie.Need-loop-again Inv-loop μ-loop
 unfolding openAt
@@ -58,4 +49,4 @@ returns-2 c =
 
 pub find-descriptor-spec : {M : Type 1} → statement M
 find-descriptor-spec =
-    tie.close (tie.spec Inv-loop μ-loop loop-holds open-descriptor-requires returns add-i loop-less loop-again returns-2)
+    tie.close (tie.spec Inv-loop μ-loop loop-holds (λ c κs. search needs) returns (λ c. search needs) (λ c. search needs) loop-again returns-2)

@@ -23,9 +23,6 @@ abbrev μ-loop : tie.MeasureT-loop
 loop-holds : tie.Need-loop-holds Inv-loop μ-loop
 loop-holds c = (omega arith, sym (zero-add _))
 
-node-id-requires : tie.Need-node-id-requires Inv-loop μ-loop
-node-id-requires c κs = search needs
-
 returns : tie.Need-returns Inv-loop μ-loop
 unfolding findId nodeAt
 returns c =
@@ -33,12 +30,6 @@ returns c =
     let l = c .before .before .before .loop in
     let f : length (memOf (a .m .now) .nodes) ≡ _ = length-nodes (a .m .now) in
     sym (place-hit noNode (memOf (a .m .now) .nodes) (a .n) (l .i) (omega arith) (hasId (a .id)) (l .inv .1) (omega arith) (eq-eqb _ _ (sym (c .before .node-id .ensures) ∙ c .if1 .taken)))
-
-add-i : tie.Need-add-i Inv-loop μ-loop
-add-i c = search needs
-
-loop-less : tie.Need-loop-less Inv-loop μ-loop
-loop-less c = search needs
 
 loop-again : tie.Need-loop-again Inv-loop μ-loop
 unfolding nodeAt
@@ -58,4 +49,4 @@ returns-2 c =
 
 pub find-id-spec : {M : Type 1} → statement M
 find-id-spec =
-    tie.close (tie.spec Inv-loop μ-loop loop-holds node-id-requires returns add-i loop-less loop-again returns-2)
+    tie.close (tie.spec Inv-loop μ-loop loop-holds (λ c κs. search needs) returns (λ c. search needs) (λ c. search needs) loop-again returns-2)

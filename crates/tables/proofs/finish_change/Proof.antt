@@ -33,9 +33,6 @@ node-size-requires c κs =
     let k = c .before .before .before .before .pre .0 .known in
     (omega arith, omega arith)
 
-pages-for-requires : tie.Need-pages-for-requires
-pages-for-requires c κs = search needs
-
 add-next : tie.Need-add-next
 add-next c =
     let a = c .before .before .before .before .before .before .args in
@@ -45,9 +42,6 @@ add-next c =
     let k = c .before .before .before .before .before .before .pre .0 .known in
     omega arith
 
-pages-for-requires-2 : tie.Need-pages-for-requires-2
-pages-for-requires-2 c κs = search needs
-
 add-end : tie.Need-add-end
 add-end c =
     let a = c .before .before .before .before .before .before .before .args in
@@ -56,9 +50,6 @@ add-end c =
     let e : length (take (a .n) ns) ≡ a .n = length-take-le (a .n) ns (omega arith) in
     let k = c .before .before .before .before .before .before .before .pre .0 .known in
     omega arith
-
-first-page-requires-2 : tie.Need-first-page-requires-2
-first-page-requires-2 c κs = search needs
 
 sub-move-digests : tie.Need-sub-move-digests
 sub-move-digests c =
@@ -120,9 +111,6 @@ set-size-requires c κs =
     let r = room ns (a .n) (a .k) (a .size) (a .from) (a .count) (c .before .before .before .before .before .before .before .before .before .before .before .before .before .before .before .first-page .result) (c .before .before .before .before .before .before .before .before .before .before .before .before .pages-for .result) (c .before .before .before .before .before .before .before .before .before .before .before .pages-for2 .result) (c .before .before .before .before .before .before .before .before .before .first-page2 .result) (omega arith) (c .before .before .before .before .before .before .before .before .before .before .before .before .before .before .before .before .before .before .pre .0) x y w z in
     (omega arith, omega arith)
 
-same-length : tie.Need-same-length
-same-length c = search needs
-
 returns : tie.Need-returns
 unfolding stagedDigests
 returns c =
@@ -145,19 +133,5 @@ returns c =
 
 pub finish-change-spec : {M : Type 1} → statement M
 finish-change-spec =
-    tie.close
-    (tie.spec
-    first-page-requires
-    node-size-requires
-    pages-for-requires
-    add-next
-    pages-for-requires-2
-    add-end
-    first-page-requires-2
-    sub-move-digests
-    move-digests-requires
-    add-keep-digests
-    keep-digests-requires
-    set-size-requires
-    same-length
-    returns)
+    tie.close (tie.spec first-page-requires node-size-requires (λ c κs. search needs) add-next (λ c κs. search needs) add-end (λ c κs. search needs) sub-move-digests
+    move-digests-requires add-keep-digests keep-digests-requires set-size-requires (λ c. search needs) returns)

@@ -21,21 +21,6 @@ abbrev μ-loop : tie.MeasureT-loop
 loop-holds : tie.Need-loop-holds Inv-loop μ-loop
 loop-holds c = (omega arith, omega arith, sym (zero-add _))
 
-node-size-requires : tie.Need-node-size-requires Inv-loop μ-loop
-node-size-requires c κs = search needs
-
-pages-for-requires : tie.Need-pages-for-requires Inv-loop μ-loop
-pages-for-requires c κs = search needs
-
-add-s : tie.Need-add-s Inv-loop μ-loop
-add-s c = search needs
-
-add-i : tie.Need-add-i Inv-loop μ-loop
-add-i c = search needs
-
-loop-less : tie.Need-loop-less Inv-loop μ-loop
-loop-less c = search needs
-
 loop-again : tie.Need-loop-again Inv-loop μ-loop
 loop-again c =
     let a = c .before .before .before .before .before .args in
@@ -55,4 +40,5 @@ returns c =
 
 pub first-page-spec : {M : Type 1} → statement M
 first-page-spec =
-    tie.close (tie.spec Inv-loop μ-loop loop-holds node-size-requires pages-for-requires add-s add-i loop-less loop-again returns)
+    tie.close (tie.spec Inv-loop μ-loop loop-holds (λ c κs. search needs) (λ c κs. search needs) (λ c. search needs) (λ c. search needs) (λ c. search needs)
+    loop-again returns)

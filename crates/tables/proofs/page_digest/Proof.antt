@@ -12,9 +12,6 @@ use borrow.Author.Needs.{needs}
 use Rattle.tables.proofs.page_digest.Statement.{statement}
 use Rattle.tables.proofs.page_digest.Tie as tie
 
-first-page-requires : tie.Need-first-page-requires
-first-page-requires c κs = search needs
-
 add-digest : tie.Need-add-digest
 add-digest c =
     let a = c .before .before .args in
@@ -44,4 +41,4 @@ returns c =
     (c .digest .ensures .0 ∙ ap (λ (j : ℕ). getD ds (j + a .i) []) x ∙ sym (digest-place ns ds (a .n) (a .k) (a .i) (omega arith) (omega arith) (c .before .before .before .pre .2)), c .digest .ensures .1)
 
 pub page-digest-spec : {M : Type 1} → statement M
-page-digest-spec = tie.close (tie.spec first-page-requires add-digest digest-requires returns)
+page-digest-spec = tie.close (tie.spec (λ c κs. search needs) add-digest digest-requires returns)

@@ -12,17 +12,11 @@ returns c = sym (pages-no _ _ _ _ (λ a b d e. omega arith))
 returns-2 : tie.Need-returns-2
 returns-2 c = sym (pages-no _ _ _ _ (λ a b d e. omega arith))
 
-add-if3 : tie.Need-add-if3
-add-if3 c = search needs
-
 returns-3 : tie.Need-returns-3
 returns-3 c = sym (pages-no _ _ _ _ (λ a b d e. omega arith))
 
 returns-4 : tie.Need-returns-4
 returns-4 c = sym (pages-so _ _ _ _ (omega arith) (omega arith) (omega arith) (omega arith))
-
-add-if5 : tie.Need-add-if5
-add-if5 c = search needs
 
 returns-5 : tie.Need-returns-5
 returns-5 c = sym (pages-no _ _ _ _ (λ a b d e. omega arith))
@@ -32,4 +26,4 @@ returns-6 c = sym (pages-so _ _ _ _ (omega arith) (omega arith) (omega arith) (o
 
 pub pages-change-spec : {M : Type 1} → statement M
 pages-change-spec =
-    tie.close (tie.spec returns returns-2 add-if3 returns-3 returns-4 add-if5 returns-5 returns-6)
+    tie.close (tie.spec returns returns-2 (λ c. search needs) returns-3 returns-4 (λ c. search needs) returns-5 returns-6)

@@ -11,15 +11,6 @@ use borrow.Author.Needs.{needs}
 use Rattle.tables.proofs.pages_with.Statement.{statement}
 use Rattle.tables.proofs.pages_with.Tie as tie
 
-first-page-requires : tie.Need-first-page-requires
-first-page-requires c κs = search needs
-
-node-size-requires : tie.Need-node-size-requires
-node-size-requires c κs = search needs
-
-pages-for-requires : tie.Need-pages-for-requires
-pages-for-requires c κs = search needs
-
 sub-others : tie.Need-sub-others
 sub-others c =
     let a = c .before .before .before .before .args in
@@ -29,12 +20,6 @@ sub-others c =
     let y : c .pages-for .result ≡ pagesFor (nodeAt ns (a .k) .size) = c .pages-for .ensures .0 ∙ ap pagesFor (c .before .node-size .ensures) in
     let t = total-part ns (a .n) (a .k) (omega arith) (omega arith) in
     omega arith
-
-pages-for-requires-2 : tie.Need-pages-for-requires-2
-pages-for-requires-2 c κs = search needs
-
-add-result : tie.Need-add-result
-add-result c = search needs
 
 returns : tie.Need-returns
 returns c =
@@ -50,12 +35,4 @@ returns c =
 
 pub pages-with-spec : {M : Type 1} → statement M
 pages-with-spec =
-    tie.close
-    (tie.spec
-    first-page-requires
-    node-size-requires
-    pages-for-requires
-    sub-others
-    pages-for-requires-2
-    add-result
-    returns)
+    tie.close (tie.spec (λ c κs. search needs) (λ c κs. search needs) (λ c κs. search needs) sub-others (λ c κs. search needs) (λ c. search needs) returns)

@@ -13,21 +13,6 @@ use borrow.Author.Needs.{needs}
 use Rattle.tables.proofs.remove_node.Statement.{statement}
 use Rattle.tables.proofs.remove_node.Tie as tie
 
-first-page-requires : tie.Need-first-page-requires
-first-page-requires c κs = search needs
-
-node-size-requires : tie.Need-node-size-requires
-node-size-requires c κs = search needs
-
-pages-for-requires : tie.Need-pages-for-requires
-pages-for-requires c κs = search needs
-
-add-next : tie.Need-add-next
-add-next c = search needs
-
-first-page-requires-2 : tie.Need-first-page-requires-2
-first-page-requires-2 c κs = search needs
-
 sub-move-digests : tie.Need-sub-move-digests
 sub-move-digests c =
     let a = c .before .before .before .before .before .before .before .before .before .args in
@@ -50,21 +35,6 @@ move-digests-requires c κs =
     let t = total-part ns (a .n) (a .k) (omega arith) (omega arith) in
     (omega arith, omega arith, omega arith)
 
-add-move-nodes : tie.Need-add-move-nodes
-add-move-nodes c = search needs
-
-add-move-nodes-2 : tie.Need-add-move-nodes-2
-add-move-nodes-2 c = search needs
-
-sub-move-nodes : tie.Need-sub-move-nodes
-sub-move-nodes c = search needs
-
-move-nodes-requires : tie.Need-move-nodes-requires
-move-nodes-requires c κs = search needs
-
-same-length : tie.Need-same-length
-same-length c = search needs
-
 returns : tie.Need-returns
 returns c =
     let a = c .before .before .before .before .before .before .before .before .before .before .before .before .before .before .before .before .args in
@@ -86,18 +56,5 @@ returns c =
 
 pub remove-node-spec : {M : Type 1} → statement M
 remove-node-spec =
-    tie.close
-    (tie.spec
-    first-page-requires
-    node-size-requires
-    pages-for-requires
-    add-next
-    first-page-requires-2
-    sub-move-digests
-    move-digests-requires
-    add-move-nodes
-    add-move-nodes-2
-    sub-move-nodes
-    move-nodes-requires
-    same-length
-    returns)
+    tie.close (tie.spec (λ c κs. search needs) (λ c κs. search needs) (λ c κs. search needs) (λ c. search needs) (λ c κs. search needs) sub-move-digests
+    move-digests-requires (λ c. search needs) (λ c. search needs) (λ c. search needs) (λ c κs. search needs) (λ c. search needs) returns)

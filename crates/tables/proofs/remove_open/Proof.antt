@@ -11,21 +11,6 @@ use borrow.Author.Needs.{needs}
 use Rattle.tables.proofs.remove_open.Statement.{statement}
 use Rattle.tables.proofs.remove_open.Tie as tie
 
-add-move-opens : tie.Need-add-move-opens
-add-move-opens c = search needs
-
-add-move-opens-2 : tie.Need-add-move-opens-2
-add-move-opens-2 c = search needs
-
-sub-move-opens : tie.Need-sub-move-opens
-sub-move-opens c = search needs
-
-move-opens-requires : tie.Need-move-opens-requires
-move-opens-requires c κs = search needs
-
-same-length : tie.Need-same-length
-same-length c = search needs
-
 returns : tie.Need-returns
 returns c =
     let a = c .before .before .before .before .before .args in
@@ -35,11 +20,4 @@ returns c =
 
 pub remove-open-spec : {M : Type 1} → statement M
 remove-open-spec =
-    tie.close
-    (tie.spec
-    add-move-opens
-    add-move-opens-2
-    sub-move-opens
-    move-opens-requires
-    same-length
-    returns)
+    tie.close (tie.spec (λ c. search needs) (λ c. search needs) (λ c. search needs) (λ c κs. search needs) (λ c. search needs) returns)

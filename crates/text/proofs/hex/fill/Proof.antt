@@ -4,38 +4,39 @@ use native.Mathlib.Omega.{arith}
 use borrow.Author.Needs.{needs}
 use Prim.Native.Nat.{_+_, _*_, _/_, _≤_, _-_}
 use mathlib.Core.Path.{_≡_, sym, ap, _∙_}
-use lib.ListN.{length}
-use Rattle.text.specs.Front.{front, front-none, front-all, length-front, front-more}
+use lib.ListN.{length, getD, take, length-set}
+use lib.Seq.{take-all}
+use Rattle.lists.specs.Parts.{overwrite}
+use Rattle.lists.specs.PartLaws.{overwrite-none, overwrite-more}
 use Rattle.text.specs.Hex.{bytesOf, length-bytesOf, bytesOf-at}
 use Rattle.text.proofs.hex.fill.Statement.{statement}
 use Rattle.text.proofs.hex.fill.Tie as tie
 
 abbrev Inv-loop : tie.InvT-loop
-Inv-loop text out₀ n i₀ out i = (i ≤ n) × (length out ≡ length out₀) × (out ≡ front out₀ (bytesOf text) i)
+Inv-loop text out₀ n i₀ out i = (i ≤ n) × (length out ≡ length out₀) × (out ≡ overwrite out₀ 0 (take i (bytesOf text)))
 
 abbrev μ-loop : tie.MeasureT-loop
 μ-loop text out₀ n i₀ out i = n - i
 
 loop-holds : tie.Need-loop-holds Inv-loop μ-loop
-loop-holds c = (omega arith, omega arith, front-none _ _)
+loop-holds c = (omega arith, omega arith, sym (overwrite-none 0 _ 0))
 
 loop-again : tie.Need-loop-again Inv-loop μ-loop
 loop-again c =
     let l = c .before .before .before .before .loop in
     let a = c .before .before .before .before .before .before .before .args in
-    let e = front-more (a .out .now) (bytesOf (a .text .now)) (l .out) (l .i) (c .pair .result) (l .inv .2)
-    (c .pair .ensures ∙ sym (bytesOf-at (a .text .now) (l .i) (omega arith)))
-    (omega (arith, length-bytesOf (a .text .now))) (omega arith) in (
+    let s = bytesOf (a .text .now) in
+    let v : c .pair .result ≡ getD s (l .i) 0 = c .pair .ensures ∙ sym (bytesOf-at (a .text .now) (l .i) (omega arith)) in (
       omega arith,
-      ap length e ∙ length-front (a .out .now) (bytesOf (a .text .now)) (l .i + 1) (omega (arith, length-bytesOf (a .text .now))) (omega arith),
-      e,
+      simp length-set (l .inv .1),
+      rw (l .inv .2, v) (overwrite-more 0 (a .out .now) 0 s (l .i) (l .i) (omega arith) (omega (arith, length-bytesOf (a .text .now))) (omega arith)),
     )
 
 returns : tie.Need-returns Inv-loop μ-loop
 returns c =
     let l = c .before .loop in
     let a = c .before .before .before .before .args in
-    l .inv .2 ∙ front-all (a .out .now) (bytesOf (a .text .now)) (l .i) (omega (arith, length-bytesOf (a .text .now))) ∙ rw (length-bytesOf (a .text .now))
+    l .inv .2 ∙ ap (overwrite (a .out .now) 0) (take-all (l .i) (bytesOf (a .text .now)) (omega (arith, length-bytesOf (a .text .now))))
 
 pub fill-spec : {M : Type 1} → statement M
 fill-spec =

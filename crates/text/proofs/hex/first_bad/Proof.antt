@@ -7,13 +7,14 @@ use mathlib.Core.Path.{_≡_, sym, ap, _∙_}
 use borrow.Author.Tests.{le-leb, lt-leb}
 use lib.Dec.{leb}
 use lib.ListN.{length, drop}
-use Rattle.text.specs.First.{first, first-here, first-later, first-end}
+use Rattle.lists.specs.Search.{place}
+use Rattle.lists.specs.Scans.{scan-here, scan-on, scan-end}
 use Rattle.text.specs.Hex.{isBad, valueOf}
 use Rattle.text.proofs.hex.first_bad.Statement.{statement}
 use Rattle.text.proofs.hex.first_bad.Tie as tie
 
 abbrev Inv-loop : tie.InvT-loop
-Inv-loop text i₀ i = (i ≤ length text) × (first isBad text ≡ i + first isBad (drop i text))
+Inv-loop text i₀ i = (i ≤ length text) × (place isBad text ≡ i + place isBad (drop i text))
 
 abbrev μ-loop : tie.MeasureT-loop
 μ-loop text i₀ i = length text - i
@@ -25,19 +26,19 @@ returns : tie.Need-returns Inv-loop μ-loop
 returns c =
     let l = c .before .before .before .before .loop in
     let s = c .before .before .before .before .before .before .args .text .now in
-    omega (arith, l .inv .1, first-here isBad s (l .i) (omega arith) (le-leb 16 _ (rw (c .before .value .ensures) at (c .if1 .taken))))
+    scan-here isBad 0 _ s (l .i) (l .inv .1) (omega arith) (le-leb 16 _ (rw (c .before .value .ensures) at (c .if1 .taken)))
 
 loop-again : tie.Need-loop-again Inv-loop μ-loop
 loop-again c =
     let l = c .before .before .before .before .loop in
     let s = c .before .before .before .before .before .before .args .text .now in
-    (omega arith, l .inv .1 ∙ first-later isBad s (l .i) (omega arith) (lt-leb 16 _ (rw (c .before .value .ensures) at (c .if1 .left))))
+    (omega arith, scan-on isBad 0 _ s (l .i) (l .inv .1) (omega arith) (lt-leb 16 _ (rw (c .before .value .ensures) at (c .if1 .left))))
 
 returns-2 : tie.Need-returns-2 Inv-loop μ-loop
 returns-2 c =
     let l = c .before .loop in
     let s = c .before .before .before .args .text .now in
-    omega (arith, l .inv .1, first-end isBad s (l .i) (omega arith))
+    scan-end isBad 0 _ s (l .i) (l .inv .1) (omega arith)
 
 pub first-bad-spec : {M : Type 1} → statement M
 first-bad-spec =

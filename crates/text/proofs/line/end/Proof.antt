@@ -6,13 +6,14 @@ use Prim.Native.Nat.{_+_, _≤_, _-_}
 use mathlib.Core.Path.{_≡_, sym, ap, _∙_}
 use borrow.Author.Tests.{eq-eqb, ne-eqb}
 use lib.ListN.{length, drop}
-use Rattle.text.specs.First.{first, first-here, first-later, first-end}
+use Rattle.lists.specs.Search.{place}
+use Rattle.lists.specs.Scans.{scan-here, scan-on, scan-end}
 use Rattle.text.specs.Line.{isNewline, LineEnd}
 use Rattle.text.proofs.line.end.Statement.{statement}
 use Rattle.text.proofs.line.end.Tie as tie
 
 abbrev Inv-loop : tie.InvT-loop
-Inv-loop text from i₀ i = (from ≤ i) × (i ≤ length text) × (from + first isNewline (drop from text) ≡ i + first isNewline (drop i text))
+Inv-loop text from i₀ i = (from ≤ i) × (i ≤ length text) × (from + place isNewline (drop from text) ≡ i + place isNewline (drop i text))
 
 abbrev μ-loop : tie.MeasureT-loop
 μ-loop text from i₀ i = length text - i
@@ -25,7 +26,7 @@ returns c =
     let l = c .before .before .before .loop in
     let s = c .before .before .before .before .args .text .now in
     record {
-      found = omega (arith, l .inv .2, first-here isNewline s (l .i) (omega arith) (eq-eqb _ 10 (c .if1 .taken)));
+      found = scan-here isNewline 0 _ s (l .i) (l .inv .2) (omega arith) (eq-eqb _ 10 (c .if1 .taken));
       after = omega arith;
       inside = omega arith;
     }
@@ -34,13 +35,13 @@ loop-again : tie.Need-loop-again Inv-loop μ-loop
 loop-again c =
     let l = c .before .before .before .loop in
     let s = c .before .before .before .before .args .text .now in
-    (omega arith, omega arith, l .inv .2 ∙ first-later isNewline s (l .i) (omega arith) (ne-eqb _ 10 (c .if1 .left)))
+    (omega arith, omega arith, scan-on isNewline 0 _ s (l .i) (l .inv .2) (omega arith) (ne-eqb _ 10 (c .if1 .left)))
 
 returns-2 : tie.Need-returns-2 Inv-loop μ-loop
 returns-2 c =
     let l = c .before .loop in
     let s = c .before .before .args .text .now in
-    record { found = omega (arith, l .inv .2, first-end isNewline s (l .i) (omega arith)); after = omega arith; inside = omega arith }
+    record { found = scan-end isNewline 0 _ s (l .i) (l .inv .2) (omega arith); after = omega arith; inside = omega arith }
 
 pub end-spec : {M : Type 1} → statement M
 end-spec = tie.close (tie.spec Inv-loop μ-loop loop-holds (λ c. omega arith) returns (λ c. omega arith) (λ c. omega arith) loop-again returns-2)
