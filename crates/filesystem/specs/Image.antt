@@ -10,7 +10,8 @@ use lib.ListN.{length, take, drop}
 use Rattle.lists.specs.Pick.{pick}
 use Rattle.lists.specs.Equal.{equal}
 use Rattle.lists.specs.Search.{every, unique}
-use Rattle.lists.specs.Form.{Form, num, bytes, then, as-form, counted, text, bind, whole}
+use Rattle.lists.specs.Form.{Form, bind, whole}
+use Rattle.lists.specs.Formats.{num, bytes, then, as-form, counted, text}
 use Rattle.filesystem.specs.Tables.{NODES, PAGES, DIGEST-BYTES, FILE-BYTES, NAME-BYTES, PATH-BYTES, Node, isFile, isDirectory, nodeAt, findId, pagesFor, pageTotal}
 use Rattle.filesystem.specs.Paths.{componentForm}
 

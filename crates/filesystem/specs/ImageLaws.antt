@@ -16,7 +16,9 @@ use Rattle.lists.specs.Equal.{and-fst, and-snd}
 use Rattle.lists.specs.All.{All, both, none as all-none, Bytes, all-map, all-append, all-at}
 use Rattle.lists.specs.Places.{at-all}
 use Rattle.lists.specs.LittleEndian.{length-encode, bytes-encode}
-use Rattle.lists.specs.Form.{bytes, bind, bind-some, pick-some, put-all, whole-read-back, whole-was-written}
+use Rattle.lists.specs.Form.{bind, put-all}
+use Rattle.lists.specs.FormLaws.{bind-some, pick-some, whole-read-back, whole-was-written}
+use Rattle.lists.specs.Formats.{bytes}
 use Rattle.filesystem.specs.Tables.{Node, noNode, nodeAt, pagesFor, pageTotal}
 use Rattle.filesystem.specs.Image.{nodeForm, Image, imageForm, flatten, divide, soundNodes, sound, print, recordsLength, imageLength, parse}
 use Rattle.filesystem.specs.Sound.{Sound, by-kind, to-sound, limits-at, root-name, parent-fits, name-short}

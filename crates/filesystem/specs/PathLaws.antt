@@ -12,7 +12,7 @@ use Rattle.lists.specs.Pick.{pick, pick-false, pick-ind}
 use Rattle.lists.specs.Equal.{equal, and-fst, and-snd, or-snd}
 use Rattle.lists.specs.All.{both}
 use Rattle.lists.specs.Search.{every}
-use Rattle.lists.specs.Form.{pick-some, some≢none}
+use Rattle.lists.specs.FormLaws.{pick-some, some≢none}
 use Rattle.lists.specs.Checks.{Passed}
 use Rattle.filesystem.specs.Tables.{Node, nodeAt, isDirectory, hasBit, absent}
 use Rattle.filesystem.specs.Paths.{Path, slash, dot, joined, pathBytes, componentForm, onto, split, afterSlash, readPath, childAt, walk, searchChecks, walkChecks, parentChecks, parentOf, lastOf}

@@ -18,7 +18,8 @@ use Rattle.lists.specs.Rows.{rows}
 use Rattle.lists.specs.RowLaws.{length-rows}
 use Rattle.lists.specs.LittleEndian.{encode, decode, length-encode}
 use Rattle.lists.specs.NumberParts.{decode-first, decode-none}
-use Rattle.lists.specs.Form.{Form, front, bind, get₂, get-as, get-all, bytes, counted, whole, ended}
+use Rattle.lists.specs.Form.{Form, front, bind, get₂, get-as, get-all, whole, ended}
+use Rattle.lists.specs.Formats.{bytes, counted}
 use Rattle.filesystem.specs.Tables.{NODES, PAGES, Node, nodeAt, pageTotal}
 use Rattle.filesystem.specs.Image.{nodeForm, Image, imageForm, isRoot, inLimits, soundNodes, sound, parse}
 use Rattle.image_writer.specs.Width.{frontLength, recordLength, middle}

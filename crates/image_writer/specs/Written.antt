@@ -7,7 +7,8 @@ use native.Mathlib.Omega.{arith}
 use lib.ListN.{length, take, drop, length-append}
 use lib.Seq.{length-take-le}
 use Rattle.lists.specs.LittleEndian.{encode, length-encode}
-use Rattle.lists.specs.Form.{put-all, bytes}
+use Rattle.lists.specs.Form.{put-all}
+use Rattle.lists.specs.Formats.{bytes}
 use Rattle.lists.specs.Scans.{rest, rest-none}
 use Rattle.lists.specs.Parts.{overwrite}
 use Rattle.lists.specs.PartLaws.{overwrite-none, overwrite-next}

@@ -17,6 +17,8 @@ pub mod Or
 pub mod LittleEndian
 pub mod BigEndian
 pub mod Form
+pub mod FormLaws
+pub mod Formats
 pub mod Checks
 pub mod Search
 pub mod Scans

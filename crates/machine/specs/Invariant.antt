@@ -16,7 +16,7 @@ use Rattle.lists.specs.All.{All, both, none as all-none, all-append, all-take, 
 use Rattle.lists.specs.Search.{without}
 use Rattle.lists.specs.Maps.{map-set, map-without}
 use Rattle.lists.specs.LittleEndian.{encode}
-use Rattle.lists.specs.Form.{some≢none}
+use Rattle.lists.specs.FormLaws.{some≢none}
 use Rattle.filesystem.specs.Tables.{Node, nodeAt, pagesFor, setSize}
 use Rattle.filesystem.specs.Image.{flatten, print}
 use Rattle.rules.specs.Pages.{pageOf, Change, first, last, fetches, cuts, bytesAfter, sizeAfter, FitsSize}

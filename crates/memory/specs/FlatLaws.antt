@@ -6,7 +6,8 @@ use mathlib.Core.List.{List, [], _∷_}
 use native.Mathlib.Nat.{zero-mul, suc-mul}
 use native.Mathlib.Omega.{arith}
 use lib.ListN.{length, take, drop, length-drop, take-append-drop}
-use Rattle.lists.specs.Form.{put-all, bytes}
+use Rattle.lists.specs.Form.{put-all}
+use Rattle.lists.specs.Formats.{bytes}
 use Rattle.lists.specs.Parts.{part, overwrite}
 use Rattle.lists.specs.PartLaws.{length-part, part-part}
 use Rattle.lists.specs.Rows.{rows, table}

@@ -9,7 +9,7 @@ use native.Mathlib.Omega.{arith}
 use lib.Dec.{eqb}
 use Rattle.lists.specs.Pick.{pick, pick-ind}
 use Rattle.lists.specs.Search.{every}
-use Rattle.lists.specs.Form.{pick-some, some≢none}
+use Rattle.lists.specs.FormLaws.{pick-some, some≢none}
 use Rattle.filesystem.specs.Paths.{Path, slash, componentForm, split, afterSlash, readPath, tooLong}
 use Rattle.paths.specs.Parts.{componentsOf}
 use Rattle.paths.specs.PathForms.{lengthForm, pathForm, formOf}

@@ -14,7 +14,9 @@ use Rattle.lists.specs.Equal.{and-fst, and-snd, and-both}
 use Rattle.lists.specs.All.{All, both, none as all-none, Bytes, all-tail, all-left, all-right}
 use Rattle.lists.specs.Search.{every}
 use Rattle.lists.specs.LittleEndian.{encode}
-use Rattle.lists.specs.Form.{num, then, bind, bind-some, pick-some, some≢none, whole-read-back, whole-was-written}
+use Rattle.lists.specs.Form.{bind}
+use Rattle.lists.specs.FormLaws.{bind-some, pick-some, some≢none, whole-read-back, whole-was-written}
+use Rattle.lists.specs.Formats.{num, then}
 use Rattle.filesystem.specs.Tables.{DATA-BYTES}
 use Rattle.filesystem.specs.Paths.{Path, joined, pathBytes, componentForm}
 use Rattle.filesystem.specs.PathLaws.{readPath-pathBytes, readPath-was-bytes}

@@ -8,7 +8,8 @@ use lib.Dec.{eqb, leb}
 use lib.ListN.{length}
 use Rattle.lists.specs.Pick.{pick}
 use Rattle.lists.specs.LittleEndian.{encode}
-use Rattle.lists.specs.Form.{num, then, bind, whole}
+use Rattle.lists.specs.Form.{bind, whole}
+use Rattle.lists.specs.Formats.{num, then}
 use Rattle.filesystem.specs.Tables.{DATA-BYTES}
 use Rattle.filesystem.specs.Paths.{Path, pathBytes, readPath}
 

@@ -19,7 +19,9 @@ use Rattle.lists.specs.Places.{place-none, none-place, at-all, same-unique}
 use Rattle.lists.specs.Rearranged.{isRearranged, rearranged-length, rearranged-all, is-rearranged, rearranged-is, unique-select, unique-map}
 use Rattle.lists.specs.Signed.{signed}
 use Rattle.lists.specs.LittleEndian.{encode, decode, length-encode, decode-encode, encode-decode}
-use Rattle.lists.specs.Form.{times, whole, whole-read-back, whole-was-written}
+use Rattle.lists.specs.Form.{whole}
+use Rattle.lists.specs.FormLaws.{whole-read-back, whole-was-written}
+use Rattle.lists.specs.Formats.{times}
 use Rattle.lists.specs.Checks.{Passed}
 use Rattle.filesystem.specs.Tables.{Node, Tables, noNode, noOpenFile, hasId, hasDescriptor, hasParent, nodeAt, present, findId, findDescriptor, children}
 use Rattle.filesystem.specs.Image.{sameId}

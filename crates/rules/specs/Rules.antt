@@ -16,7 +16,8 @@ use Rattle.lists.specs.Search.{without}
 use Rattle.lists.specs.Rearranged.{isRearranged}
 use Rattle.lists.specs.LittleEndian.{encode, decode}
 use Rattle.lists.specs.Signed.{signed}
-use Rattle.lists.specs.Form.{Form, num, then, text, times, whole}
+use Rattle.lists.specs.Form.{Form, whole}
+use Rattle.lists.specs.Formats.{num, then, text, times}
 use Rattle.lists.specs.Checks.{Check, decide}
 use Rattle.filesystem.specs.Tables.{NODES, OPEN-FILES, PAGES, PAGE-BYTES, FILE-BYTES, DESCRIPTORS, Node, OpenFile, Tables, isDirectory, hasBit, pageTotal, nodeAt, openAt, absent, present, findId, findHandle, findDescriptor, children, newNode, newOpenFile, setMode, setSize, setCursor}
 use Rattle.filesystem.specs.Rights.{covers}
