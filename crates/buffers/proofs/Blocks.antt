@@ -10,7 +10,7 @@ use lib.Seq.{take-add, take-suc, take-suc-set, drop-drop, getD-drop, length-take
 use Rattle.lists.specs.All.{Bytes, all-take, all-drop}
 use Rattle.lists.specs.LittleEndian.{encode, decode, encode-decode}
 use Rattle.lists.specs.Parts.{part, overwrite}
-use Rattle.lists.specs.PartLaws.{length-part, length-overwrite, part-before, part-after, overwrite-behind, overwrite-snoc, parted, overwrite-next}
+use Rattle.lists.specs.PartLaws.{length-part, length-overwrite, part-before, part-after, overwrite-behind, parted, overwrite-next}
 
 module _ {A : Type 0} where
   pub part-add : (l : List A) (from i k : ℕ) → part from (i + k) l ≡ part from i l ++ part (from + i) k l
@@ -18,7 +18,8 @@ module _ {A : Type 0} where
   part-add l from i k = rw (take-add i k (drop from l), drop-drop i from l)
 
   -- one that ends where another begins
-  pub overwrite-last : (l : List A) (at : ℕ) (x y : List A) (k : ℕ) → k ≡ at + length x → k ≤ length l → overwrite (overwrite l k y) at x ≡ overwrite l at (x ++ y)
+  pub overwrite-last : (l : List A) (at : ℕ) (x y : List A) (k : ℕ) → k ≡ at + length x → k ≤ length l
+      → overwrite (overwrite l k y) at x ≡ overwrite l at (x ++ y)
   overwrite-last l at x y k e h =
       let p : length (take at l) ≡ at = length-take-le at l (omega arith) in
       let q : length (take (length x) (drop at l)) ≡ length x = length-take-le (length x) (drop at l) (rw (length-drop at l) (omega arith)) in
@@ -44,24 +45,22 @@ module _ {A : Type 0} where
       rw (part-before l (to + i) (part (from + i) (n - i) l) (from + (i - k)) k (omega arith) (omega arith), a, part-add l (from + (i - k)) k (n - i), b)
       (overwrite-last l (to + (i - k)) (part (from + (i - k)) k l) (part (from + i) (n - i) l) (to + i) (omega arith) (omega arith))
 
-  -- one element more of a part that is read, and of a list that is written
-  pub read-next : (d : A) (b l : List A) (at i : ℕ) → i < length b → at + i < length l → take i b ≡ part at i l → take (i + 1) (set b i (getD l (at + i) d)) ≡ part at (i + 1) l
+  -- one element more of a part that is read
+  pub read-next : (d : A) (b l : List A) (at i : ℕ) → i < length b → at + i < length l → take i b ≡ part at i l
+      → take (i + 1) (set b i (getD l (at + i) d)) ≡ part at (i + 1) l
   unfolding part
   read-next d b l at i h f e =
       rw (add-one i, take-suc-set b i (getD l (at + i) d) h, e, take-suc (drop at l) i d (rw (length-drop at l) (omega arith)), getD-drop at l i d)
 
-  pub write-next : (d : A) (l x : List A) (at i : ℕ) → i < length x → at + i < length l → set (overwrite l at (take i x)) (at + i) (getD x i d) ≡ overwrite l at (take (i + 1) x)
-  write-next d l x at i h f =
-      let n : length (take i x) ≡ i = length-take-le i x (omega arith) in
-      rw (add-one i, take-suc x i d h) (rw n at (overwrite-snoc d l at (take i x) (getD x i d) (omega arith)))
-
-  pub block-next : (l x : List A) (at i k : ℕ) → i + k ≤ length x → at + i ≤ length l → overwrite (overwrite l at (take i x)) (at + i) (part i k x) ≡ overwrite l at (take (i + k) x)
+  pub block-next : (l x : List A) (at i k : ℕ) → i + k ≤ length x → at + i ≤ length l
+      → overwrite (overwrite l at (take i x)) (at + i) (part i k x) ≡ overwrite l at (take (i + k) x)
   unfolding part
   block-next l x at i k h f =
       let n : length (take i x) ≡ i = length-take-le i x (omega arith) in
       rw (take-add i k x) (overwrite-next l at (take i x) (take k (drop i x)) (at + i) (omega arith) (omega arith))
 
-  pub rest-next : (l x : List A) (at i : ℕ) → i ≤ length x → at + i ≤ length l → overwrite (overwrite l at (take i x)) (at + i) (take (length x - i) (drop i x)) ≡ overwrite l at x
+  pub rest-next : (l x : List A) (at i : ℕ) → i ≤ length x → at + i ≤ length l
+      → overwrite (overwrite l at (take i x)) (at + i) (take (length x - i) (drop i x)) ≡ overwrite l at x
   rest-next l x at i h f =
       let n : length (take i x) ≡ i = length-take-le i x h in
       let r : take (length x - i) (drop i x) ≡ drop i x = rw (← length-drop i x) (take-length (drop i x)) in
@@ -73,12 +72,14 @@ module _ {A : Type 0} where
       let p : length (take k l) ≡ k = length-take-le k l f in
       let e : length y ≡ length z + (length y - length z) = omega arith in
       let g : k + length z + (length y - length z) ≡ k + length y = omega arith in
-      let d : drop (length y) (z ++ drop (k + length z) l) ≡ drop (k + length y) l = ap (λ (j : ℕ). drop j (z ++ drop (k + length z) l)) e ∙ drop-append-add z (drop (k + length z) l) (length y - length z) ∙ drop-drop (length y - length z) (k + length z) l ∙ rw g in
+      let d : drop (length y) (z ++ drop (k + length z) l) ≡ drop (k + length y) l = ap (λ (j : ℕ). drop j (z ++ drop (k + length z) l)) e
+      ∙ drop-append-add z (drop (k + length z) l) (length y - length z) ∙ drop-drop (length y - length z) (k + length z) l ∙ rw g in
       rw (parted l k z, append-assoc (take k l) z (drop (k + length z) l), overwrite-behind (take k l) (z ++ drop (k + length z) l) y k p, d, parted l k y)
       (sym (append-assoc (take k l) y (drop (k + length y) l)))
 
   -- the first k and the last k of up to twice as many
-  pub both-ends : (l x : List A) (at j k : ℕ) → j + k ≡ length x → j ≤ k → at + length x ≤ length l → overwrite (overwrite l at (part 0 k x)) (at + j) (part j k x) ≡ overwrite l at x
+  pub both-ends : (l x : List A) (at j k : ℕ) → j + k ≡ length x → j ≤ k → at + length x ≤ length l
+      → overwrite (overwrite l at (part 0 k x)) (at + j) (part j k x) ≡ overwrite l at x
   unfolding part
   both-ends l x at j k e h f =
       let n : length (take j x) ≡ j = length-take-le j x (omega arith) in

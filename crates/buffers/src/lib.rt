@@ -11,6 +11,7 @@ fn same_bytes(a: &[u8], b: &[u8]) -> bool
     ensures { λ r. ⌜ r ≡ equal (now (a .entry)) (now (b .entry)) ⌝ }
 {
     let mut i = 0;
+    // the first i bytes are alike
     while i < a.len() {
         if a[i] != b[i] {
             return false;
@@ -30,6 +31,7 @@ fn same_words(a: &[u8], b: &[u8]) -> bool
         return false;
     }
     let mut i = 0;
+    // the first i bytes are alike, and the last eight
     while i < last {
         if numbers::u64_at(a, i) != numbers::u64_at(b, i) {
             return false;
@@ -74,6 +76,7 @@ fn block_at(m: &[u8], at: usize) -> [u8; 128]
 {
     let mut b: [u8; 128] = [0; 128];
     let mut i = 0;
+    // b's first i bytes are m's from `at` on
     while i < 128 {
         b[i] = m[at + i];
         i += 1;
@@ -86,6 +89,7 @@ fn put_block(m: &mut [u8], at: usize, b: [u8; 128])
     ensures { λ _. ⌜ now (m .exit) ≡ overwrite (now (m .entry)) at b ⌝ }
 {
     let mut i = 0;
+    // b's first i bytes are written
     while i < 128 {
         m[at + i] = b[i];
         i += 1;
@@ -137,6 +141,7 @@ fn put_blocks(m: &mut [u8], at: usize, x: &[u8])
 {
     let blocks = x.len() / 128;
     let mut i = 0;
+    // x's first i blocks are written
     while i < blocks {
         let b = block_at(x, 128 * i);
         put_block(m, at + 128 * i, b);
@@ -168,6 +173,7 @@ fn bytes_down(m: &mut [u8], from: usize, to: usize, n: usize)
     ensures { λ _. ⌜ now (m .exit) ≡ overwrite (now (m .entry)) to (part from n (now (m .entry))) ⌝ }
 {
     let mut i = 0;
+    // the first i bytes are moved
     while i < n {
         m[to + i] = m[from + i];
         i += 1;
@@ -180,6 +186,7 @@ fn shift_down(m: &mut [u8], from: usize, to: usize, n: usize)
 {
     let blocks = n / 128;
     let mut i = 0;
+    // the first i blocks are moved
     while i < blocks {
         let b = block_at(m, from + 128 * i);
         put_block(m, to + 128 * i, b);
@@ -194,6 +201,7 @@ fn bytes_up(m: &mut [u8], from: usize, to: usize, n: usize)
     ensures { λ _. ⌜ now (m .exit) ≡ overwrite (now (m .entry)) to (part from n (now (m .entry))) ⌝ }
 {
     let mut i = n;
+    // the bytes from i on are moved
     while 0 < i {
         i -= 1;
         m[to + i] = m[from + i];
@@ -205,6 +213,7 @@ fn shift_up(m: &mut [u8], from: usize, to: usize, n: usize)
     ensures { λ _. ⌜ now (m .exit) ≡ overwrite (now (m .entry)) to (part from n (now (m .entry))) ⌝ }
 {
     let mut i = n;
+    // the bytes from i on are moved
     while 128 <= i {
         i -= 128;
         let b = block_at(m, from + i);

@@ -33,6 +33,7 @@ pub fn absorb(s: State, blocks: &[u8]) -> State
     let n = blocks.len() / 64;
     let mut h = s;
     let mut i = 0;
+    // h is the hash value after i blocks
     while i < n {
         h = compression::next_hash(h, blocks, 64 * i);
         i += 1;

@@ -13,6 +13,7 @@ fn rest_of(m: &[u8]) -> [u8; 128]
     let rest = m.len() % 64;
     let mut t = [0u8; 128];
     let mut k = 0;
+    // t has k of the message's last bytes, zeros behind
     while k < rest {
         t[k] = m[whole + k];
         k += 1;
@@ -35,6 +36,7 @@ fn with_length(t: [u8; 128], i: usize, n: usize) -> [u8; 128]
 {
     let mut r = t;
     let mut j = 0;
+    // j bytes of the length are put
     while j < 8 {
         r[i + j] = length_byte(n, j);
         j += 1;

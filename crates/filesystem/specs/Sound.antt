@@ -51,7 +51,12 @@ to-limits w n e =
     let e₁ = and-snd (not (eqb (n .id) 0)) _ e in
     let e₂ = and-snd (ltb (n .id) (256 ^ w)) _ e₁ in
     let d = eqb-false (n .id) 0 (not-true _ (and-fst _ _ e)) in
-    record { id-some = omega arith; id-fits = ltb-true _ _ (and-fst _ _ e₁); mode-fits = leb-true _ _ (and-fst _ _ e₂); kind-size = and-snd (leb (n .mode) 7) _ e₂ }
+    record {
+      id-some = omega arith;
+      id-fits = ltb-true _ _ (and-fst _ _ e₁);
+      mode-fits = leb-true _ _ (and-fst _ _ e₂);
+      kind-size = and-snd (leb (n .mode) 7) _ e₂;
+    }
 
 pub of-limits : (w : ℕ) (n : Node) → Limits w n → inLimits w n ≡ true
 unfolding inLimits
@@ -71,9 +76,12 @@ by-kind C {n = n} l f g =
     or-ind false b e f g = g e
 
 -- a node with an id is found where no other has it
-pub findId-only : (ns : List Node) (j : ℕ) → j < length ns → ((i : ℕ) → i < length ns → nodeAt ns i .id ≡ nodeAt ns j .id → i ≡ j) → findId ns (nodeAt ns j .id) ≡ j
+pub findId-only : (ns : List Node) (j : ℕ) → j < length ns → ((i : ℕ) → i < length ns → nodeAt ns i .id ≡ nodeAt ns j .id → i ≡ j)
+    → findId ns (nodeAt ns j .id) ≡ j
 unfolding findId nodeAt
-findId-only ns j h only = place-only (hasId (nodeAt ns j .id)) noNode ns j h (eq-eqb (nodeAt ns j .id) (nodeAt ns j .id) refl) (λ i l e. only i l (eqb-true (nodeAt ns i .id) (nodeAt ns j .id) e))
+findId-only ns j h only =
+    place-only (hasId (nodeAt ns j .id)) noNode ns j h (eq-eqb (nodeAt ns j .id) (nodeAt ns j .id) refl)
+    (λ i l e. only i l (eqb-true (nodeAt ns i .id) (nodeAt ns j .id) e))
 
 pub nodeAt-append : (ns ms : List Node) (k : ℕ) → k < length ns → nodeAt (ns ++ ms) k ≡ nodeAt ns k
 unfolding nodeAt
@@ -94,7 +102,8 @@ unfolding findId nodeAt
 findId-has ns x h = eqb-true _ x (place-passes (hasId x) ns noNode h)
 
 -- the same parent for another node in another list
-pub parent-moved : {ns ms : List Node} {n m : Node} {j i : ℕ} → nodeAt ms i .id ≡ nodeAt ns j .id → nodeAt ms i .kind ≡ nodeAt ns j .kind → n .parent ≡ m .parent
+pub parent-moved : {ns ms : List Node} {n m : Node} {j i : ℕ} → nodeAt ms i .id ≡ nodeAt ns j .id → nodeAt ms i .kind ≡ nodeAt ns j .kind
+    → n .parent ≡ m .parent
     → ParentAt ns n j → ParentAt ms m i
 parent-moved e k p q = record { is-parent = e ∙ (q .is-parent ∙ p); is-directory = ap (λ x. eqb x 2) k ∙ q .is-directory }
 
@@ -155,7 +164,8 @@ to-sound w (r ∷ ns) e =
       root-first = and-fst (isRoot r) _ e;
       limits = λ k h. every-at (inLimits w) noNode all k (and-fst _ _ e₂) h;
       names = λ k p h. named (and-fst _ _ e₃) k p h;
-      ids = λ i j h l q. unique-same sameId noNode (λ x y t. eq-eqb (y .id) (x .id) (sym (eqb-true (x .id) (y .id) t))) all i j (and-fst _ _ e₄) h l (eq-eqb _ _ q);
+      ids =
+          λ i j h l q. unique-same sameId noNode (λ x y t. eq-eqb (y .id) (x .id) (sym (eqb-true (x .id) (y .id) t))) all i j (and-fst _ _ e₄) h l (eq-eqb _ _ q);
       siblings = λ i j h l q t. unique-same sameChild noNode sameChild-sym all i j (and-fst _ _ e₅) h l (and-both _ _ (eq-eqb _ _ q) (equal-yes _ _ t));
       parents = λ k p h. earlier (and-fst _ _ e₆) k p h;
       paths = λ k h. leb-true _ _ (every-at (λ n. leb (pathLength all n) PATH-BYTES) noNode all k (and-fst _ _ e₇) h);
@@ -186,7 +196,8 @@ of-sound w (r ∷ ns) s =
     (and-both _ _ (at-every isNamed noNode ns (λ k h. s .names (suc k) (omega arith) (omega arith)))
     (and-both _ _ (same-unique sameId noNode all (λ i j h l t. s .ids i j h l (eqb-true (nodeAt all i .id) (nodeAt all j .id) t)))
     (and-both _ _ (same-unique sameChild noNode all (λ i j h l t.
-    s .siblings i j h l (eqb-true (nodeAt all i .parent) (nodeAt all j .parent) (and-fst _ _ t)) (equal-true _ _ (and-snd (eqb (nodeAt all i .parent) (nodeAt all j .parent)) _ t))))
+    s .siblings i j h l (eqb-true (nodeAt all i .parent) (nodeAt all j .parent) (and-fst _ _ t))
+    (equal-true _ _ (and-snd (eqb (nodeAt all i .parent) (nodeAt all j .parent)) _ t))))
     (and-both _ _ (at-earlier (r ∷ []) ns (s .ids) (λ k h. let (j, l, q) = s .parents (suc k) (omega arith) (omega arith) in (j, omega arith, q)))
     (and-both _ _ (at-every (λ n. leb (pathLength all n) PATH-BYTES) noNode all (λ k h. le-leb _ _ (s .paths k h)))
     (le-leb _ _ (s .pages)))))))))
@@ -202,7 +213,8 @@ module _ (w : ℕ) (ns : List Node) (s : Sound w ns) where
   root-parent = eqb-true _ _ (and-fst _ _ (and-snd (eqb (nodeAt ns 0 .kind) 2) _ (and-snd (eqb (nodeAt ns 0 .id) 1) _ (s .root-first))))
 
   pub root-name : nodeAt ns 0 .name ≡ []
-  root-name = equal-true _ _ (and-snd (eqb (nodeAt ns 0 .parent) 0) _ (and-snd (eqb (nodeAt ns 0 .kind) 2) _ (and-snd (eqb (nodeAt ns 0 .id) 1) _ (s .root-first))))
+  root-name =
+      equal-true _ _ (and-snd (eqb (nodeAt ns 0 .parent) 0) _ (and-snd (eqb (nodeAt ns 0 .kind) 2) _ (and-snd (eqb (nodeAt ns 0 .id) 1) _ (s .root-first))))
 
   -- a parent is an id too, or 0
   pub parent-fits : (k : ℕ) → k < length ns → nodeAt ns k .parent < 256 ^ w

@@ -26,7 +26,8 @@ module _ (w : ℕ) (before : List Node) (lengths : List ℕ) (x : Node) where
 
   pub admit-name : isNamed x ≡ false → 256 ≡ admit w before lengths x
   unfolding admit
-  admit-name e = refused _ (ap (λ (b : Bool). inLimits w x && (b && (not (any (clash x) before) && ltb (place (isParent x) before) (length before)))) e ∙ and-false (inLimits w x))
+  admit-name e =
+      refused _ (ap (λ (b : Bool). inLimits w x && (b && (not (any (clash x) before) && ltb (place (isParent x) before) (length before)))) e ∙ and-false (inLimits w x))
 
   pub admit-clash : any (clash x) before ≡ true → 256 ≡ admit w before lengths x
   unfolding admit
@@ -54,7 +55,8 @@ module _ (w : ℕ) (before : List Node) (lengths : List ℕ) (x : Node) where
       same : (t : Bool) → t ≡ (inLimits w x && (isNamed x && (not (any (clash x) before) && ltb (place (isParent x) before) (length before))))
           → pick t (suc (length (x .name)) + getD (take i lengths) (place (isParent x) before) 0) (suc PATH-BYTES) ≡ pick t (suc (length (x .name)) + getD lengths (place (isParent x) before) 0) (suc PATH-BYTES)
       same true q =
-          let l = ltb-true (place (isParent x) before) (length before) (and-snd (not (any (clash x) before)) _ (and-snd (isNamed x) _ (and-snd (inLimits w x) _ (sym q)))) in
+          let l = ltb-true (place (isParent x) before) (length before)
+          (and-snd (not (any (clash x) before)) _ (and-snd (isNamed x) _ (and-snd (inLimits w x) _ (sym q)))) in
           ap (λ (n : ℕ). pick true (suc (length (x .name)) + n) (suc PATH-BYTES)) (getD-take i lengths (place (isParent x) before) 0 (omega arith))
       same false q = pick-false false _ _ refl ∙ sym (pick-false false _ _ refl)
 

@@ -88,6 +88,7 @@ fn records_end(image: &[u8], n: usize) -> usize
 {
     let mut at = 4;
     let mut i = 0;
+    // i records end at `at`, within the image
     while i < n {
         if image.len() - at < FRONT {
             return 0;
@@ -134,6 +135,7 @@ fn is_plain(name: &[u8]) -> bool
     ensures { λ r. ⌜ r ≡ every plainByte (now (name .entry)) ⌝ }
 {
     let mut i = 0;
+    // the first i bytes are plain
     while i < name.len() {
         if name[i] == 0 {
             return false;
@@ -226,6 +228,7 @@ fn clashes(image: &[u8], at: usize, i: usize) -> bool
 {
     let mut a = 4;
     let mut seen = 0;
+    // no record before `a` clashes
     while seen < i {
         if is_clash(image, a, at) {
             return true;
@@ -255,6 +258,7 @@ fn parent_place(image: &[u8], at: usize, i: usize) -> usize
     let id = record_parent(image, at);
     let mut a = 4;
     let mut k = 0;
+    // no record before `a` is the parent
     while k < i {
         if is_parent(image, a, id) {
             return k;
@@ -295,6 +299,7 @@ fn all_admitted(image: &[u8], n: usize, lengths: &mut [u8]) -> bool
     lengths[0] = 0;
     let mut at = record_end(image, 4);
     let mut i = 1;
+    // i records are admitted, with the lengths of their paths
     while i < n {
         let l = admission(image, at, i, lengths);
         if limits::PATH_BYTES < l {
@@ -315,6 +320,7 @@ fn page_sum(image: &[u8], n: usize) -> usize
     let mut at = 4;
     let mut total: usize = 0;
     let mut i = 0;
+    // `total` pages in the i records before `at`
     while i < n {
         total += tables::pages_for(record_size(image, at));
         at = record_end(image, at);
@@ -391,6 +397,7 @@ fn load_records(image: &[u8], n: usize, m: &mut [u8]) -> usize
 {
     let mut at = 4;
     let mut i = 0;
+    // the i records before `at` are loaded
     while i < n {
         load_record(image, at, m, i);
         at = record_end(image, at);

@@ -43,11 +43,13 @@ module _ (m : List ℕ) (n : ℕ) (h : n ≤ NODES) where
   unfolding pageTotal
   pages-in i l = ap pageTotal (rest-in i l)
 
-  pub records-in : (w i : ℕ) → i < n → recordsLength w (drop i (nodesIn n m)) ≡ recordLength w (nodeAt (memOf m .nodes) i) + recordsLength w (drop (i + 1) (nodesIn n m))
+  pub records-in : (w i : ℕ) → i < n
+      → recordsLength w (drop i (nodesIn n m)) ≡ recordLength w (nodeAt (memOf m .nodes) i) + recordsLength w (drop (i + 1) (nodesIn n m))
   unfolding recordsLength
   records-in w i l = ap (recordsLength w) (rest-in i l)
 
-  pub put-in : (w i : ℕ) → i < n → put-all (nodeForm w) (drop i (nodesIn n m)) ≡ nodeForm w .put (nodeAt (memOf m .nodes) i) ++ put-all (nodeForm w) (drop (i + 1) (nodesIn n m))
+  pub put-in : (w i : ℕ) → i < n
+      → put-all (nodeForm w) (drop i (nodesIn n m)) ≡ nodeForm w .put (nodeAt (memOf m .nodes) i) ++ put-all (nodeForm w) (drop (i + 1) (nodesIn n m))
   unfolding put-all
   put-in w i l = ap (put-all (nodeForm w)) (rest-in i l)
 
@@ -72,7 +74,8 @@ pub length-record : (w : ℕ) (n : Node) → length (nodeForm w .put n) ≡ reco
 unfolding nodeForm
 length-record w n = simp (length-append, length-encode) (omega arith)
 
-pub record-parts : (w : ℕ) (n : Node) → nodeForm w .put n ≡ encode w (n .id) ++ (encode w (n .parent) ++ (middle (n .kind) (n .mode) (n .size) (length (n .name)) ++ n .name))
+pub record-parts : (w : ℕ) (n : Node)
+    → nodeForm w .put n ≡ encode w (n .id) ++ (encode w (n .parent) ++ (middle (n .kind) (n .mode) (n .size) (length (n .name)) ++ n .name))
 unfolding nodeForm middle
 record-parts w n = simp append-assoc
 
@@ -89,12 +92,15 @@ record-written l at w n h =
     let n₂ : length (a ++ b) ≡ 2 * w = length-append a b ∙ omega arith in
     let n₃ : length ((a ++ b) ++ c) ≡ 2 * w + 7 = length-append (a ++ b) c ∙ omega arith in
     let z : at + 2 * w + 7 ≡ at + length ((a ++ b) ++ c) = omega arith in
-    let t : overwrite (overwrite l at (a ++ b)) (at + 2 * w) c ≡ overwrite l at ((a ++ b) ++ c) = overwrite-next l at (a ++ b) c (at + 2 * w) (omega arith) (omega arith) in
-    let u : overwrite (overwrite l at ((a ++ b) ++ c)) (at + 2 * w + 7) (n .name) ≡ overwrite l at (((a ++ b) ++ c) ++ n .name) = overwrite-next l at ((a ++ b) ++ c) (n .name) (at + 2 * w + 7) z (omega arith) in
+    let t : overwrite (overwrite l at (a ++ b)) (at + 2 * w) c ≡ overwrite l at ((a ++ b) ++ c) = overwrite-next l at (a ++ b) c (at + 2 * w)
+    (omega arith) (omega arith) in
+    let u : overwrite (overwrite l at ((a ++ b) ++ c)) (at + 2 * w + 7) (n .name) ≡ overwrite l at (((a ++ b) ++ c) ++ n .name) = overwrite-next l at
+    ((a ++ b) ++ c) (n .name) (at + 2 * w + 7) z (omega arith) in
     ap (λ (o : List ℕ). overwrite o (at + 2 * w + 7) (n .name)) t ∙ u
     ∙ ap (overwrite l at) (append-assoc (a ++ b) c (n .name) ∙ append-assoc a b (c ++ n .name) ∙ sym (record-parts w n))
 
-pub ids-written : (l : List ℕ) (at w i p : ℕ) → at ≤ length l → overwrite (overwrite l at (encode w i)) (at + w) (encode w p) ≡ overwrite l at (encode w i ++ encode w p)
+pub ids-written : (l : List ℕ) (at w i p : ℕ) → at ≤ length l
+    → overwrite (overwrite l at (encode w i)) (at + w) (encode w p) ≡ overwrite l at (encode w i ++ encode w p)
 ids-written l at w i p h = overwrite-next l at (encode w i) (encode w p) (at + w) (rw (length-encode w i)) h
 
 pub made : {k k′ m m′ s s′ n n′ : ℕ} → k ≡ k′ → m ≡ m′ → s ≡ s′ → n ≡ n′ → middle k m s n ≡ middle k′ m′ s′ n′
@@ -111,13 +117,15 @@ record-made l at w x h e₁ e₂ e₃ p q r t =
     e₃ ∙ ap₂ (λ (o s : List ℕ). overwrite o (at + 2 * w + 7) s) g₂ t ∙ record-written l at w x h
 
 -- The image in four parts.
-pub print-parts : (w : ℕ) (ns : List Node) (ds : List (List ℕ)) → print w (ns, ds) ≡ (encode 4 (length ns) ++ put-all (nodeForm w) ns) ++ (encode 4 (length ds) ++ put-all (bytes 32) ds)
+pub print-parts : (w : ℕ) (ns : List Node) (ds : List (List ℕ))
+    → print w (ns, ds) ≡ (encode 4 (length ns) ++ put-all (nodeForm w) ns) ++ (encode 4 (length ds) ++ put-all (bytes 32) ds)
 unfolding print imageForm
 print-parts w ns ds = refl
 
 -- Records one after another: what remains to be written.
 module _ (m : List ℕ) (n : ℕ) (h : n ≤ NODES) (w i : ℕ) where
-  pub record-next : i < n → (l : List ℕ) (at : ℕ) → at ≤ length l → {l′ : List ℕ} {at′ : ℕ} → l′ ≡ overwrite l at (nodeForm w .put (nodeAt (memOf m .nodes) i)) → at′ ≡ at + recordLength w (nodeAt (memOf m .nodes) i)
+  pub record-next : i < n → (l : List ℕ) (at : ℕ) → at ≤ length l → {l′ : List ℕ} {at′ : ℕ}
+      → l′ ≡ overwrite l at (nodeForm w .put (nodeAt (memOf m .nodes) i)) → at′ ≡ at + recordLength w (nodeAt (memOf m .nodes) i)
       → overwrite l′ at′ (put-all (nodeForm w) (drop (i + 1) (nodesIn n m))) ≡ overwrite l at (put-all (nodeForm w) (drop i (nodesIn n m)))
   record-next b l at f e g =
       let x = nodeForm w .put (nodeAt (memOf m .nodes) i) in
@@ -151,6 +159,7 @@ module _ (w n : ℕ) (l m : List ℕ) (at behind pages : ℕ) (d : List ℕ) (h 
       let b : length records ≡ recordsLength w (nodesIn n m) = length-records w (nodesIn n m) in
       let c : length (encode 4 pages) ≡ 4 = length-encode 4 pages in
       let g : length ((encode 4 n ++ records) ++ (encode 4 pages ++ d)) ≡ 8 + length records + length d = simp length-append (omega arith) in (
-        e₄ ∙ rw (e₃, e₂, e₁, as-parts) (four-parts l at (encode 4 n) records (encode 4 pages) d (at + 4) behind (behind + 4) (omega arith) (omega arith) (omega arith) fits),
+        e₄ ∙ rw (e₃, e₂, e₁, as-parts)
+            (four-parts l at (encode 4 n) records (encode 4 pages) d (at + 4) behind (behind + 4) (omega arith) (omega arith) (omega arith) fits),
         rw as-parts (omega arith),
       )

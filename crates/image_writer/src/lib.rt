@@ -24,6 +24,7 @@ fn records_length(m: &[u8], n: usize) -> usize
 {
     let mut total: usize = 0;
     let mut i = 0;
+    // `total` bytes in the first i records
     while i < n {
         let name = memory::node_name(m, i);
         total += 2 * ID_BYTES + 7 + name.len();
@@ -91,6 +92,7 @@ pub fn write_records(m: &[u8], n: usize, out: &mut [u8], at: usize) -> usize
 {
     let mut next = at;
     let mut i = 0;
+    // the first i records stand before `next`
     while i < n {
         next = write_record(m, i, out, next);
         i += 1;

@@ -56,7 +56,8 @@ module _ {A : Type 0} where
       ∙ rw (drop-append-add (take at l) (x ++ drop (at + length x) l) (length x + (a - (at + length x))), drop-append-add x (drop (at + length x) l) (a - (at + length x)), drop-drop (a - (at + length x)) (at + length x) l, g)
 
   -- a part that holds the overwritten one is overwritten
-  within : (l : List A) (x : List A) (a b c : ℕ) → a + (b + length x + c) ≤ length l → part a (b + length x + c) (overwrite l (a + b) x) ≡ overwrite (part a (b + length x + c) l) b x
+  within : (l : List A) (x : List A) (a b c : ℕ) → a + (b + length x + c) ≤ length l
+      → part a (b + length x + c) (overwrite l (a + b) x) ≡ overwrite (part a (b + length x + c) l) b x
   unfolding part overwrite
   within l x a b c f =
       let p : length (take (a + b) l) ≡ a + b = length-take-le (a + b) l (omega arith) in
@@ -66,7 +67,8 @@ module _ {A : Type 0} where
       (ap (λ (j : ℕ). take j (take b (drop a l) ++ (x ++ drop (a + b + length x) l))) e
       ∙ rw (take-append-add (take b (drop a l)) (x ++ drop (a + b + length x) l) (length x + c), take-append-add x (drop (a + b + length x) l) c, take-take b (b + length x + c) (drop a l) (omega arith), drop-take (b + length x) c (drop a l), drop-drop (b + length x) a l, add-assoc a b (length x)))
 
-  pub part-within : (l : List A) (at : ℕ) (x : List A) (a n b : ℕ) → at ≡ a + b → b + length x ≤ n → a + n ≤ length l → part a n (overwrite l at x) ≡ overwrite (part a n l) b x
+  pub part-within : (l : List A) (at : ℕ) (x : List A) (a n b : ℕ) → at ≡ a + b → b + length x ≤ n → a + n ≤ length l
+      → part a n (overwrite l at x) ≡ overwrite (part a n l) b x
   part-within l at x a n b e h f =
       let g : n ≡ b + length x + (n - (b + length x)) = omega arith in
       rw (e, g) (within l x a b (n - (b + length x)) (omega arith))
@@ -85,7 +87,8 @@ module _ {A : Type 0} where
       rw (m, take-take b (b + length x + c) (drop a l) (omega arith), drop-take (b + length x) c (drop a l), drop-drop (b + length x) a l, take-add a b l, e, g, ← drop-drop c (a + b + length x) l)
       (joined (take a l) (take b (drop a l)) x (drop (a + b + length x) l) c)
 
-  pub overwrite-part : (l : List A) (a n b : ℕ) (x : List A) → b + length x ≤ n → a + n ≤ length l → overwrite l (a + b) x ≡ overwrite l a (overwrite (part a n l) b x)
+  pub overwrite-part : (l : List A) (a n b : ℕ) (x : List A) → b + length x ≤ n → a + n ≤ length l
+      → overwrite l (a + b) x ≡ overwrite l a (overwrite (part a n l) b x)
   overwrite-part l a n b x h f =
       let g : n ≡ b + length x + (n - (b + length x)) = omega arith in
       rw g (deeper l x a b (n - (b + length x)) (omega arith))
@@ -109,7 +112,8 @@ module _ {A : Type 0} where
   unfolding overwrite
   parted l at x = sym (append-assoc (take at l) x (drop (at + length x) l))
 
-  pub overwrite-next : (l : List A) (at : ℕ) (x y : List A) (k : ℕ) → k ≡ at + length x → at ≤ length l → overwrite (overwrite l at x) k y ≡ overwrite l at (x ++ y)
+  pub overwrite-next : (l : List A) (at : ℕ) (x y : List A) (k : ℕ) → k ≡ at + length x → at ≤ length l
+      → overwrite (overwrite l at x) k y ≡ overwrite l at (x ++ y)
   overwrite-next l at x y k e h =
       let p : length (take at l ++ x) ≡ k = length-append (take at l) x ∙ rw (length-take-le at l h) (sym e) in
       rw (parted l at x, overwrite-behind (take at l ++ x) (drop (at + length x) l) y k p, drop-drop (length y) (at + length x) l, parted l at (x ++ y), length-append x y, ← add-assoc at (length x) (length y))
@@ -130,7 +134,8 @@ module _ {A : Type 0} (d : A) where
       let z : k + 0 ≡ k = add-zero k in
       rw z at (sym (getD-part k 1 0 (overwrite l at x) d (omega arith)) ∙ ap (λ (r : List A). getD r 0 d) e ∙ getD-part k 1 0 l d (omega arith))
 
-  pub overwrite-snoc : (l : List A) (at : ℕ) (x : List A) (v : A) → at + length x < length l → set (overwrite l at x) (at + length x) v ≡ overwrite l at (x ++ (v ∷ []))
+  pub overwrite-snoc : (l : List A) (at : ℕ) (x : List A) (v : A) → at + length x < length l
+      → set (overwrite l at x) (at + length x) v ≡ overwrite l at (x ++ (v ∷ []))
   unfolding overwrite
   overwrite-snoc l at x v h =
       let p : length (take at l ++ x) ≡ at + length x = length-append (take at l) x ∙ rw (length-take-le at l (omega arith)) in

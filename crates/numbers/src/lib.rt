@@ -100,6 +100,7 @@ pub fn number_at(b: &[u8], at: usize, w: usize) -> u64
 {
     let mut x: u64 = 0;
     let mut i = w;
+    // x is the number in the bytes from i on
     while 0 < i {
         i -= 1;
         x = x * 256 + wide(b[at + i]);
@@ -114,6 +115,7 @@ pub fn put_number(m: &mut [u8], at: usize, w: usize, x: u64)
 {
     let mut y = x;
     let mut i = 0;
+    // i bytes are written, y is what is left of x
     while i < w {
         m[at + i] = (y % 256) as u8;
         y = y / 256;

@@ -183,7 +183,8 @@ module _ (t : Tables) (s : List ℕ) (h : 0 < length (t .nodes)) where
       parts : (p : Path) → componentsOf s ≡ p → Passed (parentChecks ns 0 p) → In (parentOf ns 0 p) (length s - length (lastOf p)) ≡ In d at → (p ≡ [] → ⊥)
           → placed ns s ≡ In d at
       parts [] q a i z = absurd (z refl)
-      parts (c ∷ cs) q a i z = unfold placed placedIn placedFrom in ap (placedIn ns (length s)) q ∙ decide-passed refusedPlace (parentChecks ns 0 (c ∷ cs)) _ a ∙ i
+      parts (c ∷ cs) q a i z =
+          unfold placed placedIn placedFrom in ap (placedIn ns (length s)) q ∙ decide-passed refusedPlace (parentChecks ns 0 (c ∷ cs)) _ a ∙ i
 
       there : (p : Path) → p ≡ [] → present ns (walk ns 0 p) ≡ false → ⊥
       there [] z f = let q : length ns ≤ 0 = leb-true (length ns) 0 (not-false _ (unfold walk in f)) in omega arith

@@ -153,7 +153,8 @@ module _ (t : Tables) (s : List ℕ) where
   unfolding nodeFor callChecks
   stat-first b e = go (sym (judged-decide refusedNode s _ _) ∙ e)
     where
-      go : decide refusedNode (formCheck s ∷ reach t (componentsOf s)) (node (walk (t .nodes) 0 (componentsOf s))) ≡ refusedNode b → First b (formCheck s ∷ reach t (componentsOf s))
+      go : decide refusedNode (formCheck s ∷ reach t (componentsOf s)) (node (walk (t .nodes) 0 (componentsOf s))) ≡ refusedNode b
+          → First b (formCheck s ∷ reach t (componentsOf s))
       go =
           decide-ind refusedNode (λ r. r ≡ refusedNode b → First b (formCheck s ∷ reach t (componentsOf s))) (formCheck s ∷ reach t (componentsOf s)) _
           (λ n f e. let q : n ≡ b = cc in subst (λ (j : ℕ). First j (formCheck s ∷ reach t (componentsOf s))) q f)
@@ -184,7 +185,8 @@ module _ (t : Tables) (s : List ℕ) where
       → judged refusedNode (λ p. reach t p ++ more p) (λ p. node (walk (t .nodes) 0 p)) s ≡ node k → Reached t s k
   more-reached more k h e = go (sym (judged-decide refusedNode s _ _) ∙ e)
     where
-      go : decide refusedNode (formCheck s ∷ (reach t (componentsOf s) ++ more (componentsOf s))) (node (walk (t .nodes) 0 (componentsOf s))) ≡ node k → Reached t s k
+      go : decide refusedNode (formCheck s ∷ (reach t (componentsOf s) ++ more (componentsOf s))) (node (walk (t .nodes) 0 (componentsOf s))) ≡ node k
+          → Reached t s k
       go =
           decide-ind refusedNode (λ r. r ≡ node k → Reached t s k) (formCheck s ∷ (reach t (componentsOf s) ++ more (componentsOf s))) _
           (λ n f e. let z : _≡_ {A = ℕ} 0 1 = cc in absurd (omega arith))

@@ -73,7 +73,8 @@ module _ (ns : List Node) (n d : ℕ) (c : List ℕ) where
   unfolding placedFrom parentChecks searchNumber
   placed-absent x cs e h = three-stop refusedPlace _ _ _ _ _ e (le-leb _ _ h)
 
-  pub placed-on : (x : List ℕ) (cs : Path) → 0 ≡ searchNumber ns d → childAt ns d c < length ns → placedFrom ns n d (c ∷ x ∷ cs) ≡ placedFrom ns n (childAt ns d c) (x ∷ cs)
+  pub placed-on : (x : List ℕ) (cs : Path) → 0 ≡ searchNumber ns d → childAt ns d c < length ns
+      → placedFrom ns n d (c ∷ x ∷ cs) ≡ placedFrom ns n (childAt ns d c) (x ∷ cs)
   unfolding placedFrom parentChecks parentOf lastOf searchNumber
   placed-on x cs e h = three-pass refusedPlace _ _ _ _ _ e (lt-leb _ _ h)
 
@@ -92,7 +93,8 @@ module _ (ns : List Node) (s : List ℕ) (d at end : ℕ) (reach : end ≡ at + 
       go (c ∷ cs) some = placed-stop ns (length s) d c cs k e z
 
   module _ (more : end < length s) where
-    pub step-absent : 0 ≡ searchNumber ns d → length ns ≤ childAt ns d (take (end - at) (drop at s)) → placedFrom ns (length s) d (split (drop at s)) ≡ refusedPlace 2
+    pub step-absent : 0 ≡ searchNumber ns d → length ns ≤ childAt ns d (take (end - at) (drop at s))
+        → placedFrom ns (length s) d (split (drop at s)) ≡ refusedPlace 2
     step-absent e h = ap (placedFrom ns (length s) d) (first-part more) ∙ go (split (drop (end + 1) s)) (split-some (drop (end + 1) s))
       where
         go : (p : Path) → Some p → placedFrom ns (length s) d (take (end - at) (drop at s) ∷ p) ≡ refusedPlace 2
@@ -102,7 +104,8 @@ module _ (ns : List Node) (s : List ℕ) (d at end : ℕ) (reach : end ≡ at + 
         → placedFrom ns (length s) d (split (drop at s)) ≡ placedFrom ns (length s) (childAt ns d (take (end - at) (drop at s))) (split (drop (end + 1) s))
     step-on e h = ap (placedFrom ns (length s) d) (first-part more) ∙ go (split (drop (end + 1) s)) (split-some (drop (end + 1) s))
       where
-        go : (p : Path) → Some p → placedFrom ns (length s) d (take (end - at) (drop at s) ∷ p) ≡ placedFrom ns (length s) (childAt ns d (take (end - at) (drop at s))) p
+        go : (p : Path) → Some p
+            → placedFrom ns (length s) d (take (end - at) (drop at s) ∷ p) ≡ placedFrom ns (length s) (childAt ns d (take (end - at) (drop at s))) p
         go (c ∷ cs) some = placed-on ns (length s) d (take (end - at) (drop at s)) c cs e h
 
   -- the last
@@ -127,7 +130,8 @@ module _ (ns : List Node) (s : List ℕ) where
       go (c ∷ cs) some = unfold placedIn in refl
 
 -- a child of node d among the first n nodes
-pub child-front : (n : ℕ) (ns : List Node) (d id k : ℕ) (c : List ℕ) → d < n → id ≡ nodeAt ns d .id → k ≡ findChild (take n ns) id c → k ≡ childAt (take n ns) d c
+pub child-front : (n : ℕ) (ns : List Node) (d id k : ℕ) (c : List ℕ) → d < n → id ≡ nodeAt ns d .id → k ≡ findChild (take n ns) id c
+    → k ≡ childAt (take n ns) d c
 unfolding childAt
 child-front n ns d id k c h e q = q ∙ ap (λ (x : ℕ). findChild (take n ns) x c) (e ∙ sym (ap (λ (x : Node). x .id) (node-front n ns d h)))
 

@@ -92,6 +92,7 @@ fn slash_from(path: &[u8], at: usize) -> usize
     ensures { λ r. ⌜ (r ≡ at + place isSlash (drop at (now (path .entry)))) × (at ≤ r) × (r ≤ length (now (path .entry))) ⌝ }
 {
     let mut i = at;
+    // no slash from `at` to i
     while i < path.len() {
         if path[i] == 47 {
             return i;
@@ -109,6 +110,7 @@ fn part_end(path: &[u8], at: usize) -> usize
     ensures { λ r. ⌜ (r ≡ at + place isEnd (drop at (now (path .entry)))) × (at ≤ r) × (r ≤ length (now (path .entry))) ⌝ }
 {
     let mut i = at;
+    // no slash and no 0 from `at` to i
     while i < path.len() {
         if path[i] == 47 {
             return i;
@@ -159,6 +161,7 @@ fn parts_form(path: &[u8]) -> PathForm
     let mut long = limits::PATH_BYTES < path.len();
     let mut at = 1;
     let mut end = part_end(path, 1);
+    // the parts before `at` are names; `long` says whether one was long
     while end < path.len() {
         if path[end] == 0 {
             return PathForm::Malformed;
@@ -235,6 +238,7 @@ pub fn walk_parent(m: &[u8], n: usize, path: &[u8]) -> Placed
     let mut d = 0;
     let mut at = 1;
     let mut end = slash_from(path, 1);
+    // d is where the components before `at` lead
     while end < path.len() {
         let bar = search_number(m, n, d);
         if bar != 0 {

@@ -106,6 +106,7 @@ fn put_zeros(out: &mut [u8], at: usize, n: usize)
     ensures { λ _. ⌜ now (out .exit) ≡ overwrite (now (out .entry)) at (zeros n) ⌝ }
 {
     let mut i = 0;
+    // i zeros are written
     while i < n {
         out[at + i] = 0;
         i += 1;

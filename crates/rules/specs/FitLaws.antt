@@ -99,7 +99,8 @@ module _ (c : Config) (sk : Skeleton) (v : ValidTables (c .width) (sk .tables)) 
       (λ a b. absurd (eqb-false _ _ e a))
 
   -- an open file, found by its handle
-  handle-opened : (h : ℕ) → findHandle os h < length os → Opened ns os (findId ns h) (findHandle os h) × (openAt os (findHandle os h) .cursor ≤ nodeAt ns (findId ns h) .size)
+  handle-opened : (h : ℕ) → findHandle os h < length os
+      → Opened ns os (findId ns h) (findHandle os h) × (openAt os (findHandle os h) .cursor ≤ nodeAt ns (findId ns h) .size)
   unfolding findHandle openAt
   handle-opened h l =
       let o = findHandle os h in
@@ -130,7 +131,8 @@ module _ (c : Config) (sk : Skeleton) (v : ValidTables (c .width) (sk .tables)) 
   reached : (p : Path) → Passed (walkChecks ns 0 p) → walk ns 0 p < length ns
   reached p a = walk-place ns 0 p a (is-sound .has-root)
 
-  new-fits : (p : Path) (kind m : ℕ) → PathFits p → (kind ≡ 1) ⊎ (kind ≡ 2) → m ≤ 7 → Passed (newChecks t p) → CreatingFits ns os (holder t p .id) kind m (lastOf p)
+  new-fits : (p : Path) (kind m : ℕ) → PathFits p → (kind ≡ 1) ⊎ (kind ≡ 2) → m ≤ 7 → Passed (newChecks t p)
+      → CreatingFits ns os (holder t p .id) kind m (lastOf p)
   unfolding tooLong pathBytes walk parentChecks childAt
   new-fits [] kind m f k h (both _ (both e _)) = absurd (let z = gone ns 0 e in let y = is-sound .has-root in omega arith)
   new-fits (x ∷ xs) kind m f k h a =
@@ -165,20 +167,24 @@ module _ (c : Config) (sk : Skeleton) (v : ValidTables (c .width) (sk .tables)) 
   grow-fits h d l n a b =
       let (o, cur) = handle-opened h l in
       let m : opened t h .cursor + length d ≤ FILE-BYTES = ltb-false _ _ a in
-      let s : file t h .size ≤ FILE-BYTES = by-kind (file t h .size ≤ FILE-BYTES) (limits-at w ns is-sound (filePlace t h) (o .known)) (λ x y. y) (λ x y. omega arith) in
+      let s : file t h .size ≤ FILE-BYTES = by-kind (file t h .size ≤ FILE-BYTES) (limits-at w ns is-sound (filePlace t h) (o .known)) (λ x y. y)
+      (λ x y. omega arith) in
       record { opened = o; fits = (cur, omega arith); most = omega arith; room = ltb-false _ _ b }
 
-  shrink-fits : (h n : ℕ) → findHandle os h < length os → (n ≡ file t h .size → ⊥) → ltb (file t h .size) n ≡ false → ChangeFits ns os (filePlace t h) (openPlace t h) (shrinking n)
+  shrink-fits : (h n : ℕ) → findHandle os h < length os → (n ≡ file t h .size → ⊥) → ltb (file t h .size) n ≡ false
+      → ChangeFits ns os (filePlace t h) (openPlace t h) (shrinking n)
   unfolding sizeAfter
   shrink-fits h n l d a =
       let (o, cur) = handle-opened h l in
       let m : n ≤ file t h .size = ltb-false _ _ a in
-      let s : file t h .size ≤ FILE-BYTES = by-kind (file t h .size ≤ FILE-BYTES) (limits-at w ns is-sound (filePlace t h) (o .known)) (λ x y. y) (λ x y. omega arith) in
+      let s : file t h .size ≤ FILE-BYTES = by-kind (file t h .size ≤ FILE-BYTES) (limits-at w ns is-sound (filePlace t h) (o .known)) (λ x y. y)
+      (λ x y. omega arith) in
       let r = fewer-pages ns (filePlace t h) n m in
       let z = is-sound .pages in
       record { opened = o; fits = omega arith; most = omega arith; room = omega arith }
 
-  removing-fits : (p : Path) → Passed (walkChecks ns 0 p) → isDirectory (target t p) ≡ false → present os (findHandle os (target t p .id)) ≡ false → RemovingFits ns os (walk ns 0 p)
+  removing-fits : (p : Path) → Passed (walkChecks ns 0 p) → isDirectory (target t p) ≡ false → present os (findHandle os (target t p .id)) ≡ false
+      → RemovingFits ns os (walk ns 0 p)
   removing-fits p a d o =
       let l = reached p a in
       let f = other-kind (walk ns 0 p) l d in
@@ -210,9 +216,15 @@ module _ (c : Config) (sk : Skeleton) (v : ValidTables (c .width) (sk .tables)) 
       → RemovingFits ns os (walk ns 0 p)
   rmdir-fits p x (both root (both dir (both _ (both kids _)))) =
       let z : walk ns 0 p ≡ 0 → ⊥ = eqb-false _ _ root in
-      record { known = reached p x; not-root = omega arith; empty = none-left _ (ltb-false _ _ kids); closed = directory-closed _ (reached p x) (not-false _ dir) }
+      record {
+        known = reached p x;
+        not-root = omega arith;
+        empty = none-left _ (ltb-false _ _ kids);
+        closed = directory-closed _ (reached p x) (not-false _ dir);
+      }
 
-  remove-fits : (p : Path) → Passed (walkChecks ns 0 p) → Passed ((21, isDirectory (target t p)) ∷ (13, not (hasBit 2 (holder t p))) ∷ (16, isOpen t (target t p)) ∷ [])
+  remove-fits : (p : Path) → Passed (walkChecks ns 0 p)
+      → Passed ((21, isDirectory (target t p)) ∷ (13, not (hasBit 2 (holder t p))) ∷ (16, isOpen t (target t p)) ∷ [])
       → RemovingFits ns os (walk ns 0 p)
   remove-fits p x (both dir (both _ (both o _))) = removing-fits p x dir o
 
@@ -232,7 +244,8 @@ module _ (c : Config) (sk : Skeleton) (v : ValidTables (c .width) (sk .tables)) 
       pick-ind (Fit e) (eqb n (file t h .size)) (λ _. fFinish pl v refl) (λ x. fBegin pl (shrink-fits h n (there os _ (or-fst _ _ o)) (eqb-false _ _ x) s))
   call-fits e pl (remove p) f a = let (x, y) = reach-walk p _ a in fSend (remove-fits p x y) tt (eqb-false 9 7 refl)
   call-fits e pl (rmdir p) f a = let (x, y) = reach-walk p _ a in fSend (rmdir-fits p x y) tt (eqb-false 10 7 refl)
-  call-fits e pl (chmod m p) (h, f) (both _ a) = fSend {p = asked (changing (walk ns 0 p) m)} (record { known = reached p a; modes = h }) tt (eqb-false 11 7 refl)
+  call-fits e pl (chmod m p) (h, f) (both _ a) =
+      fSend {p = asked (changing (walk ns 0 p) m)} (record { known = reached p a; modes = h }) tt (eqb-false 11 7 refl)
   call-fits e pl (readdir p) f a = let (x, y) = reach-walk p _ a in fSend (reached p x) tt (eqb-false 12 7 refl)
   call-fits e pl (stat p) f (both _ a) = fSend (reached p a) tt (eqb-false 13 7 refl)
 
@@ -273,7 +286,8 @@ is-idle (storing k o q i) e = absurd (false≢true e)
 is-idle (cutting k o q) e = absurd (false≢true e)
 
 module _ (c : Config) (sk : Skeleton) (v : Valid (c .width) sk) where
-  read-call-fits : (s : List ℕ) (a b : ℕ) → Bytes s → (o : Option Call) → readCall (c .width) s ≡ o → isNone o ≡ false → Passed (callChecks (sk .tables) (callOr o))
+  read-call-fits : (s : List ℕ) (a b : ℕ) → Bytes s → (o : Option Call) → readCall (c .width) s ≡ o → isNone o ≡ false
+      → Passed (callChecks (sk .tables) (callOr o))
       → Fits c sk (call s a b) (callAction (sk .tables) (c .width) (callOr o))
   unfolding isNone callOr
   read-call-fits s a b bs none e i p = absurd (true≢false i)

@@ -49,7 +49,8 @@ children-most w [] s k h = absurd (omega arith)
 children-most w (r ∷ ns) s k h =
     let i = limits-at w (r ∷ ns) s k h .id-some in
     let p : r .parent ≡ 0 = unfold nodeAt in root-parent w (r ∷ ns) s in
-    let e = pick-false _ (r ∷ select (hasParent (nodeAt (r ∷ ns) k .id)) ns) (select (hasParent (nodeAt (r ∷ ns) k .id)) ns) (ne-eqb (r .parent) (nodeAt (r ∷ ns) k .id) (omega arith)) in
+    let e = pick-false _ (r ∷ select (hasParent (nodeAt (r ∷ ns) k .id)) ns) (select (hasParent (nodeAt (r ∷ ns) k .id)) ns)
+    (ne-eqb (r .parent) (nodeAt (r ∷ ns) k .id) (omega arith)) in
     let c = s .count in
     let l = length-select (hasParent (nodeAt (r ∷ ns) k .id)) ns in
     omega (arith, ap length e)
@@ -59,7 +60,8 @@ unfolding put-all entryForm
 entries-length w [] a = omega arith
 entries-length w (e ∷ es) (both h a) = let z = entries-length w es a in simp (length-append, length-encode) (omega arith)
 
-pub listing-length : (w : ℕ) (t : Tables) (r : List ℕ) (k : ℕ) → ValidNodes w (t .nodes) → k < length (t .nodes) → RightListing w t r k → length r ≤ 255 * (w + 34)
+pub listing-length : (w : ℕ) (t : Tables) (r : List ℕ) (k : ℕ) → ValidNodes w (t .nodes) → k < length (t .nodes) → RightListing w t r k
+    → length r ≤ 255 * (w + 34)
 unfolding children nodeAt
 listing-length w t r k v h l =
     let s = to-sound w (t .nodes) (v .sound) in
@@ -85,8 +87,11 @@ longest-valid = bare-valid 4 full (record { sound = full-sound; named = full-nam
 
 pub longest-listing : (r : List ℕ) × RightListing 4 longestTables r 0 × (length r ≡ 9690)
 longest-listing =
-    let es = map entryOf (children full (nodeAt full 0 .id)) in
-    (put-all (entryForm 4) es, record { entries = es; bytes = refl; each-once = rearranged-self es }, unfold full leaf leafName tab children select nodeAt put-all entryForm encode pick in refl)
+    let es = map entryOf (children full (nodeAt full 0 .id)) in (
+      put-all (entryForm 4) es,
+      record { entries = es; bytes = refl; each-once = rearranged-self es },
+      unfold full leaf leafName tab children select nodeAt put-all entryForm encode pick in refl,
+    )
 
 -- Of a read that is pending: it was asked at most 4,096 bytes, and has gathered those of the pages before i.
 abbrev pub Gathers : Pending → List ℕ → Type 0
@@ -150,7 +155,8 @@ module _ (c : Config) (t : Tables) where
   call-modest (readdir p) f (both e _) = let z = path-short p e in (omega arith, tt)
   call-modest (stat p) f (both e _) = let z = path-short p e in (omega arith, tt)
 
-  reply-modest : (r : List ℕ) → Bytes r → ValidNodes (c .width) (t .nodes) → (p : Pending) → PendingFits (t .nodes) (t .opens) p → Passed (replyChecks (c .width) t r p)
+  reply-modest : (r : List ℕ) → Bytes r → ValidNodes (c .width) (t .nodes) → (p : Pending) → PendingFits (t .nodes) (t .opens) p
+      → Passed (replyChecks (c .width) t r p)
       → Modest c (replyAction (c .width) t r p)
   unfolding replyChecks replyAction answerLength
   reply-modest r b v idle f a = tt

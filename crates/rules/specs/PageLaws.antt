@@ -62,11 +62,14 @@ unfolding pageOf
 getD-page b i j h = getD-tab 1024 _ j 0 h
 
 -- where nothing is fetched, a byte that a write leaves alone lies past the end
-unfetched : (size p : ℕ) (d : List ℕ) (i j : ℕ) → fetches (writing p d) size i ≡ false → j < 1024 → inside p (length d) (i * 1024 + j) ≡ false → size ≤ i * 1024 + j
+unfetched : (size p : ℕ) (d : List ℕ) (i j : ℕ) → fetches (writing p d) size i ≡ false → j < 1024 → inside p (length d) (i * 1024 + j) ≡ false
+    → size ≤ i * 1024 + j
 unfolding fetches
-unfetched size p d i j e h f = go (is (ltb (i * 1024) size)) (is (ltb (i * 1024) p)) (is (ltb (p + length d) (min size (i * 1024 + 1024)))) (range p (length d) (i * 1024 + j))
+unfetched size p d i j e h f =
+    go (is (ltb (i * 1024) size)) (is (ltb (i * 1024) p)) (is (ltb (p + length d) (min size (i * 1024 + 1024)))) (range p (length d) (i * 1024 + j))
   where
-    go : Is (ltb (i * 1024) size) → Is (ltb (i * 1024) p) → Is (ltb (p + length d) (min size (i * 1024 + 1024))) → Where p (length d) (i * 1024 + j) → size ≤ i * 1024 + j
+    go : Is (ltb (i * 1024) size) → Is (ltb (i * 1024) p) → Is (ltb (p + length d) (min size (i * 1024 + 1024))) → Where p (length d) (i * 1024 + j)
+        → size ≤ i * 1024 + j
     go (isF a) b c w = let l = ltb-false (i * 1024) size a in omega arith
     go (isT a) (isT b) c w = absurd (true≢false (rw (a, b) at e))
     go (isT a) (isF b) (isT c) w = absurd (true≢false (rw (a, b, c) at e))
@@ -90,7 +93,8 @@ first-last (shrinking n) size h = omega arith
 pub fill-page : (q : Change) (b : List ℕ) (i : ℕ) → fill q i (pageOf b i) ≡ pageOf (bytesAfter q b) i
 unfolding fill bytesAfter pageOf overlay resized
 fill-page (writing p d) b i = tab-cong 1024 _ _ (λ j h. sym (getD-splice b p d (i * 1024 + j) ∙ rw (getD-tab 1024 (λ k. getD b (i * 1024 + k) 0) j 0 h)))
-fill-page (shrinking n) b i = tab-cong 1024 _ _ (λ j h. sym (getD-cells n (λ k. getD b k 0) (i * 1024 + j) ∙ rw (getD-tab 1024 (λ k. getD b (i * 1024 + k) 0) j 0 h)))
+fill-page (shrinking n) b i =
+    tab-cong 1024 _ _ (λ j h. sym (getD-cells n (λ k. getD b k 0) (i * 1024 + j) ∙ rw (getD-tab 1024 (λ k. getD b (i * 1024 + k) 0) j 0 h)))
 
 -- the same where nothing is fetched
 pub fill-blank : (q : Change) (b : List ℕ) (i : ℕ) → fetches q (length b) i ≡ false → fill q i [] ≡ pageOf (bytesAfter q b) i
@@ -115,7 +119,8 @@ after-apart (writing p d) b i f o m = tab-cong 1024 _ _ (λ j h. getD-splice b p
     cell o j h (high a l q) = pick-false _ _ _ q
     cell (inl x) j h (mid a l q) = absurd (omega arith)
     cell (inr x) j h (mid a l q) = absurd (omega arith)
-after-apart (shrinking n) b i f o m = tab-cong 1024 _ _ (λ j h. getD-cells n (λ k. getD b k 0) (i * 1024 + j) ∙ pick-true _ _ _ (lt-ltb (i * 1024 + j) n (below o j h)))
+after-apart (shrinking n) b i f o m =
+    tab-cong 1024 _ _ (λ j h. getD-cells n (λ k. getD b k 0) (i * 1024 + j) ∙ pick-true _ _ _ (lt-ltb (i * 1024 + j) n (below o j h)))
   where
     below : (i < n / 1024) ⊎ ((n + 1023) / 1024 ≤ i) → (j : ℕ) → j < 1024 → i * 1024 + j < n
     below (inl x) j h = omega arith

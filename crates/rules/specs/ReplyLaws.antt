@@ -38,7 +38,8 @@ none-there l k h = ap not (le-leb _ _ h)
 -- Status and descriptor, as signed numbers.
 signed-is : (r : List ℕ) (n : ℕ) → signedOf r ≡ pos n → decode r ≡ n
 unfolding signed
-signed-is r n = pick-ind (λ z. z ≡ pos n → decode r ≡ n) (ltb (2 * decode r) (256 ^ 4)) (λ _ e. cc) (λ _ e. absurd (let z : _≡_ {A = ℕ} 0 1 = cc in omega arith))
+signed-is r n =
+    pick-ind (λ z. z ≡ pos n → decode r ≡ n) (ltb (2 * decode r) (256 ^ 4)) (λ _ e. cc) (λ _ e. absurd (let z : _≡_ {A = ℕ} 0 1 = cc in omega arith))
 
 is-signed : (r : List ℕ) (n : ℕ) → decode r ≡ n → n < 2147483648 → signedOf r ≡ pos n
 unfolding signed
@@ -52,7 +53,8 @@ is-number n (negsuc m) e = absurd (false≢true e)
 is-descriptor : (r : List ℕ) → isDescriptor (signedOf r) ≡ true → (signedOf r ≡ pos (decode r)) × (decode r < 1024)
 unfolding signed isDescriptor
 is-descriptor r =
-    pick-ind (λ z. isDescriptor z ≡ true → (z ≡ pos (decode r)) × (decode r < 1024)) (ltb (2 * decode r) (256 ^ 4)) (λ _ e. (refl, ltb-true _ _ e)) (λ _ e. absurd (false≢true e))
+    pick-ind (λ z. isDescriptor z ≡ true → (z ≡ pos (decode r)) × (decode r < 1024)) (ltb (2 * decode r) (256 ^ 4)) (λ _ e. (refl, ltb-true _ _ e))
+    (λ _ e. absurd (false≢true e))
 
 module _ (w : ℕ) (t : Tables) (r : List ℕ) where
   -- A status.
@@ -163,7 +165,13 @@ module _ (w : ℕ) (t : Tables) (r : List ℕ) (k : ℕ) where
       go : (o : Option (List Entry)) → whole (times (entryForm w) (length kids)) r ≡ o
           → (elim o as (λ _. Bool) [ none ↦ false | some es ↦ isRearranged sameEntry es (map entryOf kids) ]) ≡ true → RightListing w t r k
       go none q x = absurd (false≢true x)
-      go (some es) q x = record { entries = es; bytes = whole-was-written (times (entryForm w) (length kids)) r es b q .1; each-once = is-rearranged sameEntry same-entry es (map entryOf kids) x }
+      go (some es) q x =
+          record {
+            entries = es;
+            bytes = whole-was-written (times (entryForm w) (length kids)) r es b q .1;
+            each-once = is-rearranged sameEntry same-entry es
+                (map entryOf kids) x;
+          }
 
   -- the entries of valid nodes fit the form, and differ
   entries-fit : ValidNodes w (t .nodes) → All (entryForm w .ok) (map entryOf kids)
@@ -199,4 +207,6 @@ module _ (w : ℕ) (t : Tables) (r : List ℕ) (k : ℕ) where
           ∙ whole-read-back (times (entryForm w) (length kids)) (l .entries) (len, rearranged-all (l .each-once) (entries-fit v))
 
       accepted : isListing w kids r ≡ true
-      accepted = unfold isListing in rw (read, isListing) (rearranged-is sameEntry own-entry (λ a b e. subst (λ x. sameEntry b x ≡ true) (sym (same-entry a b e)) (own-entry b)) (l .each-once) (entries-apart v))
+      accepted =
+          unfold isListing in rw (read, isListing)
+          (rearranged-is sameEntry own-entry (λ a b e. subst (λ x. sameEntry b x ≡ true) (sym (same-entry a b e)) (own-entry b)) (l .each-once) (entries-apart v))

@@ -25,7 +25,8 @@ unfolding divide pageTotal
 divide-front [] ds = refl
 divide-front (n ∷ ns) ds =
     let p = pagesFor (n .size) in
-    rw (take-take p (p + pageTotal ns) ds (omega arith), drop-take p (pageTotal ns) ds) (ap {B = List (List (List ℕ))} (λ r. take p ds ∷ r) (divide-front ns (drop p ds)))
+    rw (take-take p (p + pageTotal ns) ds (omega arith), drop-take p (pageTotal ns) ds) (ap {B =
+    List (List (List ℕ))} (λ r. take p ds ∷ r) (divide-front ns (drop p ds)))
 
 pub divide-same : (ns : List Node) (a b : List (List ℕ)) → take (pageTotal ns) a ≡ take (pageTotal ns) b → divide ns a ≡ divide ns b
 divide-same ns a b e = sym (divide-front ns a) ∙ ap (divide ns) e ∙ divide-front ns b
@@ -40,7 +41,9 @@ unfolding divide pageTotal
 divide-append [] ms ds = refl
 divide-append (n ∷ ns) ms ds =
     let p = pagesFor (n .size) in
-    ap {B = List (List (List ℕ))} (λ r. take p ds ∷ r) (divide-append ns ms (drop p ds) ∙ ap (λ r. divide ns (drop p ds) ++ divide ms r) (drop-drop (pageTotal ns) p ds))
+    ap {B =
+    List (List (List ℕ))} (λ r. take p ds ∷ r) (divide-append ns ms (drop p ds)
+    ∙ ap (λ r. divide ns (drop p ds) ++ divide ms r) (drop-drop (pageTotal ns) p ds))
 
 -- only the sizes count
 pub divide-sizes : (ns ms : List Node) (ds : List (List ℕ)) → map (λ (n : Node). n .size) ns ≡ map (λ (n : Node). n .size) ms → divide ns ds ≡ divide ms ds
@@ -61,7 +64,8 @@ divide-snoc ns x ds e = divide-append ns (x ∷ []) ds ∙ ap (λ s. divide ns d
 module _ (l : List Node) (k i s : ℕ) (fits : k ≤ length l) (inv : pageTotal (take k l) ≡ s + pageTotal (drop i (take k l))) where
   pub total-more : i < k → pageTotal (take k l) ≡ s + pagesFor (nodeAt l i .size) + pageTotal (drop (i + 1) (take k l))
   unfolding pageTotal nodeAt
-  total-more h = inv ∙ ap (λ r. s + pageTotal r) (rest noNode l k i fits h) ∙ sym (add-assoc s (pagesFor (getD l i noNode .size)) (pageTotal (drop (i + 1) (take k l))))
+  total-more h =
+      inv ∙ ap (λ r. s + pageTotal r) (rest noNode l k i fits h) ∙ sym (add-assoc s (pagesFor (getD l i noNode .size)) (pageTotal (drop (i + 1) (take k l))))
 
   pub total-end : k ≤ i → pageTotal (take k l) ≡ s
   unfolding pageTotal
@@ -69,7 +73,8 @@ module _ (l : List Node) (k i s : ℕ) (fits : k ≤ length l) (inv : pageTotal 
 
 -- Node k among the others: its digests stand between those of the nodes before it and those of the nodes behind it.
 module _ (ns : List Node) (k : ℕ) (known : k < length ns) where
-  pub divide-split : (ds : List (List ℕ)) → divide ns ds ≡ divide (take k ns) ds ++ (part (pageTotal (take k ns)) (pagesFor (nodeAt ns k .size)) ds ∷ divide (drop (suc k) ns) (drop (pageTotal (take k ns) + pagesFor (nodeAt ns k .size)) ds))
+  pub divide-split : (ds : List (List ℕ))
+      → divide ns ds ≡ divide (take k ns) ds ++ (part (pageTotal (take k ns)) (pagesFor (nodeAt ns k .size)) ds ∷ divide (drop (suc k) ns) (drop (pageTotal (take k ns) + pagesFor (nodeAt ns k .size)) ds))
   unfolding divide nodeAt part
   divide-split ds =
       let f = pageTotal (take k ns) in
@@ -160,7 +165,8 @@ total-part l n k h f =
     omega arith
 
 -- page i of node k among the first n
-pub digest-place : (l : List Node) (ds : List (List ℕ)) (n k i : ℕ) → k < n → n ≤ length l → i < pagesFor (nodeAt l k .size) → getD (getD (divide (take n l) ds) k []) i [] ≡ getD ds (pageTotal (take k l) + i) []
+pub digest-place : (l : List Node) (ds : List (List ℕ)) (n k i : ℕ) → k < n → n ≤ length l → i < pagesFor (nodeAt l k .size)
+    → getD (getD (divide (take n l) ds) k []) i [] ≡ getD ds (pageTotal (take k l) + i) []
 unfolding nodeAt
 digest-place l ds n k i h f g =
     let e : length (take n l) ≡ n = length-take-le n l f in

@@ -32,7 +32,8 @@ module _ {A : Type 0} (z : A) (l : List A) (n i : ℕ) (fits : n ≤ length l) w
       unfolding select
       count-hit h e =
           let r : List A = select f (drop (i + 1) (take n l)) in
-          inv ∙ ap (λ r. c + length (select f r)) (rest z l n i fits h) ∙ ap (λ (r : List A). c + length r) (pick-true (f (getD l i z)) (getD l i z ∷ r) r e) ∙ omega arith
+          inv ∙ ap (λ r. c + length (select f r)) (rest z l n i fits h)
+          ∙ ap (λ (r : List A). c + length r) (pick-true (f (getD l i z)) (getD l i z ∷ r) r e) ∙ omega arith
 
       pub count-miss : i < n → f (getD l i z) ≡ false → length (select f (take n l)) ≡ c + length (select f (drop (i + 1) (take n l)))
       unfolding select

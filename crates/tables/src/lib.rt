@@ -20,6 +20,7 @@ pub fn find_id(m: &[u8], n: usize, id: u64) -> usize
     ensures { λ r. ⌜ r ≡ findId (take n (memOf (now (m .entry)) .nodes)) id ⌝ }
 {
     let mut i = 0;
+    // none before i has it
     while i < n {
         if memory::node_id(m, i) == id {
             return i;
@@ -35,6 +36,7 @@ pub fn find_child(m: &[u8], nodes: usize, parent: u64, name: &[u8]) -> usize
     ensures { λ r. ⌜ r ≡ findChild (take nodes (memOf (now (m .entry)) .nodes)) parent (now (name .entry)) ⌝ }
 {
     let mut i = 0;
+    // none before i is it
     while i < nodes {
         if memory::is_child(m, i, parent, name) {
             return i;
@@ -51,6 +53,7 @@ pub fn count_children(m: &[u8], n: usize, parent: u64) -> usize
 {
     let mut c = 0;
     let mut i = 0;
+    // c of the first i are
     while i < n {
         if memory::node_parent(m, i) == parent {
             c += 1;
@@ -66,6 +69,7 @@ pub fn find_handle(m: &[u8], o: usize, handle: u64) -> usize
     ensures { λ r. ⌜ r ≡ findHandle (take o (memOf (now (m .entry)) .opens)) handle ⌝ }
 {
     let mut i = 0;
+    // none before i has it
     while i < o {
         if memory::open_handle(m, i) == handle {
             return i;
@@ -81,6 +85,7 @@ pub fn find_descriptor(m: &[u8], o: usize, descriptor: u32) -> usize
     ensures { λ r. ⌜ r ≡ findDescriptor (take o (memOf (now (m .entry)) .opens)) descriptor ⌝ }
 {
     let mut i = 0;
+    // none before i has it
     while i < o {
         if memory::open_descriptor(m, i) == descriptor {
             return i;
@@ -108,6 +113,7 @@ pub fn first_page(m: &[u8], k: usize) -> usize
 {
     let mut s = 0;
     let mut i = 0;
+    // s pages in the first i nodes
     while i < k {
         s += pages_for(memory::node_size(m, i));
         i += 1;

@@ -22,6 +22,7 @@ pub fn read(text: &[u8]) -> Decimal
     }
     let mut n = 0;
     let mut i = 0;
+    // n is the number of the first i digits
     while i < text.len() {
         let c = digit_value(text[i]);
         if c < 48 {

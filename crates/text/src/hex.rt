@@ -68,6 +68,7 @@ pub fn encode(bytes: &[u8], out: &mut [u8])
 {
     let n = bytes.len();
     let mut i = 0;
+    // i digits are written
     while i / 2 < n {
         out[i] = digit(half(bytes[i / 2], i % 2));
         i += 1;
@@ -79,6 +80,7 @@ fn first_bad(text: &[u8]) -> usize
     ensures { λ r. ⌜ r ≡ place isBad (now (text .entry)) ⌝ }
 {
     let mut i = 0;
+    // none before i is bad
     while i < text.len() {
         if 16 <= value(text[i]) {
             return i;
@@ -95,6 +97,7 @@ fn fill(text: &[u8], out: &mut [u8])
 {
     let n = text.len() / 2;
     let mut i = 0;
+    // i bytes are written
     while i < n {
         out[i] = pair(text[2 * i], text[2 * i + 1]);
         i += 1;

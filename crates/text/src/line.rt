@@ -10,6 +10,7 @@ pub fn end(text: &[u8], from: usize) -> usize
     ensures { λ r. ⌜ LineEnd (now (text .entry)) from r ⌝ }
 {
     let mut i = from;
+    // no newline from `from` to i
     while i < text.len() {
         if text[i] == 10 {
             return i;
@@ -27,6 +28,7 @@ pub fn starts(line: &[u8], word: &[u8]) -> bool
         return false;
     }
     let mut i = 0;
+    // the first i bytes are alike
     while i < word.len() {
         if line[i] != word[i] {
             return false;

@@ -23,8 +23,11 @@ loop-holds c = (omega arith, refl, rw (sub-self (c .args .n)) (sym (move-none 0 
 loop-again : tie.Need-loop-again Inv-loop μ-loop
 loop-again c =
     let l = c .before .before .loop in
-    let a = c .before .before .before .args in
-    (omega arith, simp length-set (l .inv .1), rw (l .inv .2) (move-up 0 (a .m .now) (a .to) (a .from) (a .n) (l .i) (omega arith) (omega arith) (omega arith) (omega arith)))
+    let a = c .before .before .before .args in (
+      omega arith,
+      simp length-set (l .inv .1),
+      rw (l .inv .2) (move-up 0 (a .m .now) (a .to) (a .from) (a .n) (l .i) (omega arith) (omega arith) (omega arith) (omega arith)),
+    )
 
 returns : tie.Need-returns Inv-loop μ-loop
 returns c =

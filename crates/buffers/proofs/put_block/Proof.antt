@@ -1,12 +1,11 @@
 -- `buffers::put_block` meets its contract. Assumes nothing.
 use native.Mathlib.Omega.{arith}
 use mathlib.Core.Path.{_≡_, refl, sym}
-use Prim.Native.Nat.{_≤_, _-_}
+use Prim.Native.Nat.{_+_, _≤_, _-_}
 use lib.ListN.{length, take, length-set}
 use lib.Seq.{take-length}
 use Rattle.lists.specs.Parts.{overwrite}
-use Rattle.lists.specs.PartLaws.{overwrite-none}
-use Rattle.buffers.proofs.Blocks.{write-next}
+use Rattle.lists.specs.PartLaws.{overwrite-none, overwrite-more}
 use borrow.Author.Needs.{needs}
 use Rattle.buffers.proofs.put_block.Statement.{statement}
 use Rattle.buffers.proofs.put_block.Tie as tie
@@ -23,8 +22,11 @@ loop-holds c = (omega arith, refl, sym (overwrite-none 0 (c .args .m .now) (c .a
 loop-again : tie.Need-loop-again Inv-loop μ-loop
 loop-again c =
     let l = c .before .loop in
-    let a = c .before .before .args in
-    (omega arith, simp length-set (l .inv .1), rw (l .inv .2) (write-next 0 (a .m .now) (a .t3) (a .at) (l .i) (omega arith) (omega arith)))
+    let a = c .before .before .args in (
+      omega arith,
+      simp length-set (l .inv .1),
+      rw (l .inv .2) (overwrite-more 0 (a .m .now) (a .at) (a .t3) (l .i) (a .at + l .i) refl (omega arith) (omega arith)),
+    )
 
 returns : tie.Need-returns Inv-loop μ-loop
 returns c =

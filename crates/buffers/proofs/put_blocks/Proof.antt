@@ -21,9 +21,11 @@ loop-holds c = (omega arith, omega arith, refl, sym (overwrite-none 0 (c .before
 
 loop-again : tie.Need-loop-again Inv-loop μ-loop
 loop-again c =
+    let block-at = c .before .before .before .before .block-at in
     let l = c .before .before .before .before .before .before .loop in
     let a = c .before .before .before .before .before .before .before .before .before .args in
-    let e : c .before .before .put-block .last .0 ≡ overwrite (l .m) (a .at + 128 * l .i) (part (128 * l .i) 128 (a .x .now)) = c .before .before .put-block .ensures ∙ rw (c .before .before .before .before .block-at .ensures) in
+    let e : c .before .before .put-block .last .0 ≡ overwrite (l .m) (a .at + 128 * l .i) (part (128 * l .i) 128 (a .x .now)) =
+    c .before .before .put-block .ensures ∙ rw (block-at .ensures) in
     let f : 128 * (l .i + 1) ≡ 128 * l .i + 128 = omega arith in
     (omega arith, omega arith, omega arith, rw (e, f, l .inv .3) (block-next (a .m .now) (a .x .now) (a .at) (128 * l .i) 128 (omega arith) (omega arith)))
 

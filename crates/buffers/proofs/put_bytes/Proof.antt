@@ -15,7 +15,8 @@ unfolding overwrite
 returns c =
     let a = c .before .before .before .before .before .before .args in
     let x = a .x .now in
-    let len : length (take (length x) (drop (a .at) (a .m .now))) ≡ length x = length-take-le (length x) (drop (a .at) (a .m .now)) (rw (length-drop (a .at) (a .m .now)) (omega arith)) in
+    let len : length (take (length x) (drop (a .at) (a .m .now))) ≡ length x = length-take-le (length x) (drop (a .at) (a .m .now))
+    (rw (length-drop (a .at) (a .m .now)) (omega arith)) in
     rw (add-sub-cancel-left, c .before .before .copy .ensures .1, add-sub-cancel-left, copied x (take (length x) (drop (a .at) (a .m .now))) (omega arith), drop-drop (length x) (a .at) (a .m .now))
 
 pub put-bytes-spec : {M : Type 1} → statement M

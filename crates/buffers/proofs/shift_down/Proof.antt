@@ -21,9 +21,11 @@ loop-holds c = (omega arith, omega arith, refl, sym (move-none 0 (c .before .arg
 
 loop-again : tie.Need-loop-again Inv-loop μ-loop
 loop-again c =
+    let block-at = c .before .before .before .before .block-at in
     let l = c .before .before .before .before .before .before .before .loop in
     let a = c .before .before .before .before .before .before .before .before .before .args in
-    let e : c .before .before .put-block .last .0 ≡ overwrite (l .m) (a .to + 128 * l .i) (part (a .from + 128 * l .i) 128 (l .m)) = c .before .before .put-block .ensures ∙ rw (c .before .before .before .before .block-at .ensures) in
+    let e : c .before .before .put-block .last .0 ≡ overwrite (l .m) (a .to + 128 * l .i) (part (a .from + 128 * l .i) 128 (l .m)) =
+    c .before .before .put-block .ensures ∙ rw (block-at .ensures) in
     let f : 128 * (l .i + 1) ≡ 128 * l .i + 128 = omega arith in
     (omega arith, omega arith, omega arith, rw (e, f, l .inv .3) (block-down (a .m .now) (a .to) (a .from) (128 * l .i) 128 (omega arith) (omega arith)))
 
@@ -32,7 +34,8 @@ returns c =
     let l = c .before .before .before .before .before .loop in
     let a = c .before .before .before .before .before .before .before .args in
     let e : 128 * l .i + (a .n - 128 * l .i) ≡ a .n = omega arith in
-    c .before .before .bytes-down .ensures ∙ rw (l .inv .3) (rw e at (block-down (a .m .now) (a .to) (a .from) (128 * l .i) (a .n - 128 * l .i) (omega arith) (omega arith)))
+    c .before .before .bytes-down .ensures
+    ∙ rw (l .inv .3) (rw e at (block-down (a .m .now) (a .to) (a .from) (128 * l .i) (a .n - 128 * l .i) (omega arith) (omega arith)))
 
 pub shift-down-spec : {M : Type 1} → statement M
 shift-down-spec =

@@ -16,9 +16,10 @@ returns c =
 returns-2 : tie.Need-returns-2
 unfolding tablesIn
 returns-2 c =
+    let find-handle = c .before .before .before .find-handle in
     let a = c .before .before .before .before .before .args in
     c .judge-end .ensures
-    ∙ sym (truncate-handled (tablesIn (a .n) (a .o) (memOf (a .m .now))) (a .handle) _ (c .before .before .before .find-handle .ensures) (a .size) (sym (c .before .before .lacks-right .ensures) ∙ c .before .if1 .left))
+    ∙ sym (truncate-handled (tablesIn (a .n) (a .o) (memOf (a .m .now))) (a .handle) _ (find-handle .ensures) (a .size) (sym (c .before .before .lacks-right .ensures) ∙ c .before .if1 .left))
 
 pub judge-truncate-spec : {M : Type 1} → statement M
 judge-truncate-spec =

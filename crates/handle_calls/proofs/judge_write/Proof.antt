@@ -19,9 +19,10 @@ returns c =
 returns-2 : tie.Need-returns-2
 unfolding tablesIn
 returns-2 c =
+    let find-handle = c .before .before .before .find-handle in
     let a = c .before .before .before .before .before .before .args in
     let has = sym (c .before .before .lacks-right .ensures) ∙ c .before .if1 .left in
-    sym (write-long (tablesIn (a .n) (a .o) (memOf (a .m .now))) (a .handle) _ (c .before .before .before .find-handle .ensures) (a .bytes .now) _ refl has (omega arith))
+    sym (write-long (tablesIn (a .n) (a .o) (memOf (a .m .now))) (a .handle) _ (find-handle .ensures) (a .bytes .now) _ refl has (omega arith))
 
 open-cursor-requires : tie.Need-open-cursor-requires
 open-cursor-requires c κs =
@@ -32,28 +33,41 @@ open-cursor-requires c κs =
 returns-3 : tie.Need-returns-3
 unfolding tablesIn
 returns-3 c =
+    let find-handle = c .before .before .before .before .before .find-handle in
     let a = c .before .before .before .before .before .before .before .before .args in
     let has = sym (c .before .before .before .before .lacks-right .ensures) ∙ c .before .before .before .if1 .left in
     let ends = ap (λ (x : ℕ). x + length (a .bytes .now)) (c .before .open-cursor .ensures ∙ has-cursor (a .m .now) (a .o) 2 _ (omega arith) has) in
-    sym (write-long (tablesIn (a .n) (a .o) (memOf (a .m .now))) (a .handle) _ (c .before .before .before .before .before .find-handle .ensures) (a .bytes .now) _ ends has (omega arith))
+    sym (write-long (tablesIn (a .n) (a .o) (memOf (a .m .now))) (a .handle) _ (find-handle .ensures) (a .bytes .now) _ ends has (omega arith))
 
 returns-4 : tie.Need-returns-4
 unfolding tablesIn
 returns-4 c =
+    let size-at = c .before .before .before .size-at in
+    let find-id = c .before .before .before .before .find-id in
+    let open-cursor = c .before .before .before .before .before .before .open-cursor in
+    let if1 = c .before .before .before .before .before .before .before .before .if1 in
+    let lacks-right = c .before .before .before .before .before .before .before .before .before .lacks-right in
+    let find-handle = c .before .before .before .before .before .before .before .before .before .before .find-handle in
     let a = c .before .before .before .before .before .before .before .before .before .before .before .before .before .args in
-    let has = sym (c .before .before .before .before .before .before .before .before .before .lacks-right .ensures) ∙ c .before .before .before .before .before .before .before .before .if1 .left in
-    let ends = ap (λ (x : ℕ). x + length (a .bytes .now)) (c .before .before .before .before .before .before .open-cursor .ensures ∙ has-cursor (a .m .now) (a .o) 2 _ (omega arith) has) in
-    sym (write-full (tablesIn (a .n) (a .o) (memOf (a .m .now))) (a .handle) _ (c .before .before .before .before .before .before .before .before .before .before .find-handle .ensures) (a .bytes .now) _ ends has
-    _ _ _ _ (c .before .before .before .before .find-id .ensures) (c .before .before .before .size-at .ensures) (c .before .before .larger .ensures) (c .before .is-full .ensures (a .o)) (omega arith) (c .if4 .taken))
+    let has = sym (lacks-right .ensures) ∙ if1 .left in
+    let ends = ap (λ (x : ℕ). x + length (a .bytes .now)) (open-cursor .ensures ∙ has-cursor (a .m .now) (a .o) 2 _ (omega arith) has) in
+    sym (write-full (tablesIn (a .n) (a .o) (memOf (a .m .now))) (a .handle) _ (find-handle .ensures) (a .bytes .now) _ ends has
+    _ _ _ _ (find-id .ensures) (size-at .ensures) (c .before .before .larger .ensures) (c .before .is-full .ensures (a .o)) (omega arith) (c .if4 .taken))
 
 returns-5 : tie.Need-returns-5
 unfolding tablesIn
 returns-5 c =
+    let size-at = c .before .before .before .size-at in
+    let find-id = c .before .before .before .before .find-id in
+    let open-cursor = c .before .before .before .before .before .before .open-cursor in
+    let if1 = c .before .before .before .before .before .before .before .before .if1 in
+    let lacks-right = c .before .before .before .before .before .before .before .before .before .lacks-right in
+    let find-handle = c .before .before .before .before .before .before .before .before .before .before .find-handle in
     let a = c .before .before .before .before .before .before .before .before .before .before .before .before .before .args in
-    let has = sym (c .before .before .before .before .before .before .before .before .before .lacks-right .ensures) ∙ c .before .before .before .before .before .before .before .before .if1 .left in
-    let ends = ap (λ (x : ℕ). x + length (a .bytes .now)) (c .before .before .before .before .before .before .open-cursor .ensures ∙ has-cursor (a .m .now) (a .o) 2 _ (omega arith) has) in
-    sym (write-handled (tablesIn (a .n) (a .o) (memOf (a .m .now))) (a .handle) _ (c .before .before .before .before .before .before .before .before .before .before .find-handle .ensures) (a .bytes .now) _ ends has
-    _ _ _ _ (c .before .before .before .before .find-id .ensures) (c .before .before .before .size-at .ensures) (c .before .before .larger .ensures) (c .before .is-full .ensures (a .o)) (omega arith) (c .if4 .left))
+    let has = sym (lacks-right .ensures) ∙ if1 .left in
+    let ends = ap (λ (x : ℕ). x + length (a .bytes .now)) (open-cursor .ensures ∙ has-cursor (a .m .now) (a .o) 2 _ (omega arith) has) in
+    sym (write-handled (tablesIn (a .n) (a .o) (memOf (a .m .now))) (a .handle) _ (find-handle .ensures) (a .bytes .now) _ ends has
+    _ _ _ _ (find-id .ensures) (size-at .ensures) (c .before .before .larger .ensures) (c .before .is-full .ensures (a .o)) (omega arith) (c .if4 .left))
 
 pub judge-write-spec : {M : Type 1} → statement M
 judge-write-spec =

@@ -38,7 +38,8 @@ returns-2 c =
     let x = recordAt ID-BYTES s (a .at) in
     let b = nodesFrom ID-BYTES s 4 (a .i) in
     let l = a .lengths .now in
-    let nq : (c .before .is-named .result) ≡ isNamed x = c .before .is-named .ensures ∙ ap (λ (n : List ℕ). componentForm n && leb (length n) NAME-BYTES) (c .before .before .record-name .ensures) in
+    let nq : (c .before .is-named .result) ≡ isNamed x = c .before .is-named .ensures
+    ∙ ap (λ (n : List ℕ). componentForm n && leb (length n) NAME-BYTES) (c .before .before .record-name .ensures) in
     admit-name ID-BYTES b l x (sym nq ∙ not-true _ (c .if2 .taken))
 
 returns-3 : tie.Need-returns-3
@@ -64,22 +65,32 @@ cast-result c = omega (arith, c .shared-slice-known3 .given (c .before .before .
 
 add-result-2 : tie.Need-add-result-2
 add-result-2 c =
+    let if2 = c .before .before .before .before .before .if2 in
+    let is-named = c .before .before .before .before .before .before .is-named in
     let n = c .before .before .before .before .before .before .before .record-name .result .now in
-    let h : length n ≤ 32 = leb-true _ _ (and-snd (componentForm n) _ (sym (c .before .before .before .before .before .before .is-named .ensures) ∙ not-false _ (c .before .before .before .before .before .if2 .left))) in
+    let h : length n ≤ 32 = leb-true _ _ (and-snd (componentForm n) _ (sym (is-named .ensures) ∙ not-false _ (if2 .left))) in
     omega (arith, c .shared-slice-known3 .given (c .before .before .parent-place .result))
 
 returns-5 : tie.Need-returns-5
 returns-5 c =
+    let if3 = c .before .before .before .if3 in
+    let clashes = c .before .before .before .before .clashes in
+    let if2 = c .before .before .before .before .before .if2 in
+    let is-named = c .before .before .before .before .before .before .is-named in
+    let record-name = c .before .before .before .before .before .before .before .record-name in
+    let if1 = c .before .before .before .before .before .before .before .before .if1 in
+    let is-in-limits = c .before .before .before .before .before .before .before .before .before .is-in-limits in
     let a = c .before .before .before .before .before .before .before .before .before .before .before .before .args in
     let s = a .image .now in
     let x = recordAt ID-BYTES s (a .at) in
     let b = nodesFrom ID-BYTES s 4 (a .i) in
     let l = a .lengths .now in
-    let nq : (c .before .before .before .before .before .before .is-named .result) ≡ isNamed x = c .before .before .before .before .before .before .is-named .ensures ∙ ap (λ (n : List ℕ). componentForm n && leb (length n) NAME-BYTES) (c .before .before .before .before .before .before .before .record-name .ensures) in
+    let nq : (is-named .result) ≡ isNamed x = is-named .ensures ∙ ap (λ (n : List ℕ). componentForm n && leb (length n) NAME-BYTES) (record-name .ensures) in
     let j = c .before .before .parent-place .ensures in
-    let h = admit-yes ID-BYTES b l x (sym (c .before .before .before .before .before .before .before .before .before .is-in-limits .ensures) ∙ not-false _ (c .before .before .before .before .before .before .before .before .if1 .left)) (sym nq ∙ not-false _ (c .before .before .before .before .before .if2 .left)) (sym (c .before .before .before .before .clashes .ensures) ∙ c .before .before .before .if3 .left)
+    let h = admit-yes ID-BYTES b l x (sym (is-in-limits .ensures) ∙ not-false _ (if1 .left)) (sym nq ∙ not-false _ (if2 .left))
+    (sym (clashes .ensures) ∙ if3 .left)
     (omega (arith, length-from ID-BYTES s 4 (a .i), j)) in
-    let e = ap length (c .before .before .before .before .before .before .before .record-name .ensures) in
+    let e = ap length (record-name .ensures) in
     let g = ap (λ (k : ℕ). getD l k 0) j in
     omega (arith, h, e, g)
 

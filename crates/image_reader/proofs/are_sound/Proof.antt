@@ -53,11 +53,17 @@ returns-4 c =
 
 returns-5 : tie.Need-returns-5
 returns-5 c =
+    let page-sum = c .before .before .before .before .page-sum in
+    let if3 = c .before .before .before .before .before .if3 in
+    let is-in-limits = c .before .before .before .before .before .before .is-in-limits in
+    let if2 = c .before .before .before .before .before .before .before .if2 in
+    let is-root = c .before .before .before .before .before .before .before .before .is-root in
     let a = c .before .before .before .before .before .before .before .before .before .before .before .args in
     let s = a .image .now in
     let h = positive (a .n) (c .before .before .before .before .before .before .before .before .before .if1 .left) in
     c .before .all-admitted .ensures
-    ∙ by-admission ID-BYTES s (a .n) h (sym (c .before .before .before .before .before .before .before .before .is-root .ensures) ∙ not-false _ (c .before .before .before .before .before .before .before .if2 .left)) (sym (c .before .before .before .before .before .before .is-in-limits .ensures) ∙ not-false _ (c .before .before .before .before .before .if3 .left)) (omega arith) (omega (arith, c .before .before .before .before .page-sum .ensures))
+    ∙ by-admission ID-BYTES s (a .n) h (sym (is-root .ensures) ∙ not-false _ (if2 .left)) (sym (is-in-limits .ensures) ∙ not-false _ (if3 .left))
+    (omega arith) (omega (arith, page-sum .ensures))
 
 pub are-sound-spec : {M : Type 1} → statement M
 are-sound-spec =

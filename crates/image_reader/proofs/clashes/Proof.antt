@@ -12,7 +12,9 @@ use Rattle.image_reader.proofs.clashes.Statement.{statement}
 use Rattle.image_reader.proofs.clashes.Tie as tie
 
 abbrev Inv-loop : tie.InvT-loop
-Inv-loop image at i a₀ seen₀ a seen = (seen ≤ i) × (endFrom ID-BYTES image a (i - seen) ≡ endFrom ID-BYTES image 4 i) × (any (clash (recordAt ID-BYTES image at)) (nodesFrom ID-BYTES image a (i - seen)) ≡ any (clash (recordAt ID-BYTES image at)) (nodesFrom ID-BYTES image 4 i))
+Inv-loop image at i a₀ seen₀ a seen =
+    (seen ≤ i) × (endFrom ID-BYTES image a (i - seen) ≡ endFrom ID-BYTES image 4 i)
+    × (any (clash (recordAt ID-BYTES image at)) (nodesFrom ID-BYTES image a (i - seen)) ≡ any (clash (recordAt ID-BYTES image at)) (nodesFrom ID-BYTES image 4 i))
 
 abbrev μ-loop : tie.MeasureT-loop
 μ-loop image at i a₀ seen₀ a seen = i - seen
@@ -63,7 +65,9 @@ loop-again c =
     let r = c .record-end .ensures .0 in (
       omega arith,
       ap₂ (endFrom ID-BYTES s) r e ∙ sym (end-next ID-BYTES s (l .a) (a .i - l .seen) (omega arith)) ∙ l .inv .1,
-      ap₂ (λ (p n : ℕ). any (clash x) (nodesFrom ID-BYTES s p n)) r e ∙ sym (any-miss ID-BYTES s (clash x) (l .a) (a .i - l .seen) (omega arith) (sym (c .before .before .is-clash .ensures) ∙ c .before .if1 .left)) ∙ l .inv .2,
+      ap₂ (λ (p n : ℕ). any (clash x) (nodesFrom ID-BYTES s p n)) r e
+          ∙ sym (any-miss ID-BYTES s (clash x) (l .a) (a .i - l .seen) (omega arith) (sym (c .before .before .is-clash .ensures) ∙ c .before .if1 .left))
+          ∙ l .inv .2,
     )
 
 returns-2 : tie.Need-returns-2 Inv-loop μ-loop

@@ -21,24 +21,44 @@ record-id-requires-2 : tie.Need-record-id-requires-2
 record-id-requires-2 c κs = let h = record-least ID-BYTES (c .before .before .args .image .now) (c .before .before .args .b) in omega (arith, h)
 
 returns : tie.Need-returns
-returns c = let s = c .before .before .before .before .args .image .now in let x = recordAt ID-BYTES s (c .before .before .before .before .args .a) in let y = recordAt ID-BYTES s (c .before .before .before .before .args .b) in
+returns c =
+    let a = c .before .before .before .before .args in
+    let s = a .image .now in let x = recordAt ID-BYTES s (a .a) in let y = recordAt ID-BYTES s (a .b) in
     let e : eqb (x .id) (y .id) ≡ true = eq-eqb _ _ (sym (c .before .before .record-id .ensures) ∙ c .if1 .taken ∙ c .before .record-id2 .ensures) in rw e
 
 record-parent-requires : tie.Need-record-parent-requires
-record-parent-requires c κs = let h = record-least ID-BYTES (c .before .before .before .before .args .image .now) (c .before .before .before .before .args .a) in omega (arith, h)
+record-parent-requires c κs =
+    let a = c .before .before .before .before .args in
+    let h = record-least ID-BYTES (a .image .now) (a .a) in omega (arith, h)
 
 record-parent-requires-2 : tie.Need-record-parent-requires-2
-record-parent-requires-2 c κs = let h = record-least ID-BYTES (c .before .before .before .before .before .args .image .now) (c .before .before .before .before .before .args .b) in omega (arith, h)
+record-parent-requires-2 c κs =
+    let a = c .before .before .before .before .before .args in
+    let h = record-least ID-BYTES (a .image .now) (a .b) in omega (arith, h)
 
 returns-2 : tie.Need-returns-2
-returns-2 c = let s = c .before .before .before .before .before .before .before .args .image .now in let x = recordAt ID-BYTES s (c .before .before .before .before .before .before .before .args .a) in let y = recordAt ID-BYTES s (c .before .before .before .before .before .before .before .args .b) in
-    let d : eqb (x .id) (y .id) ≡ false = ne-eqb _ _ (λ q. c .before .before .before .if1 .left (c .before .before .before .before .before .record-id .ensures ∙ q ∙ sym (c .before .before .before .before .record-id2 .ensures))) in
-    let e : eqb (x .parent) (y .parent) ≡ false = ne-eqb _ _ (λ q. c .if2 .taken (c .before .before .record-parent .ensures ∙ q ∙ sym (c .before .record-parent2 .ensures))) in rw (d, e)
+returns-2 c =
+    let if1 = c .before .before .before .if1 in
+    let record-id2 = c .before .before .before .before .record-id2 in
+    let record-id = c .before .before .before .before .before .record-id in
+    let a = c .before .before .before .before .before .before .before .args in
+    let s = a .image .now in let x = recordAt ID-BYTES s (a .a) in let y = recordAt ID-BYTES s (a .b) in
+    let d : eqb (x .id) (y .id) ≡ false = ne-eqb _ _ (λ q. if1 .left (record-id .ensures ∙ q ∙ sym (record-id2 .ensures))) in
+    let e : eqb (x .parent) (y .parent) ≡ false = ne-eqb _ _
+    (λ q. c .if2 .taken (c .before .before .record-parent .ensures ∙ q ∙ sym (c .before .record-parent2 .ensures))) in rw (d, e)
 
 returns-3 : tie.Need-returns-3
-returns-3 c = let s = c .before .before .before .before .before .before .before .before .before .before .args .image .now in let x = recordAt ID-BYTES s (c .before .before .before .before .before .before .before .before .before .before .args .a) in let y = recordAt ID-BYTES s (c .before .before .before .before .before .before .before .before .before .before .args .b) in
-    let d : eqb (x .id) (y .id) ≡ false = ne-eqb _ _ (λ q. c .before .before .before .before .before .before .if1 .left (c .before .before .before .before .before .before .before .before .record-id .ensures ∙ q ∙ sym (c .before .before .before .before .before .before .before .record-id2 .ensures))) in
-    let e : eqb (x .parent) (y .parent) ≡ true = eq-eqb _ _ (sym (c .before .before .before .before .before .record-parent .ensures) ∙ c .before .before .before .if2 .left ∙ c .before .before .before .before .record-parent2 .ensures) in
+returns-3 c =
+    let if2 = c .before .before .before .if2 in
+    let record-parent2 = c .before .before .before .before .record-parent2 in
+    let record-parent = c .before .before .before .before .before .record-parent in
+    let if1 = c .before .before .before .before .before .before .if1 in
+    let record-id2 = c .before .before .before .before .before .before .before .record-id2 in
+    let record-id = c .before .before .before .before .before .before .before .before .record-id in
+    let a = c .before .before .before .before .before .before .before .before .before .before .args in
+    let s = a .image .now in let x = recordAt ID-BYTES s (a .a) in let y = recordAt ID-BYTES s (a .b) in
+    let d : eqb (x .id) (y .id) ≡ false = ne-eqb _ _ (λ q. if1 .left (record-id .ensures ∙ q ∙ sym (record-id2 .ensures))) in
+    let e : eqb (x .parent) (y .parent) ≡ true = eq-eqb _ _ (sym (record-parent .ensures) ∙ if2 .left ∙ record-parent2 .ensures) in
     rw (d, e) (c .same .ensures ∙ ap₂ (λ (u v : List ℕ). equal u v) (c .before .before .record-name .ensures) (c .before .record-name2 .ensures))
 
 pub is-clash-spec : {M : Type 1} → statement M

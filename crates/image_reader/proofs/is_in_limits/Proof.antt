@@ -19,20 +19,31 @@ use Rattle.image_reader.proofs.is_in_limits.Tie as tie
 
 returns : tie.Need-returns
 unfolding inLimits
-returns c = let x = recordAt ID-BYTES (c .before .before .before .args .image .now) (c .before .before .before .args .at) in let e : eqb (x .id) 0 ≡ true = eq-eqb _ _ (sym (c .before .record-id .ensures) ∙ c .if1 .taken) in rw e
+returns c =
+    let a = c .before .before .before .args in
+    let x = recordAt ID-BYTES (a .image .now) (a .at) in let e : eqb (x .id) 0 ≡ true = eq-eqb _ _ (sym (c .before .record-id .ensures) ∙ c .if1 .taken) in rw e
 
 returns-2 : tie.Need-returns-2
 unfolding inLimits
-returns-2 c = let x = recordAt ID-BYTES (c .before .before .before .before .before .args .image .now) (c .before .before .before .before .before .args .at) in let d : eqb (x .id) 0 ≡ false = ne-eqb _ _ (λ q. c .before .before .if1 .left (c .before .before .before .record-id .ensures ∙ q)) in
-    let e : leb (x .mode) 7 ≡ false = lt-leb (x .mode) 7 (omega (arith, c .before .record-mode .ensures)) in rw (d, e) (sym (and-false (ltb (x .id) (256 ^ ID-BYTES))))
+returns-2 c =
+    let record-id = c .before .before .before .record-id in
+    let a = c .before .before .before .before .before .args in
+    let x = recordAt ID-BYTES (a .image .now) (a .at) in let d : eqb (x .id) 0 ≡ false = ne-eqb _ _
+    (λ q. c .before .before .if1 .left (record-id .ensures ∙ q)) in
+    let e : leb (x .mode) 7 ≡ false = lt-leb (x .mode) 7 (omega (arith, c .before .record-mode .ensures)) in rw (d, e)
+    (sym (and-false (ltb (x .id) (256 ^ ID-BYTES))))
 
 returns-3 : tie.Need-returns-3
 unfolding inLimits
-returns-3 c = let x = recordAt ID-BYTES (c .before .before .before .before .before .before .before .before .args .image .now) (c .before .before .before .before .before .before .before .before .args .at) in
-    let s = c .before .before .before .before .before .before .before .before .args .image .now in
+returns-3 c =
+    let if1 = c .before .before .before .before .before .if1 in
+    let record-id = c .before .before .before .before .before .before .record-id in
+    let a = c .before .before .before .before .before .before .before .before .args in
+    let x = recordAt ID-BYTES (a .image .now) (a .at) in
+    let s = a .image .now in
     let b : Bytes s = bytes-of s (λ k. omega (arith, c .before .before .before .before .before .before .before .shared-slice-known .given k)) in
-    let d : eqb (x .id) 0 ≡ false = ne-eqb _ _ (λ q. c .before .before .before .before .before .if1 .left (c .before .before .before .before .before .before .record-id .ensures ∙ q)) in
-    let g : ltb (x .id) (256 ^ ID-BYTES) ≡ true = lt-ltb _ _ (id-below ID-BYTES s (c .before .before .before .before .before .before .before .before .args .at) b (omega arith)) in
+    let d : eqb (x .id) 0 ≡ false = ne-eqb _ _ (λ q. if1 .left (record-id .ensures ∙ q)) in
+    let g : ltb (x .id) (256 ^ ID-BYTES) ≡ true = lt-ltb _ _ (id-below ID-BYTES s (a .at) b (omega arith)) in
     let e : leb (x .mode) 7 ≡ true = le-leb (x .mode) 7 (omega (arith, c .before .before .before .before .record-mode .ensures)) in
     rw (d, g, e) (c .is-kind-and-size .ensures ∙ ap₂ (λ (k z : ℕ). eqb k 1 && leb z 65536 || eqb k 2 && eqb z 0) (c .before .before .record-kind .ensures) (c .before .record-size .ensures))
 

@@ -20,13 +20,19 @@ loop-holds : tie.Need-loop-holds Inv-loop μ-loop
 loop-holds c = (omega arith, refl)
 
 returns : tie.Need-returns Inv-loop μ-loop
-returns c = let n = c .before .before .before .before .args .name .now in let l = c .before .before .before .loop in sym (sym (l .inv .1) ∙ plain-zero n (l .i) (omega arith) (c .if1 .taken))
+returns c =
+    let n = c .before .before .before .before .args .name .now in let l = c .before .before .before .loop in sym
+    (sym (l .inv .1) ∙ plain-zero n (l .i) (omega arith) (c .if1 .taken))
 
 returns-2 : tie.Need-returns-2 Inv-loop μ-loop
-returns-2 c = let n = c .before .before .before .before .before .before .args .name .now in let l = c .before .before .before .before .before .loop in sym (sym (l .inv .1) ∙ plain-slash n (l .i) (omega arith) (c .if2 .taken))
+returns-2 c =
+    let n = c .before .before .before .before .before .before .args .name .now in let l = c .before .before .before .before .before .loop in sym
+    (sym (l .inv .1) ∙ plain-slash n (l .i) (omega arith) (c .if2 .taken))
 
 loop-again : tie.Need-loop-again Inv-loop μ-loop
-loop-again c = let n = c .before .before .before .before .before .before .args .name .now in let l = c .before .before .before .before .before .loop in (omega arith, sym (plain-next n (l .i) (omega arith) (c .before .before .if1 .left) (c .if2 .left)) ∙ l .inv .1)
+loop-again c =
+    let n = c .before .before .before .before .before .before .args .name .now in let l = c .before .before .before .before .before .loop in
+    (omega arith, sym (plain-next n (l .i) (omega arith) (c .before .before .if1 .left) (c .if2 .left)) ∙ l .inv .1)
 
 returns-3 : tie.Need-returns-3 Inv-loop μ-loop
 returns-3 c = let n = c .before .before .args .name .now in let l = c .before .loop in sym (sym (l .inv .1) ∙ plain-end n (l .i) (omega arith))

@@ -19,25 +19,43 @@ record-id-requires : tie.Need-record-id-requires
 record-id-requires c κs = let h = record-least ID-BYTES (c .before .args .image .now) (c .before .args .at) in omega (arith, h)
 
 returns : tie.Need-returns
-returns c = let x = recordAt ID-BYTES (c .before .before .before .args .image .now) (c .before .before .before .args .at) in let e : eqb (x .id) 1 ≡ false = ne-eqb _ _ (λ q. c .if1 .taken (c .before .record-id .ensures ∙ q)) in rw e
+returns c =
+    let a = c .before .before .before .args in
+    let x = recordAt ID-BYTES (a .image .now) (a .at) in let e : eqb (x .id) 1 ≡ false = ne-eqb _ _
+    (λ q. c .if1 .taken (c .before .record-id .ensures ∙ q)) in rw e
 
 record-kind-requires : tie.Need-record-kind-requires
-record-kind-requires c κs = let h = record-least ID-BYTES (c .before .before .before .args .image .now) (c .before .before .before .args .at) in omega (arith, h)
+record-kind-requires c κs =
+    let a = c .before .before .before .args in
+    let h = record-least ID-BYTES (a .image .now) (a .at) in omega (arith, h)
 
 returns-2 : tie.Need-returns-2
-returns-2 c = let x = recordAt ID-BYTES (c .before .before .before .before .before .args .image .now) (c .before .before .before .before .before .args .at) in let d : eqb (x .id) 1 ≡ true = eq-eqb _ _ (sym (c .before .before .before .record-id .ensures) ∙ c .before .before .if1 .left) in
+returns-2 c =
+    let record-id = c .before .before .before .record-id in
+    let a = c .before .before .before .before .before .args in
+    let x = recordAt ID-BYTES (a .image .now) (a .at) in let d : eqb (x .id) 1 ≡ true = eq-eqb _ _ (sym (record-id .ensures) ∙ c .before .before .if1 .left) in
     let e : eqb (x .kind) 2 ≡ false = ne-eqb _ _ (λ q. c .if2 .taken (c .before .record-kind .ensures ∙ q)) in rw (d, e)
 
 record-parent-requires : tie.Need-record-parent-requires
-record-parent-requires c κs = let h = record-least ID-BYTES (c .before .before .before .before .before .args .image .now) (c .before .before .before .before .before .args .at) in omega (arith, h)
+record-parent-requires c κs =
+    let a = c .before .before .before .before .before .args in
+    let h = record-least ID-BYTES (a .image .now) (a .at) in omega (arith, h)
 
 returns-3 : tie.Need-returns-3
-returns-3 c = let x = recordAt ID-BYTES (c .before .before .before .before .before .before .before .args .image .now) (c .before .before .before .before .before .before .before .args .at) in let d : eqb (x .id) 1 ≡ true = eq-eqb _ _ (sym (c .before .before .before .before .before .record-id .ensures) ∙ c .before .before .before .before .if1 .left) in
+returns-3 c =
+    let if1 = c .before .before .before .before .if1 in
+    let record-id = c .before .before .before .before .before .record-id in
+    let a = c .before .before .before .before .before .before .before .args in
+    let x = recordAt ID-BYTES (a .image .now) (a .at) in let d : eqb (x .id) 1 ≡ true = eq-eqb _ _ (sym (record-id .ensures) ∙ if1 .left) in
     let e : eqb (x .kind) 2 ≡ true = eq-eqb _ _ (sym (c .before .before .before .record-kind .ensures) ∙ c .before .before .if2 .left) in
     let f : eqb (x .parent) 0 ≡ false = ne-eqb _ _ (λ q. c .if3 .taken (c .before .record-parent .ensures ∙ q)) in rw (d, e, f)
 
 returns-4 : tie.Need-returns-4
-returns-4 c = let x = recordAt ID-BYTES (c .before .before .before .before .before .before .before .before .args .image .now) (c .before .before .before .before .before .before .before .before .args .at) in let d : eqb (x .id) 1 ≡ true = eq-eqb _ _ (sym (c .before .before .before .before .before .before .record-id .ensures) ∙ c .before .before .before .before .before .if1 .left) in
+returns-4 c =
+    let if1 = c .before .before .before .before .before .if1 in
+    let record-id = c .before .before .before .before .before .before .record-id in
+    let a = c .before .before .before .before .before .before .before .before .args in
+    let x = recordAt ID-BYTES (a .image .now) (a .at) in let d : eqb (x .id) 1 ≡ true = eq-eqb _ _ (sym (record-id .ensures) ∙ if1 .left) in
     let e : eqb (x .kind) 2 ≡ true = eq-eqb _ _ (sym (c .before .before .before .before .record-kind .ensures) ∙ c .before .before .before .if2 .left) in
     let f : eqb (x .parent) 0 ≡ true = eq-eqb _ _ (sym (c .before .before .record-parent .ensures) ∙ c .before .if3 .left) in
     rw (d, e, f) (ap (λ (l : List ℕ). eqb (length l) 0) (c .record-name .ensures) ∙ no-bytes (x .name))

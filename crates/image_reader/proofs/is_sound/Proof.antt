@@ -38,30 +38,41 @@ are-sound-requires c κs =
 
 returns-2 : tie.Need-returns-2
 returns-2 c =
+    let if1 = c .before .before .before .if1 in
+    let form = c .before .before .before .before .form in
     let s = c .before .before .before .before .before .before .args .image .now in
-    let (e, f) = form-some ID-BYTES s (c .before .before .before .before .form .result) (c .before .before .before .before .form .ensures) (c .before .before .before .if1 .left) in
-    let z : soundNodes ID-BYTES (imageNodes ID-BYTES s) ≡ false = ap (λ (n : ℕ). soundNodes ID-BYTES (nodesFrom ID-BYTES s 4 n)) (sym (c .before .before .u32-at .ensures)) ∙ sym (c .before .are-sound .ensures) ∙ not-true _ (c .if2 .taken) in
+    let (e, f) = form-some ID-BYTES s (form .result) (form .ensures) (if1 .left) in
+    let z : soundNodes ID-BYTES (imageNodes ID-BYTES s) ≡ false = ap (λ (n : ℕ). soundNodes ID-BYTES (nodesFrom ID-BYTES s 4 n))
+    (sym (c .before .before .u32-at .ensures)) ∙ sym (c .before .are-sound .ensures) ∙ not-true _ (c .if2 .taken) in
     sym (parsed-formed ID-BYTES s f ∙ ap (λ (b : Bool). b && eqb (digestCount ID-BYTES s) (pageTotal (imageNodes ID-BYTES s))) z)
 
 u32-at-requires-2 : tie.Need-u32-at-requires-2
 u32-at-requires-2 c κs =
+    let if1 = c .before .before .before .if1 in
+    let form = c .before .before .before .before .form in
     let s = c .before .before .before .before .before .before .args .image .now in
-    let (e, f) = form-some ID-BYTES s (c .before .before .before .before .form .result) (c .before .before .before .before .form .ensures) (c .before .before .before .if1 .left) in
+    let (e, f) = form-some ID-BYTES s (form .result) (form .ensures) (if1 .left) in
     omega (arith, e, f .within)
 
 page-sum-requires : tie.Need-page-sum-requires
 page-sum-requires c κs =
+    let if1 = c .before .before .before .before .if1 in
+    let form = c .before .before .before .before .before .form in
     let s = c .before .before .before .before .before .before .before .args .image .now in
-    let (e, f) = form-some ID-BYTES s (c .before .before .before .before .before .form .result) (c .before .before .before .before .before .form .ensures) (c .before .before .before .before .if1 .left) in
+    let (e, f) = form-some ID-BYTES s (form .result) (form .ensures) (if1 .left) in
     let q = ap (endFrom ID-BYTES s 4) (c .before .before .before .u32-at .ensures) in
     (omega (arith, f .count, c .before .before .before .u32-at .ensures), omega (arith, f .within, q))
 
 returns-3 : tie.Need-returns-3
 returns-3 c =
+    let are-sound = c .before .before .before .are-sound in
+    let if1 = c .before .before .before .before .before .if1 in
+    let form = c .before .before .before .before .before .before .form in
     let s = c .before .before .before .before .before .before .before .before .args .image .now in
-    let (e, f) = form-some ID-BYTES s (c .before .before .before .before .before .before .form .result) (c .before .before .before .before .before .before .form .ensures) (c .before .before .before .before .before .if1 .left) in
+    let (e, f) = form-some ID-BYTES s (form .result) (form .ensures) (if1 .left) in
     let q = c .before .before .before .before .u32-at .ensures in
-    let z : soundNodes ID-BYTES (imageNodes ID-BYTES s) ≡ true = ap (λ (n : ℕ). soundNodes ID-BYTES (nodesFrom ID-BYTES s 4 n)) (sym q) ∙ sym (c .before .before .before .are-sound .ensures) ∙ not-false _ (c .before .before .if2 .left) in
+    let z : soundNodes ID-BYTES (imageNodes ID-BYTES s) ≡ true = ap (λ (n : ℕ). soundNodes ID-BYTES (nodesFrom ID-BYTES s 4 n)) (sym q)
+    ∙ sym (are-sound .ensures) ∙ not-false _ (c .before .before .if2 .left) in
     let d : c .before .u32-at2 .result ≡ digestCount ID-BYTES s = c .before .u32-at2 .ensures ∙ ap (λ (p : ℕ). decode (part p 4 s)) e in
     let g : c .page-sum .result ≡ pageTotal (imageNodes ID-BYTES s) = c .page-sum .ensures ∙ ap (λ (n : ℕ). pageTotal (nodesFrom ID-BYTES s 4 n)) q in
     ap₂ eqb d g ∙ sym (parsed-formed ID-BYTES s f ∙ ap (λ (b : Bool). b && eqb (digestCount ID-BYTES s) (pageTotal (imageNodes ID-BYTES s))) z)

@@ -27,10 +27,11 @@ put-digests-requires c κs =
 returns : tie.Need-returns
 unfolding imageDigests
 returns c =
+    let u32-at = c .before .before .before .before .before .u32-at in
     let a = c .before .before .before .before .before .before .before .before .args in
     let s = a .image .now in
     let p = c .before .before .before .before .before .before .before .before .pre in
-    let d : c .before .before .before .before .before .u32-at .result ≡ digestCount ID-BYTES s = c .before .before .before .before .before .u32-at .ensures ∙ ap (λ (e : ℕ). decode (part e 4 s)) (p .0) in
+    let d : u32-at .result ≡ digestCount ID-BYTES s = u32-at .ensures ∙ ap (λ (e : ℕ). decode (part e 4 s)) (p .0) in
     let n = length-drop (a .end + 4) s in
     let x = take-all (length s - (a .end + 4)) (drop (a .end + 4) s) (omega (arith, n)) ∙ ap (λ (e : ℕ). drop (e + 4) s) (p .0) in
     (c .before .before .put-digests .ensures .0 ∙ ap (λ (r : List (List ℕ)). withDigests (overwrite (memOf (a .m .now) .digests) 0 r) (memOf (a .m .now))) (ap₂ (rows 32) d x), c .before .before .put-digests .ensures .1)

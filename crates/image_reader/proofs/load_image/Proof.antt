@@ -28,27 +28,36 @@ load-records-requires c κs =
     let i = to-sound-image ID-BYTES s (bytes-of s (λ k. omega (arith, c .before .before .before .shared-slice-known .given k))) (b .pre .0) in
     let f = i .form in
     let q = c .before .u32-at .ensures in
-    let e = ap (endFrom ID-BYTES s 4) q in
-    (ap (λ (n : ℕ). soundNodes ID-BYTES (nodesFrom ID-BYTES s 4 n)) q ∙ i .nodes, omega (arith, q, f .count), omega (arith, e, f .within), omega (arith, b .pre .1))
+    let e = ap (endFrom ID-BYTES s 4) q in (
+      ap (λ (n : ℕ). soundNodes ID-BYTES (nodesFrom ID-BYTES s 4 n)) q ∙ i .nodes,
+      omega (arith, q, f .count),
+      omega (arith, e, f .within),
+      omega (arith, b .pre .1),
+    )
 
 load-digests-requires : tie.Need-load-digests-requires
 load-digests-requires c κs =
+    let load-records = c .before .before .before .load-records in
+    let u32-at = c .before .before .before .before .before .u32-at in
+    let shared-slice-known = c .before .before .before .before .before .before .before .shared-slice-known in
     let b = c .before .before .before .before .before .before .before .before in
     let s = b .args .image .now in
-    let i = to-sound-image ID-BYTES s (bytes-of s (λ k. omega (arith, c .before .before .before .before .before .before .before .shared-slice-known .given k))) (b .pre .0) in
+    let i = to-sound-image ID-BYTES s (bytes-of s (λ k. omega (arith, shared-slice-known .given k))) (b .pre .0) in
     let f = i .form in
-    let r : c .before .before .before .load-records .result ≡ recordsEnd ID-BYTES s = c .before .before .before .load-records .ensures .1 .1 ∙ ap (endFrom ID-BYTES s 4) (c .before .before .before .before .before .u32-at .ensures) in
-    (r, omega (arith, r, f .ends), i .few, omega (arith, c .before .before .before .load-records .ensures .1 .0, b .pre .1))
+    let r : load-records .result ≡ recordsEnd ID-BYTES s = load-records .ensures .1 .1 ∙ ap (endFrom ID-BYTES s 4) (u32-at .ensures) in
+    (r, omega (arith, r, f .ends), i .few, omega (arith, load-records .ensures .1 .0, b .pre .1))
 
 returns : tie.Need-returns
 returns c =
+    let load-records = c .before .before .before .before .before .before .load-records in
+    let shared-slice-known = c .before .before .before .before .before .before .before .before .before .before .shared-slice-known in
     let b = c .before .before .before .before .before .before .before .before .before .before .before in
     let s = b .args .image .now in
-    let i = to-sound-image ID-BYTES s (bytes-of s (λ k. omega (arith, c .before .before .before .before .before .before .before .before .before .before .shared-slice-known .given k))) (b .pre .0) in
+    let i = to-sound-image ID-BYTES s (bytes-of s (λ k. omega (arith, shared-slice-known .given k))) (b .pre .0) in
     let q = c .before .before .before .before .before .before .before .before .u32-at .ensures in
     let m = b .args .m .now in
-    let x = c .before .before .before .before .before .before .load-records .ensures .0 ∙ ap (λ (n : ℕ). withNodes (overwrite (memOf m .nodes) 0 (nodesFrom ID-BYTES s 4 n)) (memOf m)) q in
-    (both-loaded s m _ _ _ i q x (c .before .before .load-digests .ensures .0), c .before .before .load-digests .ensures .1 ∙ c .before .before .before .before .before .before .load-records .ensures .1 .0)
+    let x = load-records .ensures .0 ∙ ap (λ (n : ℕ). withNodes (overwrite (memOf m .nodes) 0 (nodesFrom ID-BYTES s 4 n)) (memOf m)) q in
+    (both-loaded s m _ _ _ i q x (c .before .before .load-digests .ensures .0), c .before .before .load-digests .ensures .1 ∙ load-records .ensures .1 .0)
 
 pub load-image-spec : {M : Type 1} → statement M
 load-image-spec =

@@ -40,11 +40,16 @@ loop-holds c =
 
 load-record-requires : tie.Need-load-record-requires Inv-loop μ-loop
 load-record-requires c κs =
+    let pre = c .before .before .before .before .before .pre in
     let a = c .before .before .before .before .before .args in
     let s = a .image .now in
     let l = c .before .before .loop in
-    let h = record-in ID-BYTES s (l .at) (a .n - l .i) (omega arith) in
-    (omega (arith, h, l .inv .3, c .before .before .before .before .before .pre .2), short-name ID-BYTES s (a .n) (l .i) (c .before .before .before .before .before .pre .0) (omega arith) (l .inv .2), omega (arith, c .before .before .before .before .before .pre .1), omega (arith, l .inv .1, c .before .before .before .before .before .pre .3))
+    let h = record-in ID-BYTES s (l .at) (a .n - l .i) (omega arith) in (
+      omega (arith, h, l .inv .3, pre .2),
+      short-name ID-BYTES s (a .n) (l .i) (pre .0) (omega arith) (l .inv .2),
+      omega (arith, pre .1),
+      omega (arith, l .inv .1, pre .3),
+    )
 
 record-end-requires : tie.Need-record-end-requires Inv-loop μ-loop
 record-end-requires c κs =
@@ -57,6 +62,7 @@ record-end-requires c κs =
 
 loop-again : tie.Need-loop-again Inv-loop μ-loop
 loop-again c =
+    let pre = c .before .before .before .before .before .before .before .before .before .pre in
     let a = c .before .before .before .before .before .before .before .before .before .args in
     let s = a .image .now in
     let l = c .before .before .before .before .before .before .loop in
@@ -69,7 +75,8 @@ loop-again c =
       next-end ID-BYTES s (l .at) (l .i) (l .inv .2) r,
       ap₂ (endFrom ID-BYTES s) r e ∙ sym (end-next ID-BYTES s (l .at) (a .n - l .i) (omega arith)) ∙ l .inv .3,
       c .before .before .before .load-record .ensures .0 ∙ ap (λ (M : Mem). withNodes (set (M .nodes) (l .i) x) M) (l .inv .4)
-          ∙ ap (λ (ns : List Node). withNodes ns (memOf (a .m .now))) (loaded-next ID-BYTES s (memOf (a .m .now) .nodes) (l .i) (l .at) (l .inv .2) (omega (arith, k, c .before .before .before .before .before .before .before .before .before .pre .1))),
+          ∙ ap (λ (ns : List Node). withNodes ns (memOf (a .m .now)))
+          (loaded-next ID-BYTES s (memOf (a .m .now) .nodes) (l .i) (l .at) (l .inv .2) (omega (arith, k, pre .1))),
     )
 
 returns : tie.Need-returns Inv-loop μ-loop
@@ -77,8 +84,10 @@ returns c =
     let a = c .before .before .before .before .args in
     let s = a .image .now in
     let l = c .before .loop in
-    let e : l .i ≡ a .n = omega arith in
-    (l .inv .4 ∙ ap (λ (n : ℕ). withNodes (overwrite (memOf (a .m .now) .nodes) 0 (nodesFrom ID-BYTES s 4 n)) (memOf (a .m .now))) e, (l .inv .1, l .inv .2 ∙ ap (endFrom ID-BYTES s 4) e))
+    let e : l .i ≡ a .n = omega arith in (
+      l .inv .4 ∙ ap (λ (n : ℕ). withNodes (overwrite (memOf (a .m .now) .nodes) 0 (nodesFrom ID-BYTES s 4 n)) (memOf (a .m .now))) e,
+      (l .inv .1, l .inv .2 ∙ ap (endFrom ID-BYTES s 4) e),
+    )
 
 pub load-records-spec : {M : Type 1} → statement M
 load-records-spec =

@@ -12,7 +12,8 @@ use Rattle.image_reader.proofs.page_sum.Tie as tie
 
 abbrev Inv-loop : tie.InvT-loop
 Inv-loop image n at₀ total₀ i₀ at total i =
-    (i ≤ n) × (endFrom ID-BYTES image at (n - i) ≡ endFrom ID-BYTES image 4 n) × (total + pageTotal (nodesFrom ID-BYTES image at (n - i)) ≡ pageTotal (nodesFrom ID-BYTES image 4 n))
+    (i ≤ n) × (endFrom ID-BYTES image at (n - i) ≡ endFrom ID-BYTES image 4 n)
+    × (total + pageTotal (nodesFrom ID-BYTES image at (n - i)) ≡ pageTotal (nodesFrom ID-BYTES image 4 n))
     × (total ≤ i * 4194304)
 
 abbrev μ-loop : tie.MeasureT-loop
@@ -56,8 +57,12 @@ loop-again c =
     let r = c .record-end .ensures .0 in
     let h = pages-next ID-BYTES s (l .at) (a .n - l .i) (omega arith) in
     let g = ap₂ (λ (p n : ℕ). pageTotal (nodesFrom ID-BYTES s p n)) r e in
-    let k = c .before .pages-for .ensures .0 ∙ ap pagesFor (c .before .before .record-size .ensures) in
-    (omega arith, ap₂ (endFrom ID-BYTES s) r e ∙ sym (end-next ID-BYTES s (l .at) (a .n - l .i) (omega arith)) ∙ l .inv .1, omega (arith, h, g, k, l .inv .2), omega arith)
+    let k = c .before .pages-for .ensures .0 ∙ ap pagesFor (c .before .before .record-size .ensures) in (
+      omega arith,
+      ap₂ (endFrom ID-BYTES s) r e ∙ sym (end-next ID-BYTES s (l .at) (a .n - l .i) (omega arith)) ∙ l .inv .1,
+      omega (arith, h, g, k, l .inv .2),
+      omega arith,
+    )
 
 returns : tie.Need-returns Inv-loop μ-loop
 returns c =

@@ -14,7 +14,9 @@ use Rattle.image_reader.proofs.parent_place.Statement.{statement}
 use Rattle.image_reader.proofs.parent_place.Tie as tie
 
 abbrev Inv-loop : tie.InvT-loop
-Inv-loop image at i id a₀ k₀ a k = (k ≤ i) × (endFrom ID-BYTES image a (i - k) ≡ endFrom ID-BYTES image 4 i) × (k + place (isParent (recordAt ID-BYTES image at)) (nodesFrom ID-BYTES image a (i - k)) ≡ place (isParent (recordAt ID-BYTES image at)) (nodesFrom ID-BYTES image 4 i))
+Inv-loop image at i id a₀ k₀ a k =
+    (k ≤ i) × (endFrom ID-BYTES image a (i - k) ≡ endFrom ID-BYTES image 4 i)
+    × (k + place (isParent (recordAt ID-BYTES image at)) (nodesFrom ID-BYTES image a (i - k)) ≡ place (isParent (recordAt ID-BYTES image at)) (nodesFrom ID-BYTES image 4 i))
 
 abbrev μ-loop : tie.MeasureT-loop
 μ-loop image at i id a₀ k₀ a k = i - k
@@ -43,12 +45,14 @@ is-parent-requires c κs =
 
 returns : tie.Need-returns Inv-loop μ-loop
 returns c =
+    let record-parent = c .before .before .before .before .record-parent in
     let a = c .before .before .before .before .before .before .args in
     let s = a .image .now in
     let l = c .before .before .before .loop in
     let x = recordAt ID-BYTES s (a .at) in
     let y = recordAt ID-BYTES s (l .a) in
-    let t : isParent x y ≡ true = ap (λ (p : ℕ). eqb (y .id) p && eqb (y .kind) 2) (sym (c .before .before .before .before .record-parent .ensures)) ∙ sym (c .before .is-parent .ensures) ∙ c .if1 .taken in
+    let t : isParent x y ≡ true = ap (λ (p : ℕ). eqb (y .id) p && eqb (y .kind) 2) (sym (record-parent .ensures))
+    ∙ sym (c .before .is-parent .ensures) ∙ c .if1 .taken in
     let h = place-hit ID-BYTES s (isParent x) (l .a) (a .i - l .k) (omega arith) t in
     omega (arith, h, l .inv .2)
 
@@ -64,6 +68,7 @@ record-end-requires c κs =
 
 loop-again : tie.Need-loop-again Inv-loop μ-loop
 loop-again c =
+    let record-parent = c .before .before .before .before .before .record-parent in
     let a = c .before .before .before .before .before .before .before .args in
     let s = a .image .now in
     let l = c .before .before .before .before .loop in
@@ -71,7 +76,8 @@ loop-again c =
     let e : a .i - (l .k + 1) ≡ a .i - l .k - 1 = omega arith in
     let r = c .record-end .ensures .0 in
     let y = recordAt ID-BYTES s (l .a) in
-    let t : isParent x y ≡ false = ap (λ (p : ℕ). eqb (y .id) p && eqb (y .kind) 2) (sym (c .before .before .before .before .before .record-parent .ensures)) ∙ sym (c .before .before .is-parent .ensures) ∙ c .before .if1 .left in
+    let t : isParent x y ≡ false = ap (λ (p : ℕ). eqb (y .id) p && eqb (y .kind) 2) (sym (record-parent .ensures))
+    ∙ sym (c .before .before .is-parent .ensures) ∙ c .before .if1 .left in
     let h = place-miss ID-BYTES s (isParent x) (l .a) (a .i - l .k) (omega arith) t in
     let g = ap₂ (λ (p n : ℕ). place (isParent x) (nodesFrom ID-BYTES s p n)) r e in
     (omega arith, ap₂ (endFrom ID-BYTES s) r e ∙ sym (end-next ID-BYTES s (l .a) (a .i - l .k) (omega arith)) ∙ l .inv .1, omega (arith, h, g, l .inv .2))

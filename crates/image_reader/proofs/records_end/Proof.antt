@@ -17,7 +17,8 @@ abbrev μ-loop : tie.MeasureT-loop
 μ-loop image n at₀ i₀ at i = n - i
 
 loop-holds : tie.Need-loop-holds Inv-loop μ-loop
-loop-holds c = let e : c .before .args .n - 0 ≡ c .before .args .n = omega arith in (omega arith, omega arith, ap (endFrom ID-BYTES (c .before .args .image .now) 4) e)
+loop-holds c =
+    let e : c .before .args .n - 0 ≡ c .before .args .n = omega arith in (omega arith, omega arith, ap (endFrom ID-BYTES (c .before .args .image .now) 4) e)
 
 returns : tie.Need-returns Inv-loop μ-loop
 returns c =
@@ -38,8 +39,11 @@ loop-again c =
     let a = c .before .before .before .before .before .before .args in
     let s = a .image .now in
     let l = c .before .before .before .before .loop in
-    let e : a .n - (l .i + 1) ≡ a .n - l .i - 1 = omega arith in
-    (omega arith, omega arith, ap₂ (endFrom ID-BYTES s) (c .before .record-end .ensures .0) e ∙ sym (end-next ID-BYTES s (l .at) (a .n - l .i) (omega arith)) ∙ l .inv .2)
+    let e : a .n - (l .i + 1) ≡ a .n - l .i - 1 = omega arith in (
+      omega arith,
+      omega arith,
+      ap₂ (endFrom ID-BYTES s) (c .before .record-end .ensures .0) e ∙ sym (end-next ID-BYTES s (l .at) (a .n - l .i) (omega arith)) ∙ l .inv .2,
+    )
 
 returns-3 : tie.Need-returns-3 Inv-loop μ-loop
 returns-3 c =

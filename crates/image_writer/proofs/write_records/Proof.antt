@@ -17,7 +17,8 @@ use Rattle.image_writer.proofs.write_records.Tie as tie
 
 abbrev Inv-loop : tie.InvT-loop
 Inv-loop m n out₀ at next₀ i₀ out next i =
-    (i ≤ n) × (length out ≡ length out₀) × (overwrite out next (put-all (nodeForm ID-BYTES) (drop i (nodesIn n m))) ≡ overwrite out₀ at (put-all (nodeForm ID-BYTES) (nodesIn n m)))
+    (i ≤ n) × (length out ≡ length out₀)
+    × (overwrite out next (put-all (nodeForm ID-BYTES) (drop i (nodesIn n m))) ≡ overwrite out₀ at (put-all (nodeForm ID-BYTES) (nodesIn n m)))
     × (next + recordsLength ID-BYTES (drop i (nodesIn n m)) ≡ at + recordsLength ID-BYTES (nodesIn n m))
 
 abbrev μ-loop : tie.MeasureT-loop
@@ -40,8 +41,13 @@ loop-again c =
     let r = c .before .before .write-record in
     let h : a .n ≤ NODES = omega arith in
     let i : l .i < a .n = omega arith in
-    let p = records-in (a .m .now) (a .n) h ID-BYTES (l .i) i in
-    (omega arith, omega arith, record-next (a .m .now) (a .n) h ID-BYTES (l .i) i (l .out) (l .next) (omega (arith, p, l .inv .3, l .inv .1)) (r .ensures .0) (r .ensures .1) ∙ l .inv .2, omega (arith, p, l .inv .3, r .ensures .1))
+    let p = records-in (a .m .now) (a .n) h ID-BYTES (l .i) i in (
+      omega arith,
+      omega arith,
+      record-next (a .m .now) (a .n) h ID-BYTES (l .i) i (l .out) (l .next) (omega (arith, p, l .inv .3, l .inv .1)) (r .ensures .0) (r .ensures .1)
+          ∙ l .inv .2,
+      omega (arith, p, l .inv .3, r .ensures .1),
+    )
 
 returns : tie.Need-returns Inv-loop μ-loop
 returns c =

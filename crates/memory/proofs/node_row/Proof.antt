@@ -13,9 +13,11 @@ use Rattle.memory.proofs.node_row.Tie as tie
 
 returns : tie.Need-returns
 returns c =
+    let put-bytes = c .before .before .before .before .put-bytes in
+    let node-front = c .before .before .before .before .before .before .before .node-front in
     let a = c .before .before .before .before .before .before .before .before .before .args in
     let s = a .name .now in
-    let e = c .before .before .before .before .put-bytes .ensures ∙ ap (overwrite (replicate 56 0) 0) (c .before .before .before .before .before .before .before .node-front .ensures) in
+    let e = put-bytes .ensures ∙ ap (overwrite (replicate 56 0) 0) (node-front .ensures) in
     ap nodeOf (c .before .put .ensures ∙ ap (λ (r : List ℕ). overwrite r 23 s) e)
     ∙ written-node (a .id) (a .parent) (a .kind) (a .mode) (a .size) s (replicate 56 0) (omega arith) (omega arith) (omega arith) (omega arith)
 

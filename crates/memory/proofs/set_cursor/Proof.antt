@@ -12,8 +12,9 @@ use Rattle.memory.proofs.set_cursor.Tie as tie
 
 returns : tie.Need-returns
 returns c =
+    let bytes4 = c .before .before .before .before .before .bytes4 in
     let a = c .before .before .before .before .before .before .before .args in
-    let e = c .before .before .put .ensures ∙ ap (overwrite (a .m .now) (opensAt + a .i * openWidth + 16)) (c .before .before .before .before .before .bytes4 .ensures) in
+    let e = c .before .before .put .ensures ∙ ap (overwrite (a .m .now) (opensAt + a .i * openWidth + 16)) (bytes4 .ensures) in
     (ap memOf e ∙ mem-cursor (a .m .now) (omega arith) (a .i) (a .cursor) (omega arith) (omega arith), omega arith)
 
 pub set-cursor-spec : {M : Type 1} → statement M

@@ -12,8 +12,9 @@ use Rattle.memory.proofs.set_size.Tie as tie
 
 returns : tie.Need-returns
 returns c =
+    let bytes4 = c .before .before .before .before .before .bytes4 in
     let a = c .before .before .before .before .before .before .before .args in
-    let e = c .before .before .put .ensures ∙ ap (overwrite (a .m .now) (nodesAt + a .i * nodeWidth + 18)) (c .before .before .before .before .before .bytes4 .ensures) in
+    let e = c .before .before .put .ensures ∙ ap (overwrite (a .m .now) (nodesAt + a .i * nodeWidth + 18)) (bytes4 .ensures) in
     (ap memOf e ∙ mem-size (a .m .now) (omega arith) (a .i) (a .size) (omega arith) (omega arith), omega arith)
 
 pub set-size-spec : {M : Type 1} → statement M

@@ -21,7 +21,8 @@ returns-3 : tie.Need-returns-3
 unfolding tablesIn
 returns-3 c o mode =
     let a = c .before .before .before .before .before .before .args in
-    c .new-own .ensures ∙ sym (new-good (tablesIn (a .n) o (memOf (a .m .now))) (a .path .now) mode (sym (c .before .before .before .form .ensures) ∙ c .before .enum-told3 .given .1))
+    c .new-own .ensures ∙ sym
+    (new-good (tablesIn (a .n) o (memOf (a .m .now))) (a .path .now) mode (sym (c .before .before .before .form .ensures) ∙ c .before .enum-told3 .given .1))
 
 pub judge-new-spec : {M : Type 1} → statement M
 judge-new-spec =

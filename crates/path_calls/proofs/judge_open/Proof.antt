@@ -11,21 +11,25 @@ use Rattle.path_calls.proofs.judge_open.Tie as tie
 
 open-own-requires : tie.Need-open-own-requires
 open-own-requires c κs =
+    let judge-reach = c .before .before .before .judge-reach in
     let a = c .before .before .before .before .before .before .args in
-    let h = reached-front (a .m .now) (a .n) (a .o) (a .path .now) (omega arith) (omega arith) _ _ (c .before .before .before .judge-reach .ensures (a .o)) (c .before .w .given .1) .1 in
+    let h = reached-front (a .m .now) (a .n) (a .o) (a .path .now) (omega arith) (omega arith) _ _ (judge-reach .ensures (a .o)) (c .before .w .given .1) .1 in
     search needs
 
 returns : tie.Need-returns
 unfolding tablesIn
 returns c =
+    let judge-reach = c .before .before .before .before .judge-reach in
     let a = c .before .before .before .before .before .before .before .args in
-    let h = reached-front (a .m .now) (a .n) (a .o) (a .path .now) (omega arith) (omega arith) _ _ (c .before .before .before .before .judge-reach .ensures (a .o)) (c .before .before .w .given .1) .0 in
+    let h = reached-front (a .m .now) (a .n) (a .o) (a .path .now) (omega arith) (omega arith) _ _ (judge-reach .ensures (a .o))
+    (c .before .before .w .given .1) .0 in
     c .open-own .ensures ∙ sym (open-goes (tablesIn (a .n) (a .o) (memOf (a .m .now))) (a .path .now) _ h (a .rights))
 
 returns-2 : tie.Need-returns-2
 returns-2 c =
+    let judge-reach = c .before .before .before .judge-reach in
     let a = c .before .before .before .before .before .before .args in
-    sym (open-stops (tablesIn (a .n) (a .o) (memOf (a .m .now))) (a .path .now) _ (sym (c .before .before .before .judge-reach .ensures (a .o)) ∙ c .before .w2 .given .1) (a .rights))
+    sym (open-stops (tablesIn (a .n) (a .o) (memOf (a .m .now))) (a .path .now) _ (sym (judge-reach .ensures (a .o)) ∙ c .before .w2 .given .1) (a .rights))
 
 pub judge-open-spec : {M : Type 1} → statement M
 judge-open-spec =

@@ -11,15 +11,17 @@ use Rattle.path_calls.proofs.judge_readdir.Tie as tie
 
 readdir-own-requires : tie.Need-readdir-own-requires
 readdir-own-requires c κs =
+    let judge-reach = c .before .before .before .judge-reach in
     let a = c .before .before .before .before .before .before .args in
-    let h = reached-front (a .m .now) (a .n) 0 (a .path .now) (omega arith) (omega arith) _ _ (c .before .before .before .judge-reach .ensures 0) (c .before .w .given .1) .1 in
+    let h = reached-front (a .m .now) (a .n) 0 (a .path .now) (omega arith) (omega arith) _ _ (judge-reach .ensures 0) (c .before .w .given .1) .1 in
     search needs
 
 returns : tie.Need-returns
 unfolding tablesIn
 returns c o =
     let a = c .before .before .before .before .before .before .before .args in
-    let h = reached-front (a .m .now) (a .n) o (a .path .now) (omega arith) (omega arith) _ _ (c .before .before .before .before .judge-reach .ensures o) (c .before .before .w .given .1) .0 in
+    let h = reached-front (a .m .now) (a .n) o (a .path .now) (omega arith) (omega arith) _ _
+    (c .before .before .before .before .judge-reach .ensures o) (c .before .before .w .given .1) .0 in
     c .readdir-own .ensures ∙ sym (readdir-goes (tablesIn (a .n) o (memOf (a .m .now))) (a .path .now) _ h)
 
 returns-2 : tie.Need-returns-2

@@ -12,8 +12,9 @@ use Rattle.path_calls.proofs.judge_remove.Tie as tie
 
 remove-own-requires : tie.Need-remove-own-requires
 remove-own-requires c κs =
+    let judge-way = c .before .before .before .judge-way in
     let a = c .before .before .before .before .before .before .args in
-    let h = way-front (a .m .now) (a .n) (a .o) (a .path .now) (omega arith) (omega arith) _ _ _ (c .before .before .before .judge-way .ensures (a .o)) (c .before .w .given .1) in
+    let h = way-front (a .m .now) (a .n) (a .o) (a .path .now) (omega arith) (omega arith) _ _ _ (judge-way .ensures (a .o)) (c .before .w .given .1) in
     let k = h .2 in
     let d = h .3 in
     search needs
@@ -21,8 +22,9 @@ remove-own-requires c κs =
 returns : tie.Need-returns
 unfolding tablesIn
 returns c =
+    let judge-way = c .before .before .before .before .judge-way in
     let a = c .before .before .before .before .before .before .before .args in
-    let h = way-front (a .m .now) (a .n) (a .o) (a .path .now) (omega arith) (omega arith) _ _ _ (c .before .before .before .before .judge-way .ensures (a .o)) (c .before .before .w .given .1) in
+    let h = way-front (a .m .now) (a .n) (a .o) (a .path .now) (omega arith) (omega arith) _ _ _ (judge-way .ensures (a .o)) (c .before .before .w .given .1) in
     c .remove-own .ensures ∙ sym (remove-goes (tablesIn (a .n) (a .o) (memOf (a .m .now))) (a .path .now) _ (h .0) _ (h .1))
 
 returns-2 : tie.Need-returns-2

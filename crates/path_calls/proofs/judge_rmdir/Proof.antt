@@ -12,8 +12,9 @@ use Rattle.path_calls.proofs.judge_rmdir.Tie as tie
 
 rmdir-own-requires : tie.Need-rmdir-own-requires
 rmdir-own-requires c κs =
+    let judge-way = c .before .before .before .judge-way in
     let a = c .before .before .before .before .before .before .args in
-    let h = way-front (a .m .now) (a .n) 0 (a .path .now) (omega arith) (omega arith) _ _ _ (c .before .before .before .judge-way .ensures 0) (c .before .w .given .1) in
+    let h = way-front (a .m .now) (a .n) 0 (a .path .now) (omega arith) (omega arith) _ _ _ (judge-way .ensures 0) (c .before .w .given .1) in
     let k = h .2 in
     let d = h .3 in
     search needs
@@ -22,7 +23,8 @@ returns : tie.Need-returns
 unfolding tablesIn
 returns c o =
     let a = c .before .before .before .before .before .before .before .args in
-    let h = way-front (a .m .now) (a .n) o (a .path .now) (omega arith) (omega arith) _ _ _ (c .before .before .before .before .judge-way .ensures o) (c .before .before .w .given .1) in
+    let h = way-front (a .m .now) (a .n) o (a .path .now) (omega arith) (omega arith) _ _ _ (c .before .before .before .before .judge-way .ensures o)
+    (c .before .before .w .given .1) in
     c .rmdir-own .ensures ∙ sym (rmdir-goes (tablesIn (a .n) o (memOf (a .m .now))) (a .path .now) _ (h .0) _ (h .1))
 
 returns-2 : tie.Need-returns-2

@@ -21,7 +21,8 @@ returns-3 : tie.Need-returns-3
 unfolding tablesIn
 returns-3 c o =
     let a = c .before .before .before .before .before .before .args in
-    c .walk-both .ensures ∙ sym (way-good (tablesIn (a .n) o (memOf (a .m .now))) (a .path .now) (sym (c .before .before .before .form .ensures) ∙ c .before .enum-told3 .given .1))
+    c .walk-both .ensures
+    ∙ sym (way-good (tablesIn (a .n) o (memOf (a .m .now))) (a .path .now) (sym (c .before .before .before .form .ensures) ∙ c .before .enum-told3 .given .1))
 
 pub judge-way-spec : {M : Type 1} → statement M
 judge-way-spec =

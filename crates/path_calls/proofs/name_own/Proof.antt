@@ -30,20 +30,24 @@ returns c =
 returns-2 : tie.Need-returns-2
 unfolding nameOwn
 returns-2 c =
+    let find-child = c .before .before .before .find-child in
+    let node-id = c .before .before .before .before .node-id in
     let a = c .before .before .before .before .before .before .before .args in
     let ns = memOf (a .m .now) .nodes in
     let n : length (take (a .n) ns) ≡ a .n = count-nodes (a .m .now) (a .n) (omega arith) in
-    let k = child-front (a .n) ns (a .d) _ _ _ (omega arith) (c .before .before .before .before .node-id .ensures) (c .before .before .before .find-child .ensures) in
+    let k = child-front (a .n) ns (a .d) _ _ _ (omega arith) (node-id .ensures) (find-child .ensures) in
     let f = le-leb (length (take (a .n) ns)) (childAt (take (a .n) ns) (a .d) (a .name .now)) (omega (arith, k)) in
     sym (check-passes refusedPlace 17 _ _ _ (ap not f) ∙ check-stops refusedPlace 13 _ _ _ (ap not (no-bit (a .n) ns (a .d) (omega arith) _ 2 (c .before .node-mode .ensures) (c .if2 .taken))))
 
 returns-3 : tie.Need-returns-3
 unfolding nameOwn
 returns-3 c =
+    let find-child = c .before .before .before .before .find-child in
+    let node-id = c .before .before .before .before .before .node-id in
     let a = c .before .before .before .before .before .before .before .before .args in
     let ns = memOf (a .m .now) .nodes in
     let n : length (take (a .n) ns) ≡ a .n = count-nodes (a .m .now) (a .n) (omega arith) in
-    let k = child-front (a .n) ns (a .d) _ _ _ (omega arith) (c .before .before .before .before .before .node-id .ensures) (c .before .before .before .before .find-child .ensures) in
+    let k = child-front (a .n) ns (a .d) _ _ _ (omega arith) (node-id .ensures) (find-child .ensures) in
     let f = le-leb (length (take (a .n) ns)) (childAt (take (a .n) ns) (a .d) (a .name .now)) (omega (arith, k)) in
     let g = bit (a .n) ns (a .d) (omega arith) _ 2 (c .before .before .node-mode .ensures) (c .before .if2 .left) in
     sym (check-passes refusedPlace 17 _ _ _ (ap not f) ∙ check-passes refusedPlace 13 _ _ _ (ap not g) ∙ check-stops refusedPlace 28 _ _ _ (le-leb NODES (length (take (a .n) ns)) (omega arith)))
@@ -51,10 +55,12 @@ returns-3 c =
 returns-4 : tie.Need-returns-4
 unfolding nameOwn
 returns-4 c =
+    let find-child = c .before .before .before .before .find-child in
+    let node-id = c .before .before .before .before .before .node-id in
     let a = c .before .before .before .before .before .before .before .before .args in
     let ns = memOf (a .m .now) .nodes in
     let n : length (take (a .n) ns) ≡ a .n = count-nodes (a .m .now) (a .n) (omega arith) in
-    let k = child-front (a .n) ns (a .d) _ _ _ (omega arith) (c .before .before .before .before .before .node-id .ensures) (c .before .before .before .before .find-child .ensures) in
+    let k = child-front (a .n) ns (a .d) _ _ _ (omega arith) (node-id .ensures) (find-child .ensures) in
     let f = le-leb (length (take (a .n) ns)) (childAt (take (a .n) ns) (a .d) (a .name .now)) (omega (arith, k)) in
     let g = bit (a .n) ns (a .d) (omega arith) _ 2 (c .before .before .node-mode .ensures) (c .before .if2 .left) in
     let h = lt-leb NODES (length (take (a .n) ns)) (omega arith) in

@@ -14,20 +14,23 @@ use Rattle.path_calls.proofs.new_own.Tie as tie
 
 sub-name-own : tie.Need-sub-name-own
 sub-name-own c =
+    let walk-parent = c .before .before .before .walk-parent in
     let a = c .before .before .before .before .before .before .args in
-    let h = holds-front (a .m .now) (a .n) (a .path .now) (omega arith) (omega arith) _ _ _ (c .before .before .before .walk-parent .ensures) (c .before .w .given .1) .0 in
+    let h = holds-front (a .m .now) (a .n) (a .path .now) (omega arith) (omega arith) _ _ _ (walk-parent .ensures) (c .before .w .given .1) .0 in
     h .start-within
 
 part-name-own-start : tie.Need-part-name-own-start
 part-name-own-start c =
+    let walk-parent = c .before .before .before .walk-parent in
     let a = c .before .before .before .before .before .before .args in
-    let h = holds-front (a .m .now) (a .n) (a .path .now) (omega arith) (omega arith) _ _ _ (c .before .before .before .walk-parent .ensures) (c .before .w .given .1) .0 .start-within in
+    let h = holds-front (a .m .now) (a .n) (a .path .now) (omega arith) (omega arith) _ _ _ (walk-parent .ensures) (c .before .w .given .1) .0 .start-within in
     search needs
 
 name-own-requires : tie.Need-name-own-requires
 name-own-requires c κs =
+    let walk-parent = c .before .before .before .before .walk-parent in
     let a = c .before .before .before .before .before .before .before .args in
-    let h = holds-front (a .m .now) (a .n) (a .path .now) (omega arith) (omega arith) _ _ _ (c .before .before .before .before .walk-parent .ensures) (c .before .before .w .given .1) .1 in
+    let h = holds-front (a .m .now) (a .n) (a .path .now) (omega arith) (omega arith) _ _ _ (walk-parent .ensures) (c .before .before .w .given .1) .1 in
     search needs
 
 returns : tie.Need-returns
@@ -37,12 +40,15 @@ returns c =
 
 returns-2 : tie.Need-returns-2
 returns-2 c =
+    let walk-parent = c .before .before .before .before .before .walk-parent in
     let a = c .before .before .before .before .before .before .before .before .args in
     let s = a .path .now in
     let w = c .before .before .before .w .given in
-    let h = holds-front (a .m .now) (a .n) (a .path .now) (omega arith) (omega arith) _ _ _ (c .before .before .before .before .before .walk-parent .ensures) (w .1) .0 in
-    let t : take (length s - w .0 .1 .0) (drop (w .0 .1 .0) s) ≡ drop (w .0 .1 .0) s = take-all (length s - w .0 .1 .0) (drop (w .0 .1 .0) s) (omega (arith, length-drop (w .0 .1 .0) s)) in
-    c .name-own .ensures ∙ ap (nameOwn (take (a .n) (memOf (a .m .now) .nodes)) (w .0 .0) (w .0 .1 .0)) t ∙ sym (new-goes (take (a .n) (memOf (a .m .now) .nodes)) s _ _ h)
+    let h = holds-front (a .m .now) (a .n) (a .path .now) (omega arith) (omega arith) _ _ _ (walk-parent .ensures) (w .1) .0 in
+    let t : take (length s - w .0 .1 .0) (drop (w .0 .1 .0) s) ≡ drop (w .0 .1 .0) s = take-all (length s - w .0 .1 .0) (drop (w .0 .1 .0) s)
+    (omega (arith, length-drop (w .0 .1 .0) s)) in
+    c .name-own .ensures ∙ ap (nameOwn (take (a .n) (memOf (a .m .now) .nodes)) (w .0 .0) (w .0 .1 .0)) t
+    ∙ sym (new-goes (take (a .n) (memOf (a .m .now) .nodes)) s _ _ h)
 
 returns-3 : tie.Need-returns-3
 returns-3 c =

@@ -30,21 +30,27 @@ returns-2 c =
 returns-3 : tie.Need-returns-3
 unfolding removeOwn tablesIn
 returns-3 c =
+    let if1 = c .before .before .before .before .before .if1 in
+    let node-kind = c .before .before .before .before .before .before .node-kind in
     let a = c .before .before .before .before .before .before .before .before .args in
     let ns = memOf (a .m .now) .nodes in
-    let f = no-folder (a .n) ns (a .k) (omega arith) _ (c .before .before .before .before .before .before .node-kind .ensures) (c .before .before .before .before .before .if1 .left) in
+    let f = no-folder (a .n) ns (a .k) (omega arith) _ (node-kind .ensures) (if1 .left) in
     let g = bit (a .n) ns (a .d) (omega arith) _ 2 (c .before .before .before .before .node-mode .ensures) (c .before .before .before .if2 .left) in
-    let h = is-open (a .m .now) (a .n) (a .o) (a .k) (omega arith) (omega arith) _ _ (c .before .before .node-id .ensures) (c .before .find-handle .ensures) (omega arith) in
+    let h = is-open (a .m .now) (a .n) (a .o) (a .k) (omega arith) (omega arith) _ _ (c .before .before .node-id .ensures)
+    (c .before .find-handle .ensures) (omega arith) in
     sym (check-passes refusedNode 21 _ _ _ f ∙ check-passes refusedNode 13 _ _ _ (ap not g) ∙ check-stops refusedNode 16 _ _ _ h)
 
 returns-4 : tie.Need-returns-4
 unfolding removeOwn tablesIn
 returns-4 c =
+    let if1 = c .before .before .before .before .before .if1 in
+    let node-kind = c .before .before .before .before .before .before .node-kind in
     let a = c .before .before .before .before .before .before .before .before .args in
     let ns = memOf (a .m .now) .nodes in
-    let f = no-folder (a .n) ns (a .k) (omega arith) _ (c .before .before .before .before .before .before .node-kind .ensures) (c .before .before .before .before .before .if1 .left) in
+    let f = no-folder (a .n) ns (a .k) (omega arith) _ (node-kind .ensures) (if1 .left) in
     let g = bit (a .n) ns (a .d) (omega arith) _ 2 (c .before .before .before .before .node-mode .ensures) (c .before .before .before .if2 .left) in
-    let h = not-open (a .m .now) (a .n) (a .o) (a .k) (omega arith) (omega arith) _ _ (c .before .before .node-id .ensures) (c .before .find-handle .ensures) (omega arith) in
+    let h = not-open (a .m .now) (a .n) (a .o) (a .k) (omega arith) (omega arith) _ _ (c .before .before .node-id .ensures)
+    (c .before .find-handle .ensures) (omega arith) in
     sym (decide-passed refusedNode _ _ (both f (both (ap not g) (both h none))))
 
 pub remove-own-spec : {M : Type 1} → statement M

@@ -42,23 +42,29 @@ returns-3 c =
 returns-4 : tie.Need-returns-4
 unfolding rmdirOwn
 returns-4 c =
+    let if2 = c .before .before .before .before .before .if2 in
+    let node-kind = c .before .before .before .before .before .before .node-kind in
     let a = c .before .before .before .before .before .before .before .before .before .args in
     let ns = memOf (a .m .now) .nodes in
     let z = ne-eqb (a .k) 0 (c .before .before .before .before .before .before .before .if1 .left) in
-    let f = folder (a .n) ns (a .k) (omega arith) _ (c .before .before .before .before .before .before .node-kind .ensures) (c .before .before .before .before .before .if2 .left) in
+    let f = folder (a .n) ns (a .k) (omega arith) _ (node-kind .ensures) (if2 .left) in
     let g = bit (a .n) ns (a .d) (omega arith) _ 2 (c .before .before .before .before .node-mode .ensures) (c .before .before .before .if3 .left) in
-    let h : 0 < length (children (take (a .n) ns) (nodeAt (take (a .n) ns) (a .k) .id)) = omega (arith, children-front (a .n) ns (a .k) (omega arith) _ _ (c .before .before .node-id .ensures) (c .before .count-children .ensures)) in
+    let h : 0 < length (children (take (a .n) ns) (nodeAt (take (a .n) ns) (a .k) .id)) =
+    omega (arith, children-front (a .n) ns (a .k) (omega arith) _ _ (c .before .before .node-id .ensures) (c .before .count-children .ensures)) in
     sym (check-passes refusedNode 16 _ _ _ z ∙ check-passes refusedNode 20 _ _ _ (ap not f) ∙ check-passes refusedNode 13 _ _ _ (ap not g) ∙ check-stops refusedNode 39 _ _ _ (lt-ltb _ _ h))
 
 returns-5 : tie.Need-returns-5
 unfolding rmdirOwn
 returns-5 c =
+    let if2 = c .before .before .before .before .before .if2 in
+    let node-kind = c .before .before .before .before .before .before .node-kind in
     let a = c .before .before .before .before .before .before .before .before .before .args in
     let ns = memOf (a .m .now) .nodes in
     let z = ne-eqb (a .k) 0 (c .before .before .before .before .before .before .before .if1 .left) in
-    let f = folder (a .n) ns (a .k) (omega arith) _ (c .before .before .before .before .before .before .node-kind .ensures) (c .before .before .before .before .before .if2 .left) in
+    let f = folder (a .n) ns (a .k) (omega arith) _ (node-kind .ensures) (if2 .left) in
     let g = bit (a .n) ns (a .d) (omega arith) _ 2 (c .before .before .before .before .node-mode .ensures) (c .before .before .before .if3 .left) in
-    let h : length (children (take (a .n) ns) (nodeAt (take (a .n) ns) (a .k) .id)) ≤ 0 = omega (arith, children-front (a .n) ns (a .k) (omega arith) _ _ (c .before .before .node-id .ensures) (c .before .count-children .ensures)) in
+    let h : length (children (take (a .n) ns) (nodeAt (take (a .n) ns) (a .k) .id)) ≤ 0 =
+    omega (arith, children-front (a .n) ns (a .k) (omega arith) _ _ (c .before .before .node-id .ensures) (c .before .count-children .ensures)) in
     sym (decide-passed refusedNode _ _ (both z (both (ap not f) (both (ap not g) (both (le-ltb _ _ h) none)))))
 
 pub rmdir-own-spec : {M : Type 1} → statement M

@@ -16,7 +16,9 @@ returns-3 : tie.Need-returns-3
 returns-3 c = sym (form-root (c .before .before .before .before .before .args .path .now) (c .if3 .taken) (c .before .if2 .left))
 
 returns-4 : tie.Need-returns-4
-returns-4 c = c .parts-form .ensures ∙ sym (form-parts (c .before .before .before .before .before .before .args .path .now) (omega arith) (c .before .before .if2 .left))
+returns-4 c =
+    let a = c .before .before .before .before .before .before .args in
+    c .parts-form .ensures ∙ sym (form-parts (a .path .now) (omega arith) (c .before .before .if2 .left))
 
 pub form-spec : {M : Type 1} → statement M
 form-spec =

@@ -38,16 +38,20 @@ returns c =
 
 returns-2 : tie.Need-returns-2 Inv-loop μ-loop
 returns-2 c =
+    let if1 = c .before .before .before .if1 in
     let s = c .before .before .before .before .before .before .before .before .before .args .path .now in
     let l = c .before .before .before .before .before .before .loop in
-    sym (l .inv .3 ∙ from-bad s (l .at) (l .end) (l .inv .2) (omega arith) (l .long) (omega arith) (c .before .before .before .if1 .left) (sym (c .before .is-name .ensures) ∙ not-true _ (c .if2 .taken)))
+    sym (l .inv .3 ∙ from-bad s (l .at) (l .end) (l .inv .2) (omega arith) (l .long) (omega arith) (if1 .left) (sym (c .before .is-name .ensures) ∙ not-true _ (c .if2 .taken)))
 
 loop-again : tie.Need-loop-again Inv-loop μ-loop
 loop-again c =
+    let is-name = c .before .before .before .is-name in
+    let if1 = c .before .before .before .before .before .if1 in
     let s = c .before .before .before .before .before .before .before .before .before .before .before .args .path .now in
     let l = c .before .before .before .before .before .before .before .before .loop in
     let e = c .part-end2 .ensures in
-    let on = from-on s (l .at) (l .end) (l .inv .2) (omega arith) (l .long) (omega arith) (c .before .before .before .before .before .if1 .left) (sym (c .before .before .before .is-name .ensures) ∙ not-false _ (c .before .before .if2 .left)) in
+    let on = from-on s (l .at) (l .end) (l .inv .2) (omega arith) (l .long) (omega arith) (if1 .left)
+    (sym (is-name .ensures) ∙ not-false _ (c .before .before .if2 .left)) in
     (e .1, e .2, e .0, l .inv .3 ∙ on ∙ ap (λ (b : Bool). partsForm b (split (drop (l .end + 1) s))) (sym (c .before .long-with .ensures)))
 
 returns-3 : tie.Need-returns-3 Inv-loop μ-loop
@@ -59,17 +63,21 @@ returns-3 c =
 returns-4 : tie.Need-returns-4 Inv-loop μ-loop
 unfolding lengthForm pick
 returns-4 c =
+    let is-name2 = c .before .before .before .is-name2 in
     let s = c .before .before .before .before .before .before .before .before .before .args .path .now in
     let l = c .before .before .before .before .before .before .loop in
-    let good = last-good s (l .at) (l .end) (l .inv .2) (omega arith) (l .long) (omega arith) (sym (c .before .before .before .is-name2 .ensures) ∙ not-false _ (c .before .before .if3 .left)) in
+    let good = last-good s (l .at) (l .end) (l .inv .2) (omega arith) (l .long) (omega arith)
+    (sym (is-name2 .ensures) ∙ not-false _ (c .before .before .if3 .left)) in
     sym (l .inv .3 ∙ good ∙ ap lengthForm (sym (c .before .long-with2 .ensures) ∙ c .if4 .taken))
 
 returns-5 : tie.Need-returns-5 Inv-loop μ-loop
 unfolding lengthForm pick
 returns-5 c =
+    let is-name2 = c .before .before .before .is-name2 in
     let s = c .before .before .before .before .before .before .before .before .before .args .path .now in
     let l = c .before .before .before .before .before .before .loop in
-    let good = last-good s (l .at) (l .end) (l .inv .2) (omega arith) (l .long) (omega arith) (sym (c .before .before .before .is-name2 .ensures) ∙ not-false _ (c .before .before .if3 .left)) in
+    let good = last-good s (l .at) (l .end) (l .inv .2) (omega arith) (l .long) (omega arith)
+    (sym (is-name2 .ensures) ∙ not-false _ (c .before .before .if3 .left)) in
     sym (l .inv .3 ∙ good ∙ ap lengthForm (sym (c .before .long-with2 .ensures) ∙ c .if4 .left))
 
 pub parts-form-spec : {M : Type 1} → statement M

@@ -50,24 +50,30 @@ returns-2 c =
 
 returns-3 : tie.Need-returns-3 Inv-loop μ-loop
 returns-3 c =
+    let node-id = c .before .before .before .node-id in
+    let if2 = c .before .before .before .before .if2 in
+    let search-number = c .before .before .before .before .before .search-number in
     let a = c .before .before .before .before .before .before .before .before .before .before .before .before .args in
     let l = c .before .before .before .before .before .before .before .loop in
     let s = a .path .now in
     let ns = nodesIn (a .m .now) (a .n) in
     let n : length ns ≡ a .n = count-nodes (a .m .now) (a .n) (omega arith) in
-    let k = child-front (a .n) (memOf (a .m .now) .nodes) (l .d) _ _ _ (omega arith) (c .before .before .before .node-id .ensures) (c .before .find-child .ensures) in
-    sym (l .inv .4 ∙ step-absent ns s (l .d) (l .at) (l .end) (l .inv .3) (omega arith) (omega arith) (sym (c .before .before .before .before .if2 .left) ∙ c .before .before .before .before .before .search-number .ensures) (omega (arith, k)))
+    let k = child-front (a .n) (memOf (a .m .now) .nodes) (l .d) _ _ _ (omega arith) (node-id .ensures) (c .before .find-child .ensures) in
+    sym (l .inv .4 ∙ step-absent ns s (l .d) (l .at) (l .end) (l .inv .3) (omega arith) (omega arith) (sym (if2 .left) ∙ search-number .ensures) (omega (arith, k)))
 
 loop-again : tie.Need-loop-again Inv-loop μ-loop
 loop-again c =
+    let node-id = c .before .before .before .before .node-id in
+    let if2 = c .before .before .before .before .before .if2 in
+    let search-number = c .before .before .before .before .before .before .search-number in
     let a = c .before .before .before .before .before .before .before .before .before .before .before .before .before .args in
     let l = c .before .before .before .before .before .before .before .before .loop in
     let s = a .path .now in
     let e = c .slash-from2 .ensures in
     let ns = nodesIn (a .m .now) (a .n) in
     let n : length ns ≡ a .n = count-nodes (a .m .now) (a .n) (omega arith) in
-    let k = child-front (a .n) (memOf (a .m .now) .nodes) (l .d) _ _ _ (omega arith) (c .before .before .before .before .node-id .ensures) (c .before .before .find-child .ensures) in
-    let on = step-on ns s (l .d) (l .at) (l .end) (l .inv .3) (omega arith) (omega arith) (sym (c .before .before .before .before .before .if2 .left) ∙ c .before .before .before .before .before .before .search-number .ensures) (omega (arith, k)) in
+    let k = child-front (a .n) (memOf (a .m .now) .nodes) (l .d) _ _ _ (omega arith) (node-id .ensures) (c .before .before .find-child .ensures) in
+    let on = step-on ns s (l .d) (l .at) (l .end) (l .inv .3) (omega arith) (omega arith) (sym (if2 .left) ∙ search-number .ensures) (omega (arith, k)) in
     (omega arith, e .1, e .2, e .0, l .inv .4 ∙ on ∙ ap (λ (x : ℕ). placedFrom ns (length s) x (split (drop (l .end + 1) s))) (sym k))
 
 returns-4 : tie.Need-returns-4 Inv-loop μ-loop

@@ -14,13 +14,16 @@ slice-aggregate-put-page c =
 
 put-page-requires : tie.Need-put-page-requires
 put-page-requires c κs =
+    let a′ = c .before .before .before .before .before .before .args in
     let e = c .before .before .smaller .ensures in
-    (omega arith, rw (length-take-le (c .before .before .smaller .result) (c .before .before .before .before .before .before .args .page .now) (omega arith)) (omega arith))
+    (omega arith, rw (length-take-le (c .before .before .smaller .result) (a′ .page .now) (omega arith)) (omega arith))
 
 returns : tie.Need-returns
 returns c =
+    let smaller = c .before .before .before .before .before .smaller in
+    let excess = c .before .before .before .before .before .before .excess in
     let a = c .before .before .before .before .before .before .before .before .before .args in
-    c .before .before .put-page .ensures ∙ rw (shrunk (a .page .now) (a .size) (a .i) _ (c .before .before .before .before .before .smaller .ensures ∙ rw (c .before .before .before .before .before .before .excess .ensures)))
+    c .before .before .put-page .ensures ∙ rw (shrunk (a .page .now) (a .size) (a .i) _ (smaller .ensures ∙ rw (excess .ensures)))
 
 pub put-cut-spec : {M : Type 1} → statement M
 put-cut-spec =

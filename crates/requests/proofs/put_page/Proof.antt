@@ -8,8 +8,9 @@ use Rattle.requests.proofs.put_page.Tie as tie
 
 returns : tie.Need-returns
 returns c =
+    let put = c .before .before .before .before .before .before .put in
     let a = c .before .before .before .before .before .before .before .before .before .before .args in
-    c .before .before .put-zeros .ensures ∙ rw (c .before .before .before .before .before .before .put .ensures) (page-put (a .out .now) (a .at) (a .page .now) (omega arith) (omega arith))
+    c .before .before .put-zeros .ensures ∙ rw (put .ensures) (page-put (a .out .now) (a .at) (a .page .now) (omega arith) (omega arith))
 
 pub put-page-spec : {M : Type 1} → statement M
 put-page-spec =

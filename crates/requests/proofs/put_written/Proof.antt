@@ -8,16 +8,23 @@ use Rattle.requests.proofs.put_written.Tie as tie
 
 returns : tie.Need-returns
 returns c =
+    let excess = c .before .before .before .excess in
     let a = c .before .before .before .before .before .before .before .before .before .before .before .args in
     c .before .before .before .before .before .before .put-page .ensures
-    ∙ rw (unwritten (a .page .now) (a .position) (a .bytes .now) (a .i) _ _ (c .before .before .before .excess .ensures) (c .before .smaller .ensures ∙ rw (c .before .before .excess2 .ensures)) (c .if1 .taken))
+    ∙ rw (unwritten (a .page .now) (a .position) (a .bytes .now) (a .i) _ _ (excess .ensures) (c .before .smaller .ensures ∙ rw (c .before .before .excess2 .ensures)) (c .if1 .taken))
 
 returns-2 : tie.Need-returns-2
 returns-2 c =
+    let excess3 = c .before .before .before .before .before .excess3 in
+    let if1 = c .before .before .before .before .before .before .if1 in
+    let smaller = c .before .before .before .before .before .before .before .smaller in
+    let excess2 = c .before .before .before .before .before .before .before .before .excess2 in
+    let excess = c .before .before .before .before .before .before .before .before .before .excess in
+    let put-page = c .before .before .before .before .before .before .before .before .before .before .before .before .put-page in
     let a = c .before .before .before .before .before .before .before .before .before .before .before .before .before .before .before .before .before .args in
     c .before .before .put .ensures
-    ∙ rw (c .before .before .before .before .before .before .before .before .before .before .before .before .put-page .ensures, c .before .before .before .before .before .excess3 .ensures)
-    (written-put (a .page .now) (a .position) (a .bytes .now) (a .i) _ _ (c .before .before .before .before .before .before .before .before .before .excess .ensures) (c .before .before .before .before .before .before .before .smaller .ensures ∙ rw (c .before .before .before .before .before .before .before .before .excess2 .ensures)) _ refl (c .before .before .before .before .before .before .if1 .left) (a .out .now) (a .at) (omega arith))
+    ∙ rw (put-page .ensures, excess3 .ensures)
+    (written-put (a .page .now) (a .position) (a .bytes .now) (a .i) _ _ (excess .ensures) (smaller .ensures ∙ rw (excess2 .ensures)) _ refl (if1 .left) (a .out .now) (a .at) (omega arith))
 
 pub put-written-spec : {M : Type 1} → statement M
 put-written-spec =

@@ -40,16 +40,21 @@ returns-3 c =
 returns-4 : tie.Need-returns-4
 unfolding nodeAt
 returns-4 c =
+    let pages-with = c .before .before .before .before .pages-with in
+    let first-page = c .before .before .before .before .before .first-page in
+    let pages-for = c .before .before .before .before .before .before .pages-for in
+    let node-size = c .before .before .before .before .before .before .before .node-size in
     let a = c .before .before .before .before .before .before .before .before .before .before .args in
     let ns = memOf (a .m .now) .nodes in
     let l : length ns ≡ 256 = length-nodes (a .m .now) in
     let e : length (take (a .n) ns) ≡ a .n = length-take-le (a .n) ns (omega arith) in
-    let z : c .before .before .before .before .before .first-page .result ≡ pageTotal (take (a .n) ns) = c .before .before .before .before .before .first-page .ensures .0 in
-    let w : c .before .before .before .before .pages-with .result ≡ pageTotal (setSize (take (a .n) ns) (a .k) (a .size)) = c .before .before .before .before .pages-with .ensures in
-    let x : c .before .before .before .before .before .before .pages-for .result ≡ pagesFor (getD (take (a .n) ns) (a .k) noNode .size) =
-    c .before .before .before .before .before .before .pages-for .ensures .0 ∙ ap pagesFor (c .before .before .before .before .before .before .before .node-size .ensures ∙ ap (λ (n : Node). n .size) (sym (getD-take (a .n) ns (a .k) noNode (omega arith)))) in
+    let z : first-page .result ≡ pageTotal (take (a .n) ns) = first-page .ensures .0 in
+    let w : pages-with .result ≡ pageTotal (setSize (take (a .n) ns) (a .k) (a .size)) = pages-with .ensures in
+    let x : pages-for .result ≡ pagesFor (getD (take (a .n) ns) (a .k) noNode .size) =
+    pages-for .ensures .0 ∙ ap pagesFor (node-size .ensures ∙ ap (λ (n : Node). n .size) (sym (getD-take (a .n) ns (a .k) noNode (omega arith)))) in
     c .pages-change .ensures
-    ∙ rw (x, c .before .pages-for2 .ensures .0) (sym (may-change-pages (take (a .n) ns) (a .k) (a .size) (a .from) (a .count) (omega arith) (omega arith) (omega arith)))
+    ∙ rw (x, c .before .pages-for2 .ensures .0)
+    (sym (may-change-pages (take (a .n) ns) (a .k) (a .size) (a .from) (a .count) (omega arith) (omega arith) (omega arith)))
 
 pub can-change-spec : {M : Type 1} → statement M
 can-change-spec =

@@ -14,7 +14,8 @@ use Rattle.tables.proofs.find_child.Statement.{statement}
 use Rattle.tables.proofs.find_child.Tie as tie
 
 abbrev Inv-loop : tie.InvT-loop
-Inv-loop m nodes parent name i₀ i = (i ≤ nodes) × (place (isChild parent name) (take nodes (memOf m .nodes)) ≡ i + place (isChild parent name) (drop i (take nodes (memOf m .nodes))))
+Inv-loop m nodes parent name i₀ i =
+    (i ≤ nodes) × (place (isChild parent name) (take nodes (memOf m .nodes)) ≡ i + place (isChild parent name) (drop i (take nodes (memOf m .nodes))))
 
 abbrev μ-loop : tie.MeasureT-loop
 μ-loop m nodes parent name i₀ i = nodes - i

@@ -15,7 +15,8 @@ use Rattle.tables.proofs.find_descriptor.Statement.{statement}
 use Rattle.tables.proofs.find_descriptor.Tie as tie
 
 abbrev Inv-loop : tie.InvT-loop
-Inv-loop m o descriptor i₀ i = (i ≤ o) × (place (hasDescriptor descriptor) (take o (memOf m .opens)) ≡ i + place (hasDescriptor descriptor) (drop i (take o (memOf m .opens))))
+Inv-loop m o descriptor i₀ i =
+    (i ≤ o) × (place (hasDescriptor descriptor) (take o (memOf m .opens)) ≡ i + place (hasDescriptor descriptor) (drop i (take o (memOf m .opens))))
 
 abbrev μ-loop : tie.MeasureT-loop
 μ-loop m o descriptor i₀ i = o - i

@@ -53,81 +53,128 @@ add-end c =
 
 sub-move-digests : tie.Need-sub-move-digests
 sub-move-digests c =
+    let pages-for2 = c .before .before .before .pages-for2 in
+    let pages-for = c .before .before .before .before .pages-for in
+    let node-size = c .before .before .before .before .before .node-size in
+    let first-page = c .before .before .before .before .before .before .before .first-page in
+    let pre = c .before .before .before .before .before .before .before .before .before .before .pre in
     let a = c .before .before .before .before .before .before .before .before .before .before .args in
     let ns = memOf (a .m .now) .nodes in
     let l : length ns ≡ 256 = length-nodes (a .m .now) in
-    let x : c .before .before .before .before .before .before .before .first-page .result ≡ pageTotal (take (a .k) ns) = c .before .before .before .before .before .before .before .first-page .ensures .0 in
-    let y : c .before .before .before .before .pages-for .result ≡ pagesFor (nodeAt ns (a .k) .size) = c .before .before .before .before .pages-for .ensures .0 ∙ ap pagesFor (c .before .before .before .before .before .node-size .ensures) in
-    let w : c .before .before .before .pages-for2 .result ≡ pagesFor (a .size) = c .before .before .before .pages-for2 .ensures .0 in
+    let x : first-page .result ≡ pageTotal (take (a .k) ns) = first-page .ensures .0 in
+    let y : pages-for .result ≡ pagesFor (nodeAt ns (a .k) .size) = pages-for .ensures .0 ∙ ap pagesFor (node-size .ensures) in
+    let w : pages-for2 .result ≡ pagesFor (a .size) = pages-for2 .ensures .0 in
     let z : c .before .first-page2 .result ≡ pageTotal (take (a .n) ns) = c .before .first-page2 .ensures .0 in
-    let r = room ns (a .n) (a .k) (a .size) (a .from) (a .count) (c .before .before .before .before .before .before .before .first-page .result) (c .before .before .before .before .pages-for .result) (c .before .before .before .pages-for2 .result) (c .before .first-page2 .result) (omega arith) (c .before .before .before .before .before .before .before .before .before .before .pre .0) x y w z in
+    let r = room ns (a .n) (a .k) (a .size) (a .from) (a .count) (first-page .result) (pages-for .result) (pages-for2 .result)
+    (c .before .first-page2 .result) (omega arith) (pre .0) x y w z in
     omega arith
 
 move-digests-requires : tie.Need-move-digests-requires
 move-digests-requires c κs =
+    let pages-for2 = c .before .before .before .pages-for2 in
+    let pages-for = c .before .before .before .before .pages-for in
+    let node-size = c .before .before .before .before .before .node-size in
+    let first-page = c .before .before .before .before .before .before .before .first-page in
+    let pre = c .before .before .before .before .before .before .before .before .before .before .pre in
     let a = c .before .before .before .before .before .before .before .before .before .before .args in
     let ns = memOf (a .m .now) .nodes in
     let l : length ns ≡ 256 = length-nodes (a .m .now) in
-    let x : c .before .before .before .before .before .before .before .first-page .result ≡ pageTotal (take (a .k) ns) = c .before .before .before .before .before .before .before .first-page .ensures .0 in
-    let y : c .before .before .before .before .pages-for .result ≡ pagesFor (nodeAt ns (a .k) .size) = c .before .before .before .before .pages-for .ensures .0 ∙ ap pagesFor (c .before .before .before .before .before .node-size .ensures) in
-    let w : c .before .before .before .pages-for2 .result ≡ pagesFor (a .size) = c .before .before .before .pages-for2 .ensures .0 in
+    let x : first-page .result ≡ pageTotal (take (a .k) ns) = first-page .ensures .0 in
+    let y : pages-for .result ≡ pagesFor (nodeAt ns (a .k) .size) = pages-for .ensures .0 ∙ ap pagesFor (node-size .ensures) in
+    let w : pages-for2 .result ≡ pagesFor (a .size) = pages-for2 .ensures .0 in
     let z : c .before .first-page2 .result ≡ pageTotal (take (a .n) ns) = c .before .first-page2 .ensures .0 in
-    let r = room ns (a .n) (a .k) (a .size) (a .from) (a .count) (c .before .before .before .before .before .before .before .first-page .result) (c .before .before .before .before .pages-for .result) (c .before .before .before .pages-for2 .result) (c .before .first-page2 .result) (omega arith) (c .before .before .before .before .before .before .before .before .before .before .pre .0) x y w z in
+    let r = room ns (a .n) (a .k) (a .size) (a .from) (a .count) (first-page .result) (pages-for .result) (pages-for2 .result)
+    (c .before .first-page2 .result) (omega arith) (pre .0) x y w z in
     (omega arith, omega arith, omega arith)
 
 add-keep-digests : tie.Need-add-keep-digests
 add-keep-digests c =
+    let first-page2 = c .before .before .before .before .before .first-page2 in
+    let pages-for2 = c .before .before .before .before .before .before .before .pages-for2 in
+    let pages-for = c .before .before .before .before .before .before .before .before .pages-for in
+    let node-size = c .before .before .before .before .before .before .before .before .before .node-size in
+    let first-page = c .before .before .before .before .before .before .before .before .before .before .before .first-page in
+    let b13 = c .before .before .before .before .before .before .before .before .before .before .before .before .before in
+    let pre = b13 .before .pre in
     let a = c .before .before .before .before .before .before .before .before .before .before .before .before .before .before .args in
     let ns = memOf (a .m .now) .nodes in
     let l : length ns ≡ 256 = length-nodes (a .m .now) in
-    let x : c .before .before .before .before .before .before .before .before .before .before .before .first-page .result ≡ pageTotal (take (a .k) ns) = c .before .before .before .before .before .before .before .before .before .before .before .first-page .ensures .0 in
-    let y : c .before .before .before .before .before .before .before .before .pages-for .result ≡ pagesFor (nodeAt ns (a .k) .size) = c .before .before .before .before .before .before .before .before .pages-for .ensures .0 ∙ ap pagesFor (c .before .before .before .before .before .before .before .before .before .node-size .ensures) in
-    let w : c .before .before .before .before .before .before .before .pages-for2 .result ≡ pagesFor (a .size) = c .before .before .before .before .before .before .before .pages-for2 .ensures .0 in
-    let z : c .before .before .before .before .before .first-page2 .result ≡ pageTotal (take (a .n) ns) = c .before .before .before .before .before .first-page2 .ensures .0 in
-    let r = room ns (a .n) (a .k) (a .size) (a .from) (a .count) (c .before .before .before .before .before .before .before .before .before .before .before .first-page .result) (c .before .before .before .before .before .before .before .before .pages-for .result) (c .before .before .before .before .before .before .before .pages-for2 .result) (c .before .before .before .before .before .first-page2 .result) (omega arith) (c .before .before .before .before .before .before .before .before .before .before .before .before .before .before .pre .0) x y w z in
+    let x : first-page .result ≡ pageTotal (take (a .k) ns) = first-page .ensures .0 in
+    let y : pages-for .result ≡ pagesFor (nodeAt ns (a .k) .size) = pages-for .ensures .0 ∙ ap pagesFor (node-size .ensures) in
+    let w : pages-for2 .result ≡ pagesFor (a .size) = pages-for2 .ensures .0 in
+    let z : first-page2 .result ≡ pageTotal (take (a .n) ns) = first-page2 .ensures .0 in
+    let r = room ns (a .n) (a .k) (a .size) (a .from) (a .count) (first-page .result) (pages-for .result) (pages-for2 .result) (first-page2 .result)
+    (omega arith) (pre .0) x y w z in
     omega arith
 
 keep-digests-requires : tie.Need-keep-digests-requires
 keep-digests-requires c κs =
+    let first-page2 = c .before .before .before .before .before .first-page2 in
+    let pages-for2 = c .before .before .before .before .before .before .before .pages-for2 in
+    let pages-for = c .before .before .before .before .before .before .before .before .pages-for in
+    let node-size = c .before .before .before .before .before .before .before .before .before .node-size in
+    let first-page = c .before .before .before .before .before .before .before .before .before .before .before .first-page in
+    let b13 = c .before .before .before .before .before .before .before .before .before .before .before .before .before in
+    let pre = b13 .before .pre in
     let a = c .before .before .before .before .before .before .before .before .before .before .before .before .before .before .args in
     let ns = memOf (a .m .now) .nodes in
     let l : length ns ≡ 256 = length-nodes (a .m .now) in
-    let x : c .before .before .before .before .before .before .before .before .before .before .before .first-page .result ≡ pageTotal (take (a .k) ns) = c .before .before .before .before .before .before .before .before .before .before .before .first-page .ensures .0 in
-    let y : c .before .before .before .before .before .before .before .before .pages-for .result ≡ pagesFor (nodeAt ns (a .k) .size) = c .before .before .before .before .before .before .before .before .pages-for .ensures .0 ∙ ap pagesFor (c .before .before .before .before .before .before .before .before .before .node-size .ensures) in
-    let w : c .before .before .before .before .before .before .before .pages-for2 .result ≡ pagesFor (a .size) = c .before .before .before .before .before .before .before .pages-for2 .ensures .0 in
-    let z : c .before .before .before .before .before .first-page2 .result ≡ pageTotal (take (a .n) ns) = c .before .before .before .before .before .first-page2 .ensures .0 in
-    let r = room ns (a .n) (a .k) (a .size) (a .from) (a .count) (c .before .before .before .before .before .before .before .before .before .before .before .first-page .result) (c .before .before .before .before .before .before .before .before .pages-for .result) (c .before .before .before .before .before .before .before .pages-for2 .result) (c .before .before .before .before .before .first-page2 .result) (omega arith) (c .before .before .before .before .before .before .before .before .before .before .before .before .before .before .pre .0) x y w z in
+    let x : first-page .result ≡ pageTotal (take (a .k) ns) = first-page .ensures .0 in
+    let y : pages-for .result ≡ pagesFor (nodeAt ns (a .k) .size) = pages-for .ensures .0 ∙ ap pagesFor (node-size .ensures) in
+    let w : pages-for2 .result ≡ pagesFor (a .size) = pages-for2 .ensures .0 in
+    let z : first-page2 .result ≡ pageTotal (take (a .n) ns) = first-page2 .ensures .0 in
+    let r = room ns (a .n) (a .k) (a .size) (a .from) (a .count) (first-page .result) (pages-for .result) (pages-for2 .result) (first-page2 .result)
+    (omega arith) (pre .0) x y w z in
     (omega arith, omega arith, omega arith)
 
 set-size-requires : tie.Need-set-size-requires
 set-size-requires c κs =
+    let first-page2 = c .before .before .before .before .before .before .before .before .before .first-page2 in
+    let pages-for2 = c .before .before .before .before .before .before .before .before .before .before .before .pages-for2 in
+    let pages-for = c .before .before .before .before .before .before .before .before .before .before .before .before .pages-for in
+    let node-size = c .before .before .before .before .before .before .before .before .before .before .before .before .before .node-size in
+    let b13 = c .before .before .before .before .before .before .before .before .before .before .before .before .before in
+    let first-page = b13 .before .before .first-page in
+    let pre = b13 .before .before .before .before .before .pre in
     let a = c .before .before .before .before .before .before .before .before .before .before .before .before .before .before .before .before .before .before .args in
     let ns = memOf (a .m .now) .nodes in
     let l : length ns ≡ 256 = length-nodes (a .m .now) in
-    let x : c .before .before .before .before .before .before .before .before .before .before .before .before .before .before .before .first-page .result ≡ pageTotal (take (a .k) ns) = c .before .before .before .before .before .before .before .before .before .before .before .before .before .before .before .first-page .ensures .0 in
-    let y : c .before .before .before .before .before .before .before .before .before .before .before .before .pages-for .result ≡ pagesFor (nodeAt ns (a .k) .size) = c .before .before .before .before .before .before .before .before .before .before .before .before .pages-for .ensures .0 ∙ ap pagesFor (c .before .before .before .before .before .before .before .before .before .before .before .before .before .node-size .ensures) in
-    let w : c .before .before .before .before .before .before .before .before .before .before .before .pages-for2 .result ≡ pagesFor (a .size) = c .before .before .before .before .before .before .before .before .before .before .before .pages-for2 .ensures .0 in
-    let z : c .before .before .before .before .before .before .before .before .before .first-page2 .result ≡ pageTotal (take (a .n) ns) = c .before .before .before .before .before .before .before .before .before .first-page2 .ensures .0 in
-    let r = room ns (a .n) (a .k) (a .size) (a .from) (a .count) (c .before .before .before .before .before .before .before .before .before .before .before .before .before .before .before .first-page .result) (c .before .before .before .before .before .before .before .before .before .before .before .before .pages-for .result) (c .before .before .before .before .before .before .before .before .before .before .before .pages-for2 .result) (c .before .before .before .before .before .before .before .before .before .first-page2 .result) (omega arith) (c .before .before .before .before .before .before .before .before .before .before .before .before .before .before .before .before .before .before .pre .0) x y w z in
+    let x : first-page .result ≡ pageTotal (take (a .k) ns) = first-page .ensures .0 in
+    let y : pages-for .result ≡ pagesFor (nodeAt ns (a .k) .size) = pages-for .ensures .0 ∙ ap pagesFor (node-size .ensures) in
+    let w : pages-for2 .result ≡ pagesFor (a .size) = pages-for2 .ensures .0 in
+    let z : first-page2 .result ≡ pageTotal (take (a .n) ns) = first-page2 .ensures .0 in
+    let r = room ns (a .n) (a .k) (a .size) (a .from) (a .count) (first-page .result) (pages-for .result) (pages-for2 .result) (first-page2 .result)
+    (omega arith) (pre .0) x y w z in
     (omega arith, omega arith)
 
 returns : tie.Need-returns
 unfolding stagedDigests
 returns c =
+    let keep-digests = c .before .before .before .before .before .before .keep-digests in
+    let move-digests = c .before .before .before .before .before .before .before .before .before .before .move-digests in
+    let first-page2 = c .before .before .before .before .before .before .before .before .before .before .before .before .first-page2 in
+    let b13 = c .before .before .before .before .before .before .before .before .before .before .before .before .before in
+    let pages-for2 = b13 .before .pages-for2 in
+    let pages-for = b13 .before .before .pages-for in
+    let node-size = b13 .before .before .before .node-size in
+    let first-page = b13 .before .before .before .before .before .first-page in
+    let pre = b13 .before .before .before .before .before .before .before .before .pre in
     let a = c .before .before .before .before .before .before .before .before .before .before .before .before .before .before .before .before .before .before .before .before .before .args in
     let ns = memOf (a .m .now) .nodes in
     let l : length ns ≡ 256 = length-nodes (a .m .now) in
-    let x : c .before .before .before .before .before .before .before .before .before .before .before .before .before .before .before .before .before .before .first-page .result ≡ pageTotal (take (a .k) ns) = c .before .before .before .before .before .before .before .before .before .before .before .before .before .before .before .before .before .before .first-page .ensures .0 in
-    let y : c .before .before .before .before .before .before .before .before .before .before .before .before .before .before .before .pages-for .result ≡ pagesFor (nodeAt ns (a .k) .size) = c .before .before .before .before .before .before .before .before .before .before .before .before .before .before .before .pages-for .ensures .0 ∙ ap pagesFor (c .before .before .before .before .before .before .before .before .before .before .before .before .before .before .before .before .node-size .ensures) in
-    let w : c .before .before .before .before .before .before .before .before .before .before .before .before .before .before .pages-for2 .result ≡ pagesFor (a .size) = c .before .before .before .before .before .before .before .before .before .before .before .before .before .before .pages-for2 .ensures .0 in
-    let z : c .before .before .before .before .before .before .before .before .before .before .before .before .first-page2 .result ≡ pageTotal (take (a .n) ns) = c .before .before .before .before .before .before .before .before .before .before .before .before .first-page2 .ensures .0 in
-    let r = room ns (a .n) (a .k) (a .size) (a .from) (a .count) (c .before .before .before .before .before .before .before .before .before .before .before .before .before .before .before .before .before .before .first-page .result) (c .before .before .before .before .before .before .before .before .before .before .before .before .before .before .before .pages-for .result) (c .before .before .before .before .before .before .before .before .before .before .before .before .before .before .pages-for2 .result) (c .before .before .before .before .before .before .before .before .before .before .before .before .first-page2 .result) (omega arith) (c .before .before .before .before .before .before .before .before .before .before .before .before .before .before .before .before .before .before .before .before .before .pre .0) x y w z in
+    let x : first-page .result ≡ pageTotal (take (a .k) ns) = first-page .ensures .0 in
+    let y : pages-for .result ≡ pagesFor (nodeAt ns (a .k) .size) = pages-for .ensures .0 ∙ ap pagesFor (node-size .ensures) in
+    let w : pages-for2 .result ≡ pagesFor (a .size) = pages-for2 .ensures .0 in
+    let z : first-page2 .result ≡ pageTotal (take (a .n) ns) = first-page2 .ensures .0 in
+    let r = room ns (a .n) (a .k) (a .size) (a .from) (a .count) (first-page .result) (pages-for .result) (pages-for2 .result) (first-page2 .result)
+    (omega arith) (pre .0) x y w z in
     let m = memOf (a .m .now) in
     let new = stagedDigests (a .count) (m .staged) in
     let g : length new ≡ a .count = length-rows digestWidth (a .count) (part dataSize (a .count * digestWidth) (m .staged)) in (
       λ q o.
-          ap (viewOf (a .n) o) (c .before .before .set-size .ensures .0 ∙ rw (c .before .before .before .before .before .before .keep-digests .ensures .0, c .before .before .before .before .before .before .before .before .before .before .move-digests .ensures .0))
-          ∙ view-change q m (a .n) o (a .k) (a .size) (a .from) new (c .before .before .before .before .before .before .before .before .before .before .before .before .before .before .before .before .before .before .first-page .result) (c .before .before .before .before .before .before .before .before .before .before .before .before .before .before .before .pages-for .result) (c .before .before .before .before .before .before .before .before .before .before .before .before .before .before .pages-for2 .result) (c .before .before .before .before .before .before .before .before .before .before .before .before .first-page2 .result) (omega arith) (length-digests (a .m .now)) (rw g (c .before .before .before .before .before .before .before .before .before .before .before .before .before .before .before .before .before .before .before .before .before .pre .0)) x y w z,
+          ap (viewOf (a .n) o) (c .before .before .set-size .ensures .0 ∙ rw (keep-digests .ensures .0, move-digests .ensures .0))
+          ∙ view-change q m (a .n) o (a .k) (a .size) (a .from) new (first-page .result) (pages-for .result) (pages-for2 .result)
+          (first-page2 .result) (omega arith) (length-digests (a .m .now)) (rw g (pre .0)) x y w z,
       omega arith,
     )
 

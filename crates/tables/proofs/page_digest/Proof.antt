@@ -32,13 +32,14 @@ digest-requires c κs =
 
 returns : tie.Need-returns
 returns c =
+    let pre = c .before .before .before .pre in
     let a = c .before .before .before .args in
     let ns = memOf (a .m .now) .nodes in
     let l : length ns ≡ 256 = length-nodes (a .m .now) in
     let x : c .before .first-page .result ≡ pageTotal (take (a .k) ns) = c .before .first-page .ensures .0 in
     let t = total-part ns (a .n) (a .k) (omega arith) (omega arith) in
     let ds = memOf (a .m .now) .digests in
-    (c .digest .ensures .0 ∙ ap (λ (j : ℕ). getD ds (j + a .i) []) x ∙ sym (digest-place ns ds (a .n) (a .k) (a .i) (omega arith) (omega arith) (c .before .before .before .pre .2)), c .digest .ensures .1)
+    (c .digest .ensures .0 ∙ ap (λ (j : ℕ). getD ds (j + a .i) []) x ∙ sym (digest-place ns ds (a .n) (a .k) (a .i) (omega arith) (omega arith) (pre .2)), c .digest .ensures .1)
 
 pub page-digest-spec : {M : Type 1} → statement M
 page-digest-spec = tie.close (tie.spec (λ c κs. search needs) add-digest digest-requires returns)

@@ -27,7 +27,8 @@ returns c =
     let ns = memOf (a .m .now) .nodes in
     let l : length ns ≡ 256 = length-nodes (a .m .now) in
     let z : c .before .before .before .first-page .result ≡ pageTotal (take (a .n) ns) = c .before .before .before .first-page .ensures .0 in
-    let y : c .before .pages-for .result ≡ pagesFor (nodeAt ns (a .k) .size) = c .before .pages-for .ensures .0 ∙ ap pagesFor (c .before .before .node-size .ensures) in
+    let y : c .before .pages-for .result ≡ pagesFor (nodeAt ns (a .k) .size) = c .before .pages-for .ensures .0
+    ∙ ap pagesFor (c .before .before .node-size .ensures) in
     let t = total-part ns (a .n) (a .k) (omega arith) (omega arith) in
     let x : c .pages-for2 .result ≡ pagesFor (a .size) = c .pages-for2 .ensures .0 in
     let u = total-with ns (a .n) (a .k) (a .size) (omega arith) (omega arith) in

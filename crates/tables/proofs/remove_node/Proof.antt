@@ -15,41 +15,52 @@ use Rattle.tables.proofs.remove_node.Tie as tie
 
 sub-move-digests : tie.Need-sub-move-digests
 sub-move-digests c =
+    let pages-for = c .before .before .before .pages-for in
+    let node-size = c .before .before .before .before .node-size in
+    let first-page = c .before .before .before .before .before .before .first-page in
     let a = c .before .before .before .before .before .before .before .before .before .args in
     let ns = memOf (a .m .now) .nodes in
     let l : length ns ≡ 256 = length-nodes (a .m .now) in
-    let x : c .before .before .before .before .before .before .first-page .result ≡ pageTotal (take (a .k) ns) = c .before .before .before .before .before .before .first-page .ensures .0 in
-    let y : c .before .before .before .pages-for .result ≡ pagesFor (nodeAt ns (a .k) .size) = c .before .before .before .pages-for .ensures .0 ∙ ap pagesFor (c .before .before .before .before .node-size .ensures) in
+    let x : first-page .result ≡ pageTotal (take (a .k) ns) = first-page .ensures .0 in
+    let y : pages-for .result ≡ pagesFor (nodeAt ns (a .k) .size) = pages-for .ensures .0 ∙ ap pagesFor (node-size .ensures) in
     let z : c .before .first-page2 .result ≡ pageTotal (take (a .n) ns) = c .before .first-page2 .ensures .0 in
     let t = total-part ns (a .n) (a .k) (omega arith) (omega arith) in
     omega arith
 
 move-digests-requires : tie.Need-move-digests-requires
 move-digests-requires c κs =
+    let pages-for = c .before .before .before .pages-for in
+    let node-size = c .before .before .before .before .node-size in
+    let first-page = c .before .before .before .before .before .before .first-page in
     let a = c .before .before .before .before .before .before .before .before .before .args in
     let ns = memOf (a .m .now) .nodes in
     let l : length ns ≡ 256 = length-nodes (a .m .now) in
-    let x : c .before .before .before .before .before .before .first-page .result ≡ pageTotal (take (a .k) ns) = c .before .before .before .before .before .before .first-page .ensures .0 in
-    let y : c .before .before .before .pages-for .result ≡ pagesFor (nodeAt ns (a .k) .size) = c .before .before .before .pages-for .ensures .0 ∙ ap pagesFor (c .before .before .before .before .node-size .ensures) in
+    let x : first-page .result ≡ pageTotal (take (a .k) ns) = first-page .ensures .0 in
+    let y : pages-for .result ≡ pagesFor (nodeAt ns (a .k) .size) = pages-for .ensures .0 ∙ ap pagesFor (node-size .ensures) in
     let z : c .before .first-page2 .result ≡ pageTotal (take (a .n) ns) = c .before .first-page2 .ensures .0 in
     let t = total-part ns (a .n) (a .k) (omega arith) (omega arith) in
     (omega arith, omega arith, omega arith)
 
 returns : tie.Need-returns
 returns c =
+    let move-digests = c .before .before .before .before .before .before .move-digests in
+    let first-page2 = c .before .before .before .before .before .before .before .before .first-page2 in
+    let pages-for = c .before .before .before .before .before .before .before .before .before .before .pages-for in
+    let node-size = c .before .before .before .before .before .before .before .before .before .before .before .node-size in
+    let first-page = c .before .before .before .before .before .before .before .before .before .before .before .before .before .first-page in
     let a = c .before .before .before .before .before .before .before .before .before .before .before .before .before .before .before .before .args in
     let ns = memOf (a .m .now) .nodes in
     let l : length ns ≡ 256 = length-nodes (a .m .now) in
-    let x : c .before .before .before .before .before .before .before .before .before .before .before .before .before .first-page .result ≡ pageTotal (take (a .k) ns) = c .before .before .before .before .before .before .before .before .before .before .before .before .before .first-page .ensures .0 in
-    let y : c .before .before .before .before .before .before .before .before .before .before .pages-for .result ≡ pagesFor (nodeAt ns (a .k) .size) = c .before .before .before .before .before .before .before .before .before .before .pages-for .ensures .0 ∙ ap pagesFor (c .before .before .before .before .before .before .before .before .before .before .before .node-size .ensures) in
-    let z : c .before .before .before .before .before .before .before .before .first-page2 .result ≡ pageTotal (take (a .n) ns) = c .before .before .before .before .before .before .before .before .first-page2 .ensures .0 in
+    let x : first-page .result ≡ pageTotal (take (a .k) ns) = first-page .ensures .0 in
+    let y : pages-for .result ≡ pagesFor (nodeAt ns (a .k) .size) = pages-for .ensures .0 ∙ ap pagesFor (node-size .ensures) in
+    let z : first-page2 .result ≡ pageTotal (take (a .n) ns) = first-page2 .ensures .0 in
     let t = total-part ns (a .n) (a .k) (omega arith) (omega arith) in
     let m = memOf (a .m .now) in
     let ld : length (m .digests) ≡ 1024 = length-digests (a .m .now) in
-    let f = c .before .before .before .before .before .before .before .before .before .before .before .before .before .first-page .result in
-    let e = f + c .before .before .before .before .before .before .before .before .before .before .pages-for .result in (
+    let f = first-page .result in
+    let e = f + pages-for .result in (
       λ o.
-          ap (viewOf (a .n - 1) o) (c .before .before .move-nodes .ensures .0 ∙ rw (c .before .before .before .before .before .before .move-digests .ensures .0, z))
+          ap (viewOf (a .n - 1) o) (c .before .before .move-nodes .ensures .0 ∙ rw (move-digests .ensures .0, z))
           ∙ view-remove m (a .n) o (a .k) f e (omega arith) (omega arith) x (rw y) (omega arith),
       omega arith,
     )

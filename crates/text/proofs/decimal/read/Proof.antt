@@ -50,7 +50,8 @@ loop-again c =
     let d = c .before .before .before .digit-value in (
       omega arith,
       omega arith,
-      l .inv .2 ∙ read-digit (l .n) s (l .i) (omega arith) (rw (d .ensures) at (c .before .before .if2 .left)) (rw (d .ensures) at (c .before .if3 .left)) (c .if4 .left) ∙ rw (d .ensures),
+      l .inv .2 ∙ read-digit (l .n) s (l .i) (omega arith) (rw (d .ensures) at (c .before .before .if2 .left))
+          (rw (d .ensures) at (c .before .if3 .left)) (c .if4 .left) ∙ rw (d .ensures),
     )
 
 returns-5 : tie.Need-returns-5 Inv-loop μ-loop

@@ -29,7 +29,8 @@ loop-again c =
     let l = c .before .before .before .before .loop in
     let a = c .before .before .before .before .before .before .before .args in
     let s = hexOf (a .bytes .now) in
-    let v : c .digit .result ≡ getD s (l .i) 0 = c .digit .ensures ∙ ap digitOf (c .before .half .ensures .0) ∙ sym (hexOf-at (a .bytes .now) (l .i) (omega arith)) in (
+    let v : c .digit .result ≡ getD s (l .i) 0 = c .digit .ensures ∙ ap digitOf (c .before .half .ensures .0)
+    ∙ sym (hexOf-at (a .bytes .now) (l .i) (omega arith)) in (
       omega arith,
       simp length-set (l .inv .1),
       rw (l .inv .2, v) (overwrite-more 0 (a .out .now) 0 s (l .i) (l .i) (omega arith) (omega (arith, length-hexOf (a .bytes .now))) (omega arith)),
