@@ -1,3 +1,2 @@
-pub mod Overwrites
 pub mod StoredPages
 pub mod Heads
