@@ -9,6 +9,7 @@ use lib.ListN.{length}
 use borrow.Author.Tests.{eq-eqb, eqb-true, eqb-false, ne-eqb, ltb-true, ltb-false}
 use Rattle.lists.specs.Pick.{pick, pick-true, pick-false}
 use Rattle.lists.specs.Equal.{Is, isT, isF, is}
+use Rattle.lists.specs.Places.{same-place}
 use Rattle.filesystem.specs.Tables.{NODES, Node, nodeAt, findId}
 use Rattle.filesystem.specs.Image.{climb, pathLength}
 use Rattle.filesystem.specs.Sound.{ParentAt, Sound, parent-moved, findId-only, limits-at, root-parent}
@@ -105,12 +106,7 @@ module _ {ns ms : List Node} {n : ℕ} {φ : ℕ → ℕ} (p : Kept ns ms n φ) 
       go (isF l) (isF m) = let z : i ≡ j = omega (arith, ltb-false i j l, ltb-false j i m) in let y = ap φ z in absurd (omega arith)
 
   pub apart : (i j : ℕ) → φ i ≡ φ j → i ≡ j
-  apart i j e = go (is (ltb i j)) (is (ltb j i))
-    where
-      go : Is (ltb i j) → Is (ltb j i) → i ≡ j
-      go (isT l) m = let z = p .mono i j (ltb-true i j l) in absurd (omega arith)
-      go (isF l) (isT m) = let z = p .mono j i (ltb-true j i m) in absurd (omega arith)
-      go (isF l) (isF m) = omega (arith, ltb-false i j l, ltb-false j i m)
+  apart i j e = same-place i j (λ l. let z = p .mono i j l in omega arith) (λ l. let z = p .mono j i l in omega arith)
 
   pub later : (i : ℕ) → i ≤ φ i
   later zero = omega arith

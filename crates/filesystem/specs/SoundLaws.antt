@@ -217,7 +217,7 @@ module _ (ns : List Node) (x : Node) where
       (λ i h. snoc-ind (λ j m. R (nodeAt ns i) m → i ≡ j) (λ j l r. f i j h l r) (λ r. absurd (g i h r)) j l)
       (snoc-ind (λ j m. R x m → length ns ≡ j) (λ j l r. absurd (g′ j l r)) (λ r. refl) j l) i h
 
-pageTotal-append : (ns ms : List Node) → pageTotal (ns ++ ms) ≡ pageTotal ns + pageTotal ms
+pub pageTotal-append : (ns ms : List Node) → pageTotal (ns ++ ms) ≡ pageTotal ns + pageTotal ms
 unfolding pageTotal
 pageTotal-append [] ms = omega arith
 pageTotal-append (n ∷ ns) ms = rw (pageTotal-append ns ms) (omega arith)

@@ -12,7 +12,7 @@ use borrow.Author.Tests.{eqb-true, eq-eqb, eqb-false, ne-eqb, leb-true, le-leb, 
 use Rattle.lists.specs.Pick.{pick-false}
 use Rattle.lists.specs.Equal.{Is, isT, isF, is, equal-true, equal-yes, and-fst, and-snd, and-both, or-fst, or-snd, or-both}
 use Rattle.lists.specs.Search.{any, place, place-passes}
-use Rattle.lists.specs.Places.{any-at, at-any, place-least}
+use Rattle.lists.specs.Places.{same-place, any-at, at-any, place-least}
 use Rattle.filesystem.specs.Tables.{NODES, PAGES, PATH-BYTES, Node, noNode, isDirectory, nodeAt, pageTotal}
 use Rattle.filesystem.specs.Image.{pathLength, isRoot, inLimits, isNamed, sameId, sameChild, soundNodes}
 use Rattle.filesystem.specs.Sound.{ParentAt, Sound, to-sound, of-sound, to-limits, nodeAt-append}
@@ -212,12 +212,9 @@ module _ (w : ℕ) (r : Node) (ns : List Node) (root : isRoot r ≡ true) (count
 
     no-two : (R : Node → Node → Type 0) → ((x y : Node) → R x y → R y x) → ((x y : Node) → clash x y ≡ false → R y x → ⊥)
         → (i j : ℕ) → i < length all → j < length all → R (nodeAt all i) (nodeAt all j) → i ≡ j
-    no-two R turn never i j h l a = go (is (ltb i j)) (is (ltb j i))
-      where
-        go : Is (ltb i j) → Is (ltb j i) → i ≡ j
-        go (isT m) n = let b = ltb-true i j m in absurd (never (nodeAt all j) (nodeAt all i) (fact j (omega arith) l .apart i b) a)
-        go (isF m) (isT n) = let b = ltb-true j i n in absurd (never (nodeAt all i) (nodeAt all j) (fact i (omega arith) h .apart j b) (turn _ _ a))
-        go (isF m) (isF n) = omega (arith, ltb-false i j m, ltb-false j i n)
+    no-two R turn never i j h l a =
+        same-place i j (λ b. never (nodeAt all j) (nodeAt all i) (fact j (omega arith) l .apart i b) a)
+        (λ b. never (nodeAt all i) (nodeAt all j) (fact i (omega arith) h .apart j b) (turn _ _ a))
 
     own-ids : (i j : ℕ) → i < length all → j < length all → nodeAt all i .id ≡ nodeAt all j .id → i ≡ j
     own-ids = no-two (λ x y. x .id ≡ y .id) (λ x y z. sym z) (λ x y c z. eqb-false (y .id) (x .id) (or-fst _ _ c) z)

@@ -1,16 +1,32 @@
 -- Lists by their cells: `tab n f` has n of them, cell i being f i.
 -- Assumes nothing.
 use mathlib.Core.Path.{_≡_, refl, ap, _∙_}
-use mathlib.Core.Bool.{Bool, _&&_}
+use mathlib.Core.Bool.{Bool, true, false, _&&_}
 use mathlib.Core.List.{List, [], _∷_, _++_}
 use Prim.Native.Nat.{ℕ, zero, suc, _+_, _-_, _≤_, _<_}
 use native.Mathlib.Omega.{arith}
 use lib.Dec.{leb, ltb}
 use lib.ListN.{length, getD, take}
+use borrow.Author.Tests.{leb-true, leb-false, ltb-true, ltb-false}
+use Rattle.lists.specs.Equal.{Is, isT, isF, is}
 
 -- is j one of the n places from a position on?
 abbrev pub inside : (position n j : ℕ) → Bool
 inside position n j = leb position j && ltb j (position + n)
+
+-- a number against a range
+pub data Where (p n j : ℕ) : Type 0 where
+  low : j < p → inside p n j ≡ false → Where p n j
+  mid : p ≤ j → j < p + n → inside p n j ≡ true → Where p n j
+  high : p ≤ j → p + n ≤ j → inside p n j ≡ false → Where p n j
+
+pub range : (p n j : ℕ) → Where p n j
+range p n j = go (is (leb p j)) (is (ltb j (p + n)))
+  where
+    go : Is (leb p j) → Is (ltb j (p + n)) → Where p n j
+    go (isT a) (isT b) = mid (leb-true p j a) (ltb-true j (p + n) b) (rw (a, b))
+    go (isT a) (isF b) = high (leb-true p j a) (ltb-false j (p + n) b) (rw (a, b))
+    go (isF a) b = low (leb-false p j a) (rw a)
 
 unfoldable pub tab : {A : Type 0} → ℕ → (ℕ → A) → List A
 tab zero f = []

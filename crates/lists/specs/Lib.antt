@@ -1,6 +1,7 @@
 pub mod Pick
 pub mod Parts
 pub mod PartLaws
+pub mod Overwrites
 pub mod Rows
 pub mod RowLaws
 pub mod Areas

@@ -15,6 +15,15 @@ use Rattle.lists.specs.All.{All, both, none, all-append, all-take, all-d
 use Rattle.lists.specs.Cells.{tab}
 use Rattle.lists.specs.Search.{every, any, unique, select, place, place-passes, place-first, without}
 
+-- two places of which neither is before the other
+pub same-place : (i j : ℕ) → (i < j → ⊥) → (j < i → ⊥) → i ≡ j
+same-place i j f g = go (is (ltb i j)) (is (ltb j i))
+  where
+    go : Is (ltb i j) → Is (ltb j i) → i ≡ j
+    go (isT m) n = absurd (f (ltb-true _ _ m))
+    go (isF m) (isT n) = absurd (g (ltb-true _ _ n))
+    go (isF m) (isF n) = omega (arith, ltb-false i j m, ltb-false j i n)
+
 module _ {A : Type 0} (f : A → Bool) (z : A) where
   pub every-at : (xs : List A) (k : ℕ) → every f xs ≡ true → k < length xs → f (getD xs k z) ≡ true
   unfolding every
@@ -139,12 +148,8 @@ module _ {A : Type 0} (alike : A → A → Bool) (z : A) where
   -- the same, where alike goes both ways: what is alike stands in one place
   pub unique-same : ((x y : A) → alike x y ≡ true → alike y x ≡ true) → (xs : List A) (i j : ℕ) → unique alike xs ≡ true → i < length xs → j < length xs
       → alike (getD xs i z) (getD xs j z) ≡ true → i ≡ j
-  unique-same both-ways xs i j e h l a = go (is (ltb i j)) (is (ltb j i))
-    where
-      go : Is (ltb i j) → Is (ltb j i) → i ≡ j
-      go (isT m) n = absurd (true≢false (sym a ∙ unique-at xs i j e (ltb-true _ _ m) l))
-      go (isF m) (isT n) = absurd (true≢false (sym (both-ways _ _ a) ∙ unique-at xs j i e (ltb-true _ _ n) h))
-      go (isF m) (isF n) = omega (arith, ltb-false i j m, ltb-false j i n)
+  unique-same both-ways xs i j e h l a =
+      same-place i j (λ m. true≢false (sym a ∙ unique-at xs i j e m l)) (λ m. true≢false (sym (both-ways _ _ a) ∙ unique-at xs j i e m h))
 
   pub same-unique : (xs : List A) → ((i j : ℕ) → i < length xs → j < length xs → alike (getD xs i z) (getD xs j z) ≡ true → i ≡ j) → unique alike xs ≡ true
   same-unique xs h = at-unique xs (λ i j l m. go i j l m (is (alike (getD xs i z) (getD xs j z))))

@@ -1,4 +1,3 @@
-pub mod Overwrites
 pub mod StoredPages
 pub mod Heads
 pub mod PathRequests

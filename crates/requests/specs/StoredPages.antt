@@ -12,12 +12,11 @@ use lib.Seq.{ext-getD, getD-take, length-take-le}
 use borrow.Author.Tests.{ltb-true, ltb-false, le-leb, lt-ltb}
 use Rattle.lists.specs.Pick.{pick, pick-true, pick-false}
 use Rattle.lists.specs.Equal.{Is, isT, isF, is, and-both}
-use Rattle.lists.specs.Cells.{inside, tab, length-tab, getD-tab, tab-cong, tab-append, tab-snoc}
+use Rattle.lists.specs.Cells.{inside, Where, low, mid, high, range, tab, length-tab, getD-tab, tab-cong, tab-append, tab-snoc}
 use Rattle.lists.specs.Parts.{part, overwrite}
 use Rattle.lists.specs.PartLaws.{length-part, length-overwrite, getD-part, overwrite-none, overwrite-snoc, overwrite-next}
 use Rattle.rules.specs.Pages.{resized, overlay, fill, writing, shrinking}
-use Rattle.rules.specs.PageLaws.{Where, low, mid, high, range}
-use Rattle.requests.specs.Overwrites.{overwrite-within, getD-overwrite}
+use Rattle.lists.specs.Overwrites.{overwrite-within, getD-overwrite}
 
 -- n zeros
 unfoldable pub zeros : ℕ → List ℕ

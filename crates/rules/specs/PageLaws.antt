@@ -11,23 +11,9 @@ use lib.ListN.{length, getD, List·getD-eq-default}
 use borrow.Author.Tests.{ltb-true, ltb-false, leb-true, leb-false, lt-ltb}
 use Rattle.lists.specs.Pick.{pick, pick-true, pick-false}
 use Rattle.lists.specs.Equal.{Is, isT, isF, is, and-fst}
-use Rattle.lists.specs.Cells.{inside, tab, length-tab, getD-tab, tab-cong, tab-append}
+use Rattle.lists.specs.Cells.{inside, Where, low, mid, high, range, tab, length-tab, getD-tab, tab-cong, tab-append}
 use Rattle.filesystem.specs.Tables.{pagesFor}
 use Rattle.rules.specs.Pages.{pageAt, pageOf, bytesAt, resized, splice, overlay, pagePart, Change, writing, shrinking, first, last, fetches, fill, bytesAfter, sizeAfter, FitsSize}
-
--- a number against a range
-pub data Where (p n j : ℕ) : Type 0 where
-  low : j < p → inside p n j ≡ false → Where p n j
-  mid : p ≤ j → j < p + n → inside p n j ≡ true → Where p n j
-  high : p ≤ j → p + n ≤ j → inside p n j ≡ false → Where p n j
-
-pub range : (p n j : ℕ) → Where p n j
-range p n j = go (is (leb p j)) (is (ltb j (p + n)))
-  where
-    go : Is (leb p j) → Is (ltb j (p + n)) → Where p n j
-    go (isT a) (isT b) = mid (leb-true p j a) (ltb-true j (p + n) b) (rw (a, b))
-    go (isT a) (isF b) = high (leb-true p j a) (ltb-false j (p + n) b) (rw (a, b))
-    go (isF a) b = low (leb-false p j a) (rw a)
 
 -- a cell of a list of cells, zero past its end
 pub getD-cells : (n : ℕ) (f : ℕ → ℕ) (j : ℕ) → getD (tab n f) j 0 ≡ pick (ltb j n) (f j) 0

@@ -15,12 +15,14 @@ use Rattle.lists.specs.Equal.{Is, isT, isF, is, and-fst, and-snd, and-both}
 use Rattle.lists.specs.Cells.{inside, length-tab, getD-tab}
 use Rattle.lists.specs.Parts.{part, overwrite}
 use Rattle.lists.specs.PartLaws.{length-part, length-overwrite, getD-part, part-before, part-after, part-within, overwrite-all}
-use Rattle.filesystem.specs.Tables.{Node, noNode, nodeAt, withSize, setSize, pagesFor, pageTotal, PAGES}
+use Rattle.filesystem.specs.Tables.{Node, noNode, nodeAt, withSize, setSize, pagesFor, pageTotal, NODES, PAGES}
+use Rattle.filesystem.specs.SoundLaws.{pageTotal-append}
 use Rattle.filesystem.specs.Image.{divide}
 use Rattle.filesystem.specs.Digests.{replaced}
-use Rattle.memory.specs.Layout.{Mem, newDigests, withNodes, withDigests}
+use Rattle.memory.specs.Layout.{Mem, memOf, newDigests, withNodes, withDigests}
+use Rattle.memory.specs.MemLaws.{length-nodes}
 use Rattle.tables.specs.View.{viewOf, withFiles, withChange, Changeable, mayChange, pagesChange}
-use Rattle.tables.specs.ContentLaws.{total-append, total-split, divide-at, divide-set, front-kept, moved-there}
+use Rattle.tables.specs.ContentLaws.{total-split, divide-at, divide-set, front-kept, moved-there}
 
 -- what stands in a place, whatever would be read past the end
 getD-any : {A : Type 0} (l : List A) (i : ℕ) (a b : A) → i < length l → getD l i a ≡ getD l i b
@@ -157,7 +159,7 @@ module _ (blank : List ℕ) (ns : List Node) (ds : List (List ℕ)) (k size from
 -- the page total with node k of another size
 pub total-set : (ns : List Node) (k size : ℕ) → k < length ns → pageTotal (setSize ns k size) ≡ pageTotal (take k ns) + (pagesFor size + pageTotal (drop (suc k) ns))
 unfolding pageTotal setSize
-total-set ns k size h = ap pageTotal (set-split ns k _ h) ∙ total-append (take k ns) _
+total-set ns k size h = ap pageTotal (set-split ns k _ h) ∙ pageTotal-append (take k ns) _
 
 -- the first n nodes, node k of another size
 front-size : (l : List Node) (n k size : ℕ) → k < n → take n (setSize l k size) ≡ setSize (take n l) k size
@@ -284,3 +286,9 @@ module _ (ns : List Node) (k size from count : ℕ) where
   pub may-change-pages : k < length ns → pageTotal ns ≤ PAGES → pageTotal (setSize ns k size) ≤ PAGES → mayChange ns k size from count ≡ pagesChange (pagesFor (nodeAt ns k .size)) (pagesFor size) from count
   unfolding mayChange
   may-change-pages a b c = rw (lt-ltb k (length ns) a, le-leb (pageTotal ns) PAGES b, le-leb (pageTotal (setSize ns k size)) PAGES c)
+
+-- the same, from what the memory's functions give
+pub room-in : (m : List ℕ) (n : ℕ) {k size from count f s p q t : ℕ} → n ≤ NODES → Changeable (take n (memOf m .nodes)) k size from count
+    → f ≡ pageTotal (take k (memOf m .nodes)) → s ≡ nodeAt (memOf m .nodes) k .size → p ≡ pagesFor s → q ≡ pagesFor size
+    → t ≡ pageTotal (take n (memOf m .nodes)) → Room n k from count f p q t
+room-in m n h g ef es ep eq et = room (memOf m .nodes) n _ _ _ _ _ _ _ _ (rw (length-nodes m) h) g ef (ep ∙ ap pagesFor es) eq et

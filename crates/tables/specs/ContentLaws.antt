@@ -11,13 +11,9 @@ use Rattle.lists.specs.Parts.{part, overwrite}
 use Rattle.lists.specs.PartLaws.{drop-take, getD-part, length-part, part-before, part-within, overwrite-all}
 use Rattle.lists.specs.Search.{without}
 use Rattle.filesystem.specs.Tables.{Node, noNode, nodeAt, pagesFor, pageTotal}
+use Rattle.filesystem.specs.SoundLaws.{pageTotal-append}
 use Rattle.filesystem.specs.Image.{divide}
 use Rattle.lists.specs.Scans.{rest, rest-none}
-
-pub total-append : (ns ms : List Node) → pageTotal (ns ++ ms) ≡ pageTotal ns + pageTotal ms
-unfolding pageTotal
-total-append [] ms = sym (zero-add (pageTotal ms))
-total-append (n ∷ ns) ms = ap (λ x. pagesFor (n .size) + x) (total-append ns ms) ∙ sym (add-assoc (pagesFor (n .size)) (pageTotal ns) (pageTotal ms))
 
 -- only the first digests count, as many as there are pages
 divide-front : (ns : List Node) (ds : List (List ℕ)) → divide ns (take (pageTotal ns) ds) ≡ divide ns ds
@@ -85,7 +81,7 @@ module _ (ns : List Node) (k : ℕ) (known : k < length ns) where
 
   pub total-split : pageTotal ns ≡ pageTotal (take k ns) + (pagesFor (nodeAt ns k .size) + pageTotal (drop (suc k) ns))
   unfolding pageTotal nodeAt
-  total-split = ap pageTotal (split-at ns k noNode known) ∙ total-append (take k ns) (getD ns k noNode ∷ drop (suc k) ns)
+  total-split = ap pageTotal (split-at ns k noNode known) ∙ pageTotal-append (take k ns) (getD ns k noNode ∷ drop (suc k) ns)
 
 -- rows moved onto the place behind the first f: what comes then, and what stays
 module _ {A : Type 0} (l : List A) (f e t : ℕ) (from-fits : e + t ≤ length l) (to-fits : f + t ≤ length l) where

@@ -10,7 +10,7 @@ use Rattle.filesystem.specs.Tables.{nodeAt, pagesFor, pageTotal}
 use Rattle.memory.specs.Layout.{memOf, digestWidth, dataSize}
 use Rattle.memory.specs.MemLaws.{length-nodes, length-digests}
 use Rattle.tables.specs.View.{viewOf, stagedDigests}
-use Rattle.tables.specs.ChangeLaws.{room, view-change}
+use Rattle.tables.specs.ChangeLaws.{room, room-in, view-change}
 use borrow.Author.Needs.{needs}
 use Rattle.tables.proofs.finish_change.Statement.{statement}
 use Rattle.tables.proofs.finish_change.Tie as tie
@@ -59,14 +59,8 @@ sub-move-digests c =
     let first-page = c .before .before .before .before .before .before .before .first-page in
     let pre = c .before .before .before .before .before .before .before .before .before .before .pre in
     let a = c .before .before .before .before .before .before .before .before .before .before .args in
-    let ns = memOf (a .m .now) .nodes in
-    let l : length ns ≡ 256 = length-nodes (a .m .now) in
-    let x : first-page .result ≡ pageTotal (take (a .k) ns) = first-page .ensures .0 in
-    let y : pages-for .result ≡ pagesFor (nodeAt ns (a .k) .size) = pages-for .ensures .0 ∙ ap pagesFor (node-size .ensures) in
-    let w : pages-for2 .result ≡ pagesFor (a .size) = pages-for2 .ensures .0 in
-    let z : c .before .first-page2 .result ≡ pageTotal (take (a .n) ns) = c .before .first-page2 .ensures .0 in
-    let r = room ns (a .n) (a .k) (a .size) (a .from) (a .count) (first-page .result) (pages-for .result) (pages-for2 .result)
-    (c .before .first-page2 .result) (omega arith) (pre .0) x y w z in
+    let r = room-in (a .m .now) (a .n) (omega arith) (pre .0) (first-page .ensures .0) (node-size .ensures) (pages-for .ensures .0)
+    (pages-for2 .ensures .0) (c .before .first-page2 .ensures .0) in
     omega arith
 
 move-digests-requires : tie.Need-move-digests-requires
@@ -77,14 +71,8 @@ move-digests-requires c κs =
     let first-page = c .before .before .before .before .before .before .before .first-page in
     let pre = c .before .before .before .before .before .before .before .before .before .before .pre in
     let a = c .before .before .before .before .before .before .before .before .before .before .args in
-    let ns = memOf (a .m .now) .nodes in
-    let l : length ns ≡ 256 = length-nodes (a .m .now) in
-    let x : first-page .result ≡ pageTotal (take (a .k) ns) = first-page .ensures .0 in
-    let y : pages-for .result ≡ pagesFor (nodeAt ns (a .k) .size) = pages-for .ensures .0 ∙ ap pagesFor (node-size .ensures) in
-    let w : pages-for2 .result ≡ pagesFor (a .size) = pages-for2 .ensures .0 in
-    let z : c .before .first-page2 .result ≡ pageTotal (take (a .n) ns) = c .before .first-page2 .ensures .0 in
-    let r = room ns (a .n) (a .k) (a .size) (a .from) (a .count) (first-page .result) (pages-for .result) (pages-for2 .result)
-    (c .before .first-page2 .result) (omega arith) (pre .0) x y w z in
+    let r = room-in (a .m .now) (a .n) (omega arith) (pre .0) (first-page .ensures .0) (node-size .ensures) (pages-for .ensures .0)
+    (pages-for2 .ensures .0) (c .before .first-page2 .ensures .0) in
     (omega arith, omega arith, omega arith)
 
 add-keep-digests : tie.Need-add-keep-digests
@@ -97,14 +85,8 @@ add-keep-digests c =
     let b13 = c .before .before .before .before .before .before .before .before .before .before .before .before .before in
     let pre = b13 .before .pre in
     let a = c .before .before .before .before .before .before .before .before .before .before .before .before .before .before .args in
-    let ns = memOf (a .m .now) .nodes in
-    let l : length ns ≡ 256 = length-nodes (a .m .now) in
-    let x : first-page .result ≡ pageTotal (take (a .k) ns) = first-page .ensures .0 in
-    let y : pages-for .result ≡ pagesFor (nodeAt ns (a .k) .size) = pages-for .ensures .0 ∙ ap pagesFor (node-size .ensures) in
-    let w : pages-for2 .result ≡ pagesFor (a .size) = pages-for2 .ensures .0 in
-    let z : first-page2 .result ≡ pageTotal (take (a .n) ns) = first-page2 .ensures .0 in
-    let r = room ns (a .n) (a .k) (a .size) (a .from) (a .count) (first-page .result) (pages-for .result) (pages-for2 .result) (first-page2 .result)
-    (omega arith) (pre .0) x y w z in
+    let r = room-in (a .m .now) (a .n) (omega arith) (pre .0) (first-page .ensures .0) (node-size .ensures) (pages-for .ensures .0)
+    (pages-for2 .ensures .0) (first-page2 .ensures .0) in
     omega arith
 
 keep-digests-requires : tie.Need-keep-digests-requires
@@ -117,14 +99,8 @@ keep-digests-requires c κs =
     let b13 = c .before .before .before .before .before .before .before .before .before .before .before .before .before in
     let pre = b13 .before .pre in
     let a = c .before .before .before .before .before .before .before .before .before .before .before .before .before .before .args in
-    let ns = memOf (a .m .now) .nodes in
-    let l : length ns ≡ 256 = length-nodes (a .m .now) in
-    let x : first-page .result ≡ pageTotal (take (a .k) ns) = first-page .ensures .0 in
-    let y : pages-for .result ≡ pagesFor (nodeAt ns (a .k) .size) = pages-for .ensures .0 ∙ ap pagesFor (node-size .ensures) in
-    let w : pages-for2 .result ≡ pagesFor (a .size) = pages-for2 .ensures .0 in
-    let z : first-page2 .result ≡ pageTotal (take (a .n) ns) = first-page2 .ensures .0 in
-    let r = room ns (a .n) (a .k) (a .size) (a .from) (a .count) (first-page .result) (pages-for .result) (pages-for2 .result) (first-page2 .result)
-    (omega arith) (pre .0) x y w z in
+    let r = room-in (a .m .now) (a .n) (omega arith) (pre .0) (first-page .ensures .0) (node-size .ensures) (pages-for .ensures .0)
+    (pages-for2 .ensures .0) (first-page2 .ensures .0) in
     (omega arith, omega arith, omega arith)
 
 set-size-requires : tie.Need-set-size-requires
@@ -137,14 +113,8 @@ set-size-requires c κs =
     let first-page = b13 .before .before .first-page in
     let pre = b13 .before .before .before .before .before .pre in
     let a = c .before .before .before .before .before .before .before .before .before .before .before .before .before .before .before .before .before .before .args in
-    let ns = memOf (a .m .now) .nodes in
-    let l : length ns ≡ 256 = length-nodes (a .m .now) in
-    let x : first-page .result ≡ pageTotal (take (a .k) ns) = first-page .ensures .0 in
-    let y : pages-for .result ≡ pagesFor (nodeAt ns (a .k) .size) = pages-for .ensures .0 ∙ ap pagesFor (node-size .ensures) in
-    let w : pages-for2 .result ≡ pagesFor (a .size) = pages-for2 .ensures .0 in
-    let z : first-page2 .result ≡ pageTotal (take (a .n) ns) = first-page2 .ensures .0 in
-    let r = room ns (a .n) (a .k) (a .size) (a .from) (a .count) (first-page .result) (pages-for .result) (pages-for2 .result) (first-page2 .result)
-    (omega arith) (pre .0) x y w z in
+    let r = room-in (a .m .now) (a .n) (omega arith) (pre .0) (first-page .ensures .0) (node-size .ensures) (pages-for .ensures .0)
+    (pages-for2 .ensures .0) (first-page2 .ensures .0) in
     (omega arith, omega arith)
 
 returns : tie.Need-returns

@@ -7,11 +7,10 @@ use native.Mathlib.Nat.{add-zero}
 use native.Mathlib.Omega.{arith}
 use lib.ListN.{length, getD, take, drop, List·getD-append}
 use lib.Seq.{length-take-le, drop-at, getD-take, getD-drop, getD-append-add}
-use Rattle.lists.specs.Cells.{inside}
+use Rattle.lists.specs.Cells.{inside, Where, low, mid, high, range}
 use Rattle.lists.specs.Pick.{pick, pick-true, pick-false}
 use Rattle.lists.specs.Parts.{part, overwrite}
 use Rattle.lists.specs.PartLaws.{length-part, length-overwrite, part-within, overwrite-part, overwrite-all, overwrite-behind}
-use Rattle.rules.specs.PageLaws.{Where, low, mid, high, range}
 
 module _ {A : Type 0} where
   -- a cell is the new list's or the old one's
