@@ -11,7 +11,8 @@ use lib.ListN.{length, getD, List·getD-eq-default}
 use borrow.Author.Tests.{ltb-true, ltb-false, leb-true, leb-false, lt-ltb}
 use Rattle.lists.specs.Pick.{pick, pick-true, pick-false}
 use Rattle.lists.specs.Equal.{Is, isT, isF, is, and-fst}
-use Rattle.lists.specs.Cells.{inside, Where, low, mid, high, range, tab, length-tab, getD-tab, tab-cong, tab-append}
+pub use Rattle.lists.specs.Cells.{Where, low, mid, high, range}
+use Rattle.lists.specs.Cells.{inside, tab, length-tab, getD-tab, tab-cong, tab-append}
 use Rattle.filesystem.specs.Tables.{pagesFor}
 use Rattle.rules.specs.Pages.{pageAt, pageOf, bytesAt, resized, splice, overlay, pagePart, Change, writing, shrinking, first, last, fetches, fill, bytesAfter, sizeAfter, FitsSize}
 
