@@ -26,6 +26,9 @@ pub enum ParsedCall {
 // Where the fields after a handle begin.
 const AFTER_HANDLE: usize = 1 + limits::ID_BYTES;
 
+// Modes are 0 to 7.
+const LAST_MODE: u8 = 7;
+
 // ---- the fields, shape by shape
 
 // A number from `least` to `most`, then a path.
@@ -74,7 +77,7 @@ fn read_close(s: &[u8]) -> ParsedCall
     ParsedCall::Close { handle }
 }
 
-// seek: a handle, then eight bytes.
+// seek: a handle, then the position.
 fn read_seek(s: &[u8]) -> ParsedCall
     requires { ⌜ (0 < length (now s)) × Bytes (now s) ⌝ }
     ensures { λ r. ⌜ (meant r (now (s .entry)) ≡ byHandleAndNumber ID-BYTES 8 (λ n. true) seek (drop 1 (now (s .entry)))) × Ranges r (length (now (s .entry))) ⌝ }
@@ -87,7 +90,7 @@ fn read_seek(s: &[u8]) -> ParsedCall
     ParsedCall::Seek { handle, position }
 }
 
-// truncate: the same.
+// truncate: a handle, then the size.
 fn read_truncate(s: &[u8]) -> ParsedCall
     requires { ⌜ (0 < length (now s)) × Bytes (now s) ⌝ }
     ensures { λ r. ⌜ (meant r (now (s .entry)) ≡ byHandleAndNumber ID-BYTES 8 (λ n. true) truncate (drop 1 (now (s .entry)))) × Ranges r (length (now (s .entry))) ⌝ }
@@ -100,7 +103,7 @@ fn read_truncate(s: &[u8]) -> ParsedCall
     ParsedCall::Truncate { handle, size }
 }
 
-// read: a handle, then a count of four bytes.
+// read: a handle, then the count.
 fn read_read(s: &[u8]) -> ParsedCall
     requires { ⌜ (0 < length (now s)) × Bytes (now s) ⌝ }
     ensures { λ r. ⌜ (meant r (now (s .entry)) ≡ byHandleAndNumber ID-BYTES 4 (λ n. leb n DATA-BYTES) read (drop 1 (now (s .entry)))) × Ranges r (length (now (s .entry))) ⌝ }
@@ -156,8 +159,8 @@ fn read_opening(s: &[u8], kind: u8) -> ParsedCall
     ensures { λ r. ⌜ (meant r (now (s .entry)) ≡ readFields ID-BYTES kind (drop 1 (now (s .entry)))) × Ranges r (length (now (s .entry))) ⌝ }
 {
     match kind {
-        1 => read_numbered(s, 1, 0, 7),
-        2 => read_numbered(s, 2, 0, 7),
+        1 => read_numbered(s, 1, 0, LAST_MODE),
+        2 => read_numbered(s, 2, 0, LAST_MODE),
         _ => read_numbered(s, 3, 1, 3),
     }
 }
@@ -170,7 +173,7 @@ fn read_by_path(s: &[u8], kind: u8) -> ParsedCall
     match kind {
         9 => read_plain(s, 9),
         10 => read_plain(s, 10),
-        11 => read_numbered(s, 11, 0, 7),
+        11 => read_numbered(s, 11, 0, LAST_MODE),
         12 => read_plain(s, 12),
         _ => read_plain(s, 13),
     }

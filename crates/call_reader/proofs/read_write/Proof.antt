@@ -21,7 +21,7 @@ returns-2 : tie.Need-returns-2
 unfolding meant
 returns-2 c =
     let a = c .before .before .before .args in
-    (data-long ID-BYTES (a .s .now) (c .before .before .before .pre .0) write (c .before .if1 .left) (c .if2 .taken), tt)
+    (data-long ID-BYTES (a .s .now) (c .before .before .before .pre .0) write (omega arith) (omega arith), tt)
 
 number-at-requires : tie.Need-number-at-requires
 number-at-requires c κs = search needs
@@ -31,12 +31,8 @@ unfolding meant
 returns-3 c =
     let a = c .before .before .before .before .args in
     let p = c .before .before .before .before .pre in (
-      data-got ID-BYTES (a .s .now) (p .0) write _ (c .number-at .ensures) (c .before .before .if1 .left) (c .before .if2 .left),
-      (
-        number-below ID-BYTES 1 (a .s .now) _ (p .1) (c .before .before .if1 .left) (c .number-at .ensures),
-        c .before .before .if1 .left,
-        c .before .if2 .left,
-      ),
+      data-got ID-BYTES (a .s .now) (p .0) write _ (c .number-at .ensures) (omega arith) (omega arith),
+      (number-below ID-BYTES 1 (a .s .now) _ (p .1) (omega arith) (c .number-at .ensures), omega arith, omega arith),
     )
 
 pub read-write-spec : {M : Type 1} → statement M
