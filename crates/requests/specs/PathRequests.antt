@@ -1,6 +1,6 @@
 -- The request of a call by path, from its kind, its mode or rights, and its path's bytes: the call itself ('send the slip itself').
 -- Assumes nothing.
-use mathlib.Core.Path.{_≡_, refl, _∙_}
+use mathlib.Core.Path.{_≡_, refl}
 use mathlib.Core.Bool.{Bool, true, false, _||_}
 use mathlib.Core.List.{List, _∷_, _++_}
 use Prim.Native.Nat.{ℕ, _≤_, _<_}
@@ -14,7 +14,6 @@ use Rattle.lists.specs.PartLaws.{overwrite-next}
 use Rattle.filesystem.specs.Paths.{Path, pathBytes}
 use Rattle.rules.specs.Calls.{create, mkdir, openAs, remove, rmdir, chmod, readdir, stat, callBytes}
 use Rattle.rules.specs.Skeleton.{atFront}
-use Rattle.requests.specs.Heads.{at-front}
 
 -- create, mkdir and chmod have a mode, open has rights
 unfoldable pub hasNumber : ℕ → Bool
@@ -41,7 +40,7 @@ request-plain kind number s e = pick-false _ _ _ e
 
 -- bytes behind the first ones
 pub behind-front : (x y l : List ℕ) (n : ℕ) → n ≡ length x → n ≤ length l → overwrite (overwrite l 0 x) n y ≡ atFront (x ++ y) l
-behind-front x y l n e h = overwrite-next l 0 x y n (omega arith) (omega arith) ∙ at-front (x ++ y) l
+behind-front x y l n e h = overwrite-next l 0 x y n (omega arith) (omega arith)
 
 module _ (w n : ℕ) (p : Path) where
   pub create-request : callBytes w (create n p) ≡ pathRequest 1 n (pathBytes p)
