@@ -1,0 +1,63 @@
+// The host's reply to a call of one request, judged: the stop reason, or 0 where the reply is right. Nothing is changed here.
+ghost use mathlib.Core.Path.{_≡_};
+ghost use Prim.Native.Nat.{ℕ, _≤_, _<_};
+ghost use mathlib.Core.List.{List};
+ghost use lib.IntN.{pos};
+ghost use lib.ListN.{length};
+ghost use Rattle.filesystem.specs.Tables.{NODES};
+ghost use Rattle.memory.specs.Layout.{memOf, memorySize, openRows};
+ghost use Rattle.tables.specs.View.{tablesIn};
+ghost use Rattle.rules.specs.Requests.{asked, creating, opening};
+ghost use Rattle.replies.specs.Judged.{reasonFor, statusReason};
+
+// A status: 1 of another length, 2 where it is not the expected one.
+pub fn judge_status(reply: &[u8], expected: i32) -> u8
+    ensures { λ r. ⌜ ((n : ℕ) → expected ≡ pos n → r ≡ statusReason (now (reply .entry)) n) ⌝ }
+{
+    if reply.len() != 4 {
+        return 1;
+    }
+    if numbers::i32_at(reply, 0) != expected {
+        return 2;
+    }
+    0
+}
+
+// A new node's id: 1 of another length, 3 where it is 0 or a node has it.
+pub fn judge_id(m: &[u8], n: usize, reply: &[u8]) -> u8
+    requires { ⌜ (n ≤ NODES) × (memorySize ≤ length (now m)) ⌝ }
+    ensures { λ r. ⌜ ((parent kind mode : ℕ) (name : List ℕ) (o : ℕ) → r ≡ reasonFor (tablesIn n o (memOf (now (m .entry)))) (now (reply .entry)) (asked (creating parent kind mode name))) ⌝ }
+{
+    if reply.len() != limits::ID_BYTES {
+        return 1;
+    }
+    let id = numbers::number_at(reply, 0, limits::ID_BYTES);
+    if id == 0 {
+        return 3;
+    }
+    if tables::find_id(m, n, id) < n {
+        return 3;
+    }
+    0
+}
+
+// A new descriptor: 1 of another length, 4 where it is out of range or an open file has it.
+pub fn judge_descriptor(m: &[u8], o: usize, reply: &[u8]) -> u8
+    requires { ⌜ (o ≤ openRows) × (memorySize ≤ length (now m)) ⌝ }
+    ensures { λ r. ⌜ ((k rights n : ℕ) → r ≡ reasonFor (tablesIn n o (memOf (now (m .entry)))) (now (reply .entry)) (asked (opening k rights))) ⌝ }
+{
+    if reply.len() != 4 {
+        return 1;
+    }
+    let d = numbers::i32_at(reply, 0);
+    if d < 0 {
+        return 4;
+    }
+    if limits::DESCRIPTORS as i32 <= d {
+        return 4;
+    }
+    if tables::find_descriptor(m, o, d as u32) < o {
+        return 4;
+    }
+    0
+}
