@@ -1,13 +1,14 @@
 // The host's reply to a call of one request, judged: the stop reason, or 0 where the reply is right. Nothing is changed here.
 ghost use mathlib.Core.Path.{_≡_};
 ghost use Prim.Native.Nat.{ℕ, _≤_, _<_};
-ghost use mathlib.Core.List.{List};
+ghost use mathlib.Core.List.{List, _∷_, _++_};
 ghost use lib.IntN.{pos};
 ghost use lib.ListN.{length};
-ghost use Rattle.filesystem.specs.Tables.{NODES};
+ghost use Rattle.lists.specs.LittleEndian.{encode};
+ghost use Rattle.filesystem.specs.Tables.{NODES, ID-BYTES};
 ghost use Rattle.memory.specs.Layout.{memOf, memorySize, openRows};
 ghost use Rattle.tables.specs.View.{tablesIn};
-ghost use Rattle.rules.specs.Requests.{asked, creating, opening};
+ghost use Rattle.rules.specs.Requests.{asked, creating, opening, stating};
 ghost use Rattle.replies.specs.Judged.{reasonFor, statusReason};
 
 // A status: 1 of another length, 2 where it is not the expected one.
@@ -58,6 +59,40 @@ pub fn judge_descriptor(m: &[u8], o: usize, reply: &[u8]) -> u8
     }
     if tables::find_descriptor(m, o, d as u32) < o {
         return 4;
+    }
+    0
+}
+
+// A stat: id, kind, mode and size.
+const STAT_BYTES: usize = limits::ID_BYTES + 6;
+
+fn stat_row(id: u64, kind: u8, mode: u8, size: u32) -> [u8; STAT_BYTES]
+    ensures { λ r. ⌜ r ≡ encode ID-BYTES id ++ (kind ∷ mode ∷ encode 4 size) ⌝ }
+{
+    let mut r = [0u8; STAT_BYTES];
+    numbers::put_number(&mut r, 0, limits::ID_BYTES, id);
+    r[limits::ID_BYTES] = kind;
+    r[limits::ID_BYTES + 1] = mode;
+    numbers::put_number(&mut r, limits::ID_BYTES + 2, 4, size as u64);
+    r
+}
+
+// The stat of node k: 1 of another length, 6 where a field differs.
+pub fn judge_stat(m: &[u8], n: usize, k: usize, reply: &[u8]) -> u8
+    requires { ⌜ (k < n) × (n ≤ NODES) × (memorySize ≤ length (now m)) ⌝ }
+    ensures { λ r. ⌜ ((o : ℕ) → r ≡ reasonFor (tablesIn n o (memOf (now (m .entry)))) (now (reply .entry)) (asked (stating k))) ⌝ }
+{
+    if reply.len() != STAT_BYTES {
+        return 1;
+    }
+    let row = stat_row(
+        memory::node_id(m, k),
+        memory::node_kind(m, k),
+        memory::node_mode(m, k),
+        memory::node_size(m, k),
+    );
+    if !buffers::same(reply, &row) {
+        return 6;
     }
     0
 }
