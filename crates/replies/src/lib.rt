@@ -3,13 +3,16 @@ ghost use mathlib.Core.Path.{_≡_};
 ghost use Prim.Native.Nat.{ℕ, _≤_, _<_};
 ghost use mathlib.Core.List.{List, _∷_, _++_};
 ghost use lib.IntN.{pos};
-ghost use lib.ListN.{length};
+ghost use mathlib.Core.Bool.{true};
+ghost use lib.ListN.{length, take};
 ghost use Rattle.lists.specs.LittleEndian.{encode};
-ghost use Rattle.filesystem.specs.Tables.{NODES, ID-BYTES};
+ghost use Rattle.filesystem.specs.Tables.{NODES, ID-BYTES, nodeAt};
+ghost use Rattle.filesystem.specs.Image.{soundNodes};
 ghost use Rattle.memory.specs.Layout.{memOf, memorySize, openRows};
 ghost use Rattle.tables.specs.View.{tablesIn};
-ghost use Rattle.rules.specs.Requests.{asked, creating, opening, stating};
+ghost use Rattle.rules.specs.Requests.{asked, creating, opening, stating, listing};
 ghost use Rattle.replies.specs.Judged.{reasonFor, statusReason};
+ghost use Rattle.replies.specs.Listing.{entryAt, entryEnd, endWithin, entryPlace};
 
 // A status: 1 of another length, 2 where it is not the expected one.
 pub fn judge_status(reply: &[u8], expected: i32) -> u8
@@ -93,6 +96,74 @@ pub fn judge_stat(m: &[u8], n: usize, k: usize, reply: &[u8]) -> u8
     );
     if !buffers::same(reply, &row) {
         return 6;
+    }
+    0
+}
+
+// A listing's entry up to its name: id, kind and the name's length.
+const ENTRY_FRONT: usize = limits::ID_BYTES + 2;
+
+// The place behind the entry at `at`, or 0 where the reply ends before that.
+fn entry_end(reply: &[u8], at: usize) -> usize
+    requires { ⌜ at ≤ length (now reply) ⌝ }
+    ensures { λ r. ⌜ r ≡ endWithin ID-BYTES (now (reply .entry)) at ⌝ }
+{
+    if reply.len() - at < ENTRY_FRONT {
+        return 0;
+    }
+    let size = reply[at + limits::ID_BYTES + 1] as usize;
+    let end = at + ENTRY_FRONT + size;
+    if reply.len() < end {
+        return 0;
+    }
+    end
+}
+
+// The place of the child that the entry at `at` names, or n where there is none or its id or kind is another.
+fn entry_place(m: &[u8], n: usize, id: u64, reply: &[u8], at: usize, end: usize) -> usize
+    requires { ⌜ (n ≤ NODES) × (memorySize ≤ length (now m)) × (end ≡ entryEnd ID-BYTES (now reply) at) × (end ≤ length (now reply)) ⌝ }
+    ensures { λ r. ⌜ r ≡ entryPlace (take n (memOf (now (m .entry)) .nodes)) id (entryAt ID-BYTES (now (reply .entry)) at) ⌝ }
+{
+    let start = at + ENTRY_FRONT;
+    let k = tables::find_child(m, n, id, &reply[start..end]);
+    if n <= k {
+        return n;
+    }
+    if numbers::number_at(reply, at, limits::ID_BYTES) != memory::node_id(m, k) {
+        return n;
+    }
+    if reply[at + limits::ID_BYTES] != memory::node_kind(m, k) {
+        return n;
+    }
+    k
+}
+
+// A listing of the children of the node with this id: 7 unless each has one entry. Names differ among sound nodes, so each entry has one place.
+pub fn judge_listing(m: &[u8], n: usize, id: u64, reply: &[u8]) -> u8
+    requires { ⌜ (n ≤ NODES) × (memorySize ≤ length (now m)) ⌝ }
+    ensures { λ r. ⌜ (soundNodes ID-BYTES (take n (memOf (now (m .entry)) .nodes)) ≡ true → (k o : ℕ) → nodeAt (take n (memOf (now (m .entry)) .nodes)) k .id ≡ id → r ≡ reasonFor (tablesIn n o (memOf (now (m .entry)))) (now (reply .entry)) (asked (listing k))) ⌝ }
+{
+    let mut seen = [0u8; limits::NODES];
+    let mut count = 0;
+    let mut at = 0;
+    while at < reply.len() {
+        let end = entry_end(reply, at);
+        if end == 0 {
+            return 7;
+        }
+        let k = entry_place(m, n, id, reply, at, end);
+        if n <= k {
+            return 7;
+        }
+        if seen[k] != 0 {
+            return 7;
+        }
+        seen[k] = 1;
+        count += 1;
+        at = end;
+    }
+    if count != tables::count_children(m, n, id) {
+        return 7;
     }
     0
 }
