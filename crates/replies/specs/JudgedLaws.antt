@@ -18,8 +18,9 @@ use Rattle.lists.specs.LittleEndian.{encode, decode, length-encode}
 use Rattle.lists.specs.Parts.{part, overwrite}
 use Rattle.lists.specs.PartLaws.{length-overwrite, overwrite-all, overwrite-next, overwrite-one}
 use Rattle.lists.specs.Signed.{signed}
-use Rattle.filesystem.specs.Tables.{ID-BYTES, DESCRIPTORS, Node, Tables, nodeAt, present, findId, findDescriptor}
-use Rattle.rules.specs.Requests.{asked, creating, opening, closing, removing, changing, stating}
+use Rattle.filesystem.specs.Tables.{PAGE-BYTES, ID-BYTES, DESCRIPTORS, Node, Tables, nodeAt, present, findId, findDescriptor}
+use Rattle.rules.specs.Pages.{Change}
+use Rattle.rules.specs.Requests.{asked, creating, opening, closing, removing, changing, stating, storing, cutting}
 use Rattle.rules.specs.Rules.{signedOf, isNumber, isDescriptor, statBytes, replyChecks}
 use Rattle.tables.specs.RowsInUse.{node-front}
 use Rattle.replies.specs.Judged.{reasonFor, statusReason}
@@ -49,6 +50,14 @@ module _ (t : Tables) (r : List ℕ) where
   pub changing-reason : (k mode : ℕ) → reasonFor t r (asked (changing k mode)) ≡ statusReason r 0
   unfolding reasonFor statusReason replyChecks
   changing-reason k mode = refl
+
+  pub storing-reason : (k o : ℕ) (q : Change) (i : ℕ) → reasonFor t r (storing k o q i) ≡ statusReason r PAGE-BYTES
+  unfolding reasonFor statusReason replyChecks
+  storing-reason k o q i = refl
+
+  pub cutting-reason : (k o : ℕ) (q : Change) → reasonFor t r (cutting k o q) ≡ statusReason r 0
+  unfolding reasonFor statusReason replyChecks
+  cutting-reason k o q = refl
 
 number-yes : (n : ℕ) (z : ℤ) → z ≡ pos n → isNumber n z ≡ true
 unfolding isNumber

@@ -14,7 +14,7 @@ ghost use Rattle.rules.specs.Requests.{asked, creating, opening, stating, listi
 ghost use Rattle.replies.specs.Judged.{reasonFor, statusReason};
 ghost use Rattle.replies.specs.Listing.{entryAt, entryEnd, endWithin, entryPlace};
 
-// A status: 1 of another length, 2 where it is not the expected one.
+// A status: 1 of another length, 2 where it is not the expected one (specs/JudgedLaws.antt: of which requests).
 pub fn judge_status(reply: &[u8], expected: i32) -> u8
     ensures { λ r. ⌜ ((n : ℕ) → expected ≡ pos n → r ≡ statusReason (now (reply .entry)) n) ⌝ }
 {

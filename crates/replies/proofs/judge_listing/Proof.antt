@@ -3,7 +3,7 @@
 use native.Mathlib.Omega.{arith}
 use Prim.Native.Nat.{_+_, _-_, _≤_}
 use mathlib.Core.Path.{_≡_, refl, sym, _∙_}
-use lib.ListN.{length, take, set, replicate, length-set}
+use lib.ListN.{length, take, replicate, length-set}
 use Rattle.memory.specs.Layout.{memOf}
 use Rattle.tables.specs.View.{tablesIn}
 use Rattle.tables.specs.RowsInUse.{count-nodes}
@@ -115,7 +115,7 @@ loop-again c =
     let h = c .before .before .entry-place .ensures in (
       omega arith,
       omega arith,
-      length-set (l .seen) k 1 ∙ z,
+      length-set (l .seen) k _ ∙ z,
       count-next ns (a .id) s (l .seen) (l .at) g (omega arith) f k h (omega arith) (c .if3 .left) (omega arith) (l .count) _ t,
       rw p (left-next ns (a .id) s (l .seen) (l .at) g (omega arith) f k h (omega arith) (c .if3 .left) (omega arith)),
     )
