@@ -1,0 +1,169 @@
+// The host's reply to a call of one request, judged: the stop reason, or 0 where the reply is right. Nothing is changed here.
+ghost use mathlib.Core.Path.{_≡_};
+ghost use Prim.Native.Nat.{ℕ, _≤_, _<_};
+ghost use mathlib.Core.List.{List, _∷_, _++_};
+ghost use lib.IntN.{pos};
+ghost use mathlib.Core.Bool.{true};
+ghost use lib.ListN.{length, take};
+ghost use Rattle.lists.specs.LittleEndian.{encode};
+ghost use Rattle.filesystem.specs.Tables.{NODES, ID-BYTES, nodeAt};
+ghost use Rattle.filesystem.specs.Image.{soundNodes};
+ghost use Rattle.memory.specs.Layout.{memOf, memorySize, openRows};
+ghost use Rattle.tables.specs.View.{tablesIn};
+ghost use Rattle.rules.specs.Requests.{asked, creating, opening, stating, listing};
+ghost use Rattle.replies.specs.Judged.{reasonFor, statusReason};
+ghost use Rattle.replies.specs.Listing.{entryAt, entryEnd, endWithin, entryPlace};
+
+// A status: 1 of another length, 2 where it is not the expected one (specs/JudgedLaws.antt: of which requests).
+pub fn judge_status(reply: &[u8], expected: i32) -> u8
+    ensures { λ r. ⌜ ((n : ℕ) → expected ≡ pos n → r ≡ statusReason (now (reply .entry)) n) ⌝ }
+{
+    if reply.len() != 4 {
+        return 1;
+    }
+    if numbers::i32_at(reply, 0) != expected {
+        return 2;
+    }
+    0
+}
+
+// A new node's id: 1 of another length, 3 where it is 0 or a node has it.
+pub fn judge_id(m: &[u8], n: usize, reply: &[u8]) -> u8
+    requires { ⌜ (n ≤ NODES) × (memorySize ≤ length (now m)) ⌝ }
+    ensures { λ r. ⌜ ((parent kind mode : ℕ) (name : List ℕ) (o : ℕ) → r ≡ reasonFor (tablesIn n o (memOf (now (m .entry)))) (now (reply .entry)) (asked (creating parent kind mode name))) ⌝ }
+{
+    if reply.len() != limits::ID_BYTES {
+        return 1;
+    }
+    let id = numbers::number_at(reply, 0, limits::ID_BYTES);
+    if id == 0 {
+        return 3;
+    }
+    if tables::find_id(m, n, id) < n {
+        return 3;
+    }
+    0
+}
+
+// A new descriptor: 1 of another length, 4 where it is out of range or an open file has it.
+pub fn judge_descriptor(m: &[u8], o: usize, reply: &[u8]) -> u8
+    requires { ⌜ (o ≤ openRows) × (memorySize ≤ length (now m)) ⌝ }
+    ensures { λ r. ⌜ ((k rights n : ℕ) → r ≡ reasonFor (tablesIn n o (memOf (now (m .entry)))) (now (reply .entry)) (asked (opening k rights))) ⌝ }
+{
+    if reply.len() != 4 {
+        return 1;
+    }
+    let d = numbers::i32_at(reply, 0);
+    if d < 0 {
+        return 4;
+    }
+    if limits::DESCRIPTORS as i32 <= d {
+        return 4;
+    }
+    if tables::find_descriptor(m, o, d as u32) < o {
+        return 4;
+    }
+    0
+}
+
+// A stat: id, kind, mode and size.
+const STAT_BYTES: usize = limits::ID_BYTES + 6;
+
+fn stat_row(id: u64, kind: u8, mode: u8, size: u32) -> [u8; STAT_BYTES]
+    ensures { λ r. ⌜ r ≡ encode ID-BYTES id ++ (kind ∷ mode ∷ encode 4 size) ⌝ }
+{
+    let mut r = [0u8; STAT_BYTES];
+    numbers::put_number(&mut r, 0, limits::ID_BYTES, id);
+    r[limits::ID_BYTES] = kind;
+    r[limits::ID_BYTES + 1] = mode;
+    numbers::put_number(&mut r, limits::ID_BYTES + 2, 4, size as u64);
+    r
+}
+
+// The stat of node k: 1 of another length, 6 where a field differs.
+pub fn judge_stat(m: &[u8], n: usize, k: usize, reply: &[u8]) -> u8
+    requires { ⌜ (k < n) × (n ≤ NODES) × (memorySize ≤ length (now m)) ⌝ }
+    ensures { λ r. ⌜ ((o : ℕ) → r ≡ reasonFor (tablesIn n o (memOf (now (m .entry)))) (now (reply .entry)) (asked (stating k))) ⌝ }
+{
+    if reply.len() != STAT_BYTES {
+        return 1;
+    }
+    let row = stat_row(
+        memory::node_id(m, k),
+        memory::node_kind(m, k),
+        memory::node_mode(m, k),
+        memory::node_size(m, k),
+    );
+    if !buffers::same(reply, &row) {
+        return 6;
+    }
+    0
+}
+
+// A listing's entry up to its name: id, kind and the name's length.
+const ENTRY_FRONT: usize = limits::ID_BYTES + 2;
+
+// The place behind the entry at `at`, or 0 where the reply ends before that.
+fn entry_end(reply: &[u8], at: usize) -> usize
+    requires { ⌜ at ≤ length (now reply) ⌝ }
+    ensures { λ r. ⌜ r ≡ endWithin ID-BYTES (now (reply .entry)) at ⌝ }
+{
+    if reply.len() - at < ENTRY_FRONT {
+        return 0;
+    }
+    let size = reply[at + limits::ID_BYTES + 1] as usize;
+    let end = at + ENTRY_FRONT + size;
+    if reply.len() < end {
+        return 0;
+    }
+    end
+}
+
+// The place of the child that the entry at `at` names, or n where there is none or its id or kind is another.
+fn entry_place(m: &[u8], n: usize, id: u64, reply: &[u8], at: usize, end: usize) -> usize
+    requires { ⌜ (n ≤ NODES) × (memorySize ≤ length (now m)) × (end ≡ entryEnd ID-BYTES (now reply) at) × (end ≤ length (now reply)) ⌝ }
+    ensures { λ r. ⌜ r ≡ entryPlace (take n (memOf (now (m .entry)) .nodes)) id (entryAt ID-BYTES (now (reply .entry)) at) ⌝ }
+{
+    let start = at + ENTRY_FRONT;
+    let k = tables::find_child(m, n, id, &reply[start..end]);
+    if n <= k {
+        return n;
+    }
+    if numbers::number_at(reply, at, limits::ID_BYTES) != memory::node_id(m, k) {
+        return n;
+    }
+    if reply[at + limits::ID_BYTES] != memory::node_kind(m, k) {
+        return n;
+    }
+    k
+}
+
+// A listing of the children of the node with this id: 7 unless each has one entry. Names differ among sound nodes, so each entry has one place.
+pub fn judge_listing(m: &[u8], n: usize, id: u64, reply: &[u8]) -> u8
+    requires { ⌜ (n ≤ NODES) × (memorySize ≤ length (now m)) ⌝ }
+    ensures { λ r. ⌜ (soundNodes ID-BYTES (take n (memOf (now (m .entry)) .nodes)) ≡ true → (k o : ℕ) → nodeAt (take n (memOf (now (m .entry)) .nodes)) k .id ≡ id → r ≡ reasonFor (tablesIn n o (memOf (now (m .entry)))) (now (reply .entry)) (asked (listing k))) ⌝ }
+{
+    let mut seen = [0u8; limits::NODES];
+    let mut count = 0;
+    let mut at = 0;
+    while at < reply.len() {
+        let end = entry_end(reply, at);
+        if end == 0 {
+            return 7;
+        }
+        let k = entry_place(m, n, id, reply, at, end);
+        if n <= k {
+            return 7;
+        }
+        if seen[k] != 0 {
+            return 7;
+        }
+        seen[k] = 1;
+        count += 1;
+        at = end;
+    }
+    if count != tables::count_children(m, n, id) {
+        return 7;
+    }
+    0
+}
