@@ -1,0 +1,166 @@
+-- What the judging function answers, the memory that waits and the request that was written are what the machine makes of the call.
+-- Assumes nothing.
+use mathlib.Core.Path.{_≡_, refl, ap, ap₂, sym, _∙_, subst}
+use mathlib.Core.Bool.{true, false}
+use mathlib.Core.List.{List, [], _∷_, _++_}
+use mathlib.Core.Option.{Option, some, none as nothing}
+use Prim.Native.Nat.{ℕ, _+_, _<_, _≤_}
+use native.Mathlib.Omega.{arith}
+use lib.Dec.{ltb}
+use lib.ListN.{length, take, drop}
+use lib.Seq.{take-at}
+use borrow.Author.Tests.{ltb-false}
+use Rattle.lists.specs.Pick.{pick, pick-ind}
+use Rattle.lists.specs.Parts.{overwrite}
+use Rattle.lists.specs.PartLaws.{take-overwrite}
+use Rattle.lists.specs.Equal.{or-snd}
+use Rattle.lists.specs.All.{both, none, all-left, all-tail}
+use Rattle.lists.specs.Search.{any}
+use Rattle.lists.specs.Checks.{Check, Passed, decide}
+use Rattle.filesystem.specs.Tables.{NODES, NAME-BYTES, PATH-BYTES, Tables}
+use Rattle.filesystem.specs.Paths.{Path, readPath, pathBytes, tooLong, walk}
+use Rattle.filesystem.specs.PathLaws.{readPath-was-bytes, walk-place}
+use Rattle.rules.specs.Calls.{Call}
+use Rattle.rules.specs.Requests.{Pending, asked}
+use Rattle.rules.specs.Skeleton.{Config, refused, ask, requestBytes, atFront, plain}
+use Rattle.rules.specs.Rules.{Move, refuse, send, callChecks, callAction, reach}
+use Rattle.machine.specs.Machine.{State, Result, apply, guard as digestStore}
+use Rattle.paths.specs.declared.Walked.{Walked}
+use Rattle.paths.specs.declared.Walked.the-variants.{Node as node, Refused as refusedNode}
+use Rattle.path_calls.specs.Judged.{judged, nodeFor}
+use Rattle.call_reader.specs.Meaning.{madeBy}
+use Rattle.requests.specs.PathRequests.{hasNumber, pathRequest}
+use Rattle.memory.specs.Layout.{memOf, openRows}
+use Rattle.tables.specs.View.{tablesIn, viewOf}
+use Rattle.tables.specs.RowsInUse.{count-nodes}
+use Rattle.guard_state.specs.declared.Guard.{Guard}
+use Rattle.guard_state.specs.State.{numbersOf, stateIn, stateOf, gatheredNone}
+use Rattle.guard_state.specs.Waits.{waits}
+use Rattle.outcomes.specs.declared.Outcome.{Outcome}
+use Rattle.outcomes.specs.declared.Outcome.the-variants.{Ask, Refused}
+use Rattle.outcomes.specs.Values.{answerIn}
+use Rattle.path_calls_begun.specs.Begun.{begun, Sends, questionOf}
+use Rattle.path_calls_begun.specs.KindLaws.{OnNode, sends-itself, walks-first}
+
+-- two answers by the same checks
+module _ {A B : Type 0} (F : A → B → Type 0) (a : ℕ → A) (b : ℕ → B) (stop : (n : ℕ) → F (a n) (b n)) where
+  both-decided : (cs : List Check) (x : A) (y : B) → (Passed cs → F x y) → F (decide a cs x) (decide b cs y)
+  unfolding decide pick
+  both-decided [] x y g = g none
+  both-decided ((n, true) ∷ cs) x y g = stop n
+  both-decided ((n, false) ∷ cs) x y g = both-decided cs x y (λ p. g (both refl p))
+
+  both-judged : (checks : Path → List Check) (x : Path → A) (y : Path → B) (s : List ℕ) → ((p : Path) → readPath s ≡ some p → Passed (checks p) → F (x p) (y p))
+      → F (judged a checks x s) (judged b checks y s)
+  unfolding judged
+  both-judged checks x y s g = go (readPath s) refl
+    where
+      go : (o : Option Path) → readPath s ≡ o
+          → F (elim o [ nothing ↦ a 22 | some p ↦ decide a (checks p) (x p) ]) (elim o [ nothing ↦ b 22 | some p ↦ decide b (checks p) (y p) ])
+      go nothing e = stop 22
+      go (some p) e = both-decided (checks p) (x p) (y p) (g p e)
+
+pub request-most : (kind number : ℕ) (s : List ℕ) → length (pathRequest kind number s) ≤ 2 + length s
+unfolding pathRequest
+request-most kind number s = pick-ind (λ (l : List ℕ). length l ≤ 2 + length s) (hasNumber kind) (λ _. omega arith) (λ _. omega arith)
+
+path-short : (p : Path) → tooLong p ≡ false → length (pathBytes p) ≤ PATH-BYTES
+unfolding tooLong
+path-short p e = ltb-false _ _ (or-snd (any (λ c. ltb NAME-BYTES (length c)) p) _ e)
+
+module _ (t : Tables) (w : ℕ) (path : List ℕ) (make : Path → Call) where
+  abbrev move : Move
+  move = judged refuse (λ p. callChecks t (make p)) (λ p. callAction t w (make p)) path
+
+  -- the path that was read, where the call passes
+  record Passes (k : ℕ) (m : Move) : Type 0 where
+    its : Path
+    reads : readPath path ≡ some its
+    passed : Passed (callChecks t (make its))
+    leads : walk (t .nodes) 0 its ≡ k
+    moves : m ≡ callAction t w (make its)
+
+  record Says (r : Walked) (m : Move) : Type 0 where
+    refuses : (n : ℕ) → r ≡ refusedNode n → m ≡ refuse n
+    passes : (k : ℕ) → r ≡ node k → Passes k m
+
+  says : Says (nodeFor t path make) move
+  unfolding nodeFor
+  says =
+      both-judged Says refusedNode refuse
+      (λ n. record { refuses = λ k e. let z : n ≡ k = cc in ap refuse z; passes = λ k e. absurd (let z : _≡_ {A = ℕ} 0 1 = cc in omega arith) })
+      (λ p. callChecks t (make p)) (λ p. node (walk (t .nodes) 0 p)) (λ p. callAction t w (make p)) path
+      (λ p e h. record {
+        refuses = λ n q. absurd (let z : _≡_ {A = ℕ} 0 1 = cc in omega arith);
+        passes = λ k q. record { its = p; reads = e; passed = h; leads = cc; moves = refl };
+      })
+
+module _ (c : Config) (s : State (digestStore c)) (path : List ℕ) (make : Path → Call) where
+  abbrev t : Tables
+  t = s .skeleton .tables
+
+  -- a refusal changes nothing
+  pub refused-sends : (r : Walked) (n : ℕ) (m q : List ℕ) → r ≡ nodeFor t path make → r ≡ refusedNode n → stateOf c m ≡ s → Sends c (begun c s path make) (Refused n) m q q
+  unfolding begun apply answerIn requestBytes overwrite
+  refused-sends r n m q e f g =
+      let z = says t (c .width) path make .refuses n (sym e ∙ f) in
+      record {
+        state = g ∙ ap (λ v. apply c (digestStore c) s v .state) (sym z);
+        answer = ap (λ v. apply c (digestStore c) s v .outcome .answer) (sym z);
+        request = ap (λ v. atFront (requestBytes (apply c (digestStore c) s v .outcome .answer)) q) (sym z);
+      }
+
+module _ (path : List ℕ) (kind number : ℕ) (on : OnNode kind) where
+  -- what is known of a call that passes: its node is there, and its path is not too long
+  pub passes-node : (t : Tables) (r : Walked) (k : ℕ) → r ≡ nodeFor t path (madeBy kind number) → r ≡ node k → 0 < length (t .nodes) → (k < length (t .nodes)) × (length path ≤ PATH-BYTES)
+  passes-node t r k e f h =
+      let p = says t 0 path (madeBy kind number) .passes k (sym e ∙ f) in
+      let (cs, q) = walks-first t 0 number (p .its) on in
+      let a = all-left (reach t (p .its)) cs (subst Passed q (p .passed)) in (
+        subst (λ i. i < length (t .nodes)) (p .leads) (walk-place (t .nodes) 0 (p .its) (all-tail a) h),
+        subst (λ (l : List ℕ). length l ≤ PATH-BYTES) (sym (readPath-was-bytes path (p .its) (p .reads) .0)) (short (p .its) a),
+      )
+    where
+      short : (p : Path) → Passed (reach t p) → length (pathBytes p) ≤ PATH-BYTES
+      short p (both e _) = path-short p e
+
+module _ (c : Config) (s : State (digestStore c)) (path : List ℕ) (kind number : ℕ) (on : OnNode kind) where
+  abbrev here : Tables
+  here = s .skeleton .tables
+
+  -- a call that passes waits, and its request stands at the front of the buffer
+  pub node-sends : (r : Walked) (k : ℕ) (m q q′ : List ℕ) (o : Outcome) → r ≡ nodeFor here path (madeBy kind number) → r ≡ node k
+      → stateOf c m ≡ waits c s (asked (questionOf kind number k)) gatheredNone → q′ ≡ atFront (pathRequest kind number path) q → o ≡ Ask (length (pathRequest kind number path))
+      → length (pathRequest kind number path) ≤ length q → Sends c (begun c s path (madeBy kind number)) o m q q′
+  unfolding begun apply answerIn requestBytes waits
+  node-sends r k m q q′ o e f g u v h =
+      let x = pathRequest kind number path in
+      let p = says here (c .width) path (madeBy kind number) .passes k (sym e ∙ f) in
+      let y = readPath-was-bytes path (p .its) (p .reads) .0 in
+      let z = p .moves ∙ sends-itself here (c .width) number (p .its) on
+      ∙ ap₂ (λ i b. send (asked (questionOf kind number i)) (pathRequest kind number b)) (p .leads) (sym y) in
+      record {
+        state = g ∙ ap (λ d. apply c (digestStore c) s d .state) (sym z);
+        answer =
+            ap (λ (n : Outcome). answerIn n [] q′) v
+            ∙ ap ask (ap (take (length x)) u ∙ take-overwrite q 0 x (length x) (omega arith) (omega arith))
+            ∙ ap (λ d. apply c (digestStore c) s d .outcome .answer) (sym z);
+        request = u ∙ ap (λ d. atFront (requestBytes (apply c (digestStore c) s d .outcome .answer)) q) (sym z);
+      }
+
+-- the numbers that were loaded: within the tables' limits, and those of the state's tables
+module _ (m : List ℕ) (g : Guard) (e : g ≡ numbersOf (memOf m .head)) where
+  pub counts-fit : (g .nodes ≤ NODES) × (g .opens ≤ openRows)
+  unfolding numbersOf
+  counts-fit =
+      let n : g .nodes ≡ numbersOf (memOf m .head) .nodes = ap (λ (x : Guard). x .nodes) e in
+      let o : g .opens ≡ numbersOf (memOf m .head) .opens = ap (λ (x : Guard). x .opens) e in
+      (omega (arith, n), omega (arith, o))
+
+  pub tables-loaded : (c : Config) → tablesIn (g .nodes) (g .opens) (memOf m) ≡ stateOf c m .skeleton .tables
+  unfolding stateOf stateIn tablesIn viewOf
+  tables-loaded c = ap (λ (x : Guard). tablesIn (x .nodes) (x .opens) (memOf m)) e
+
+  pub nodes-loaded : (c : Config) → length (stateOf c m .skeleton .tables .nodes) ≡ g .nodes
+  unfolding tablesIn
+  nodes-loaded c = ap (λ (x : Tables). length (x .nodes)) (sym (tables-loaded c)) ∙ count-nodes m (g .nodes) (counts-fit .0)

@@ -1,0 +1,3 @@
+pub mod Begun
+pub mod KindLaws
+pub mod BegunLaws
