@@ -1,3 +1,4 @@
 pub mod Begun
 pub mod KindLaws
 pub mod BegunLaws
+pub mod NewLaws

@@ -1,11 +1,11 @@
-// A call by path on a node that is there, begun: judged, waiting, its request written over the front of the request buffer.
+// A call by path begun: judged, waiting, its request written over the front of the request buffer.
 ghost use mathlib.Core.Path.{_≡_};
 ghost use Prim.Native.Nat.{_<_, _≤_};
-ghost use lib.ListN.{length};
-ghost use Rattle.filesystem.specs.Tables.{NODES, PATH-BYTES};
+ghost use lib.ListN.{length, drop};
+ghost use Rattle.filesystem.specs.Tables.{NODES, NAME-BYTES, PATH-BYTES, nodeAt};
 ghost use Rattle.memory.specs.Layout.{memOf, memorySize, openRows};
 ghost use Rattle.tables.specs.View.{tablesIn};
-ghost use Rattle.rules.specs.Requests.{asked, storeLength};
+ghost use Rattle.rules.specs.Requests.{asked, creating, storeLength};
 ghost use Rattle.rules.specs.Skeleton.{Config, atFront};
 ghost use Rattle.path_calls.specs.Judged.{nodeFor};
 ghost use Rattle.call_reader.specs.Meaning.{madeBy, NumberFits};
@@ -15,6 +15,8 @@ ghost use Rattle.guard_state.specs.State.{stateOf, gatheredNone};
 ghost use Rattle.guard_state.specs.Waits.{waits};
 ghost use Rattle.path_calls_begun.specs.Begun.{begun, Sends, questionOf, plainQuestion};
 ghost use Rattle.path_calls_begun.specs.KindLaws.{OnNode};
+
+// ---- a node that is there
 
 // The numbers of a call on a node, by its kind: open 3, remove 9, rmdir 10, chmod 11, readdir 12, stat 13.
 fn judge(m: &[u8], n: usize, o: usize, kind: u8, number: u8, path: &[u8]) -> paths::Walked
@@ -115,5 +117,61 @@ pub fn begin_on_node(
     match w {
         paths::Walked::Node(k) => send(m, kind, number, k, path, request),
         paths::Walked::Refused(b) => outcomes::Outcome::Refused(b),
+    }
+}
+
+// ---- a new node
+
+// A create or a mkdir that passed: it waits with its parent's id and its name, and its request goes out.
+fn send_new(
+    m: &mut [u8],
+    kind: u8,
+    number: u8,
+    parent: usize,
+    path: &[u8],
+    start: usize,
+    request: &mut [u8],
+) -> outcomes::Outcome
+    requires { ⌜ (parent < NODES) × (start ≤ length (now path)) × (length (drop start (now path)) ≤ NAME-BYTES) × (length (now path) ≤ PATH-BYTES) × (memorySize ≤ length (now m)) × (storeLength ≤ length (now request)) ⌝ }
+    ensures { λ _. ⌜ ((c : Config) → stateOf c (now (m .exit)) ≡ waits c (stateOf c (now (m .entry))) (asked (creating (nodeAt (memOf (now (m .entry)) .nodes) parent .id) kind number (drop start (now (path .entry))))) gatheredNone) ⌝ }
+    ensures { λ _. ⌜ length (now (m .exit)) ≡ length (now (m .entry)) ⌝ }
+    ensures { λ r. ⌜ (now (request .exit) ≡ atFront (pathRequest kind number (now (path .entry))) (now (request .entry))) × (r ≡ Ask (length (pathRequest kind number (now (path .entry))))) ⌝ }
+{
+    let id = memory::node_id(m, parent);
+    guard_state::wait_create(m, id, kind, number, &path[start..]);
+    let l = requests::write_path(request, kind, number, path);
+    outcomes::Outcome::Ask(l)
+}
+
+// create 1 and mkdir 2, by their mode and path's bytes.
+pub fn begin_new(
+    m: &mut [u8],
+    kind: u8,
+    number: u8,
+    path: &[u8],
+    request: &mut [u8],
+) -> outcomes::Outcome
+    requires { ⌜ (1 ≤ kind) × (kind ≤ 2) × (memorySize ≤ length (now m)) × (storeLength ≤ length (now request)) ⌝ }
+    ensures { λ r. ⌜ ((c : Config) → 0 < length (stateOf c (now (m .entry)) .skeleton .tables .nodes) → Sends c (begun c (stateOf c (now (m .entry))) (now (path .entry)) (madeBy kind number)) r (now (m .exit)) (now (request .entry)) (now (request .exit))) ⌝ }
+    ensures { λ _. ⌜ length (now (m .exit)) ≡ length (now (m .entry)) ⌝ }
+{
+    let g = guard_state::Guard::load(m);
+    let n = g.nodes;
+    if n == 0 {
+        return outcomes::Outcome::Refused(34);
+    }
+    let w = path_calls::judge_new(m, n, path);
+    match w {
+        paths::Placed::In { parent, start } => send_new(
+            m,
+            kind,
+            number,
+            parent,
+            path,
+            start,
+            request,
+        ),
+        paths::Placed::Refused(b) => outcomes::Outcome::Refused(b),
+        paths::Placed::Root => outcomes::Outcome::Refused(17),
     }
 }

@@ -118,7 +118,7 @@ Modest c (cutDone k o q) = Unit {0}
 Modest c saving = Unit {0}
 Modest c (loading i d) = Unit {0}
 
-path-short : (p : Path) → tooLong p ≡ false → length (pathBytes p) ≤ PATH-BYTES
+pub path-short : (p : Path) → tooLong p ≡ false → length (pathBytes p) ≤ PATH-BYTES
 unfolding tooLong
 path-short p e = ltb-false _ _ (or-snd (any (λ c. ltb NAME-BYTES (length c)) p) _ e)
 
