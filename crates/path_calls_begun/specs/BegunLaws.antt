@@ -6,21 +6,19 @@ use mathlib.Core.List.{List, [], _∷_, _++_}
 use mathlib.Core.Option.{Option, some, none as nothing}
 use Prim.Native.Nat.{ℕ, _+_, _<_, _≤_}
 use native.Mathlib.Omega.{arith}
-use lib.ListN.{length, take, drop}
+use lib.ListN.{length}
 use Rattle.lists.specs.Pick.{pick, pick-ind}
-use Rattle.lists.specs.Parts.{overwrite}
-use Rattle.lists.specs.PartLaws.{take-overwrite}
 use Rattle.lists.specs.All.{both, none, all-left, all-tail}
 use Rattle.lists.specs.Checks.{Check, Passed, decide}
 use Rattle.filesystem.specs.Tables.{NODES, PATH-BYTES, Tables}
 use Rattle.filesystem.specs.Paths.{Path, readPath, pathBytes, walk}
 use Rattle.filesystem.specs.PathLaws.{readPath-was-bytes, walk-place}
 use Rattle.rules.specs.Calls.{Call}
-use Rattle.rules.specs.Requests.{Pending, asked}
-use Rattle.rules.specs.Skeleton.{Config, refused, ask, requestBytes, atFront, plain}
+use Rattle.rules.specs.Requests.{asked}
+use Rattle.rules.specs.Skeleton.{Config, atFront}
 use Rattle.rules.specs.Rules.{Move, refuse, send, callChecks, callAction, reach}
 use Rattle.rules.specs.Lengths.{path-short}
-use Rattle.machine.specs.Machine.{State, Result, apply, guard as digestStore}
+use Rattle.machine.specs.Machine.{State, guard as digestStore}
 use Rattle.paths.specs.declared.Walked.{Walked}
 use Rattle.paths.specs.declared.Walked.the-variants.{Node as node, Refused as refusedNode}
 use Rattle.path_calls.specs.Judged.{judged, nodeFor}
@@ -34,8 +32,8 @@ use Rattle.guard_state.specs.State.{numbersOf, stateIn, stateOf, gatheredNone}
 use Rattle.guard_state.specs.Waits.{waits}
 use Rattle.outcomes.specs.declared.Outcome.{Outcome}
 use Rattle.outcomes.specs.declared.Outcome.the-variants.{Ask, Refused}
-use Rattle.outcomes.specs.Values.{answerIn}
-use Rattle.path_calls_begun.specs.Begun.{begun, Sends, questionOf}
+use Rattle.outcomes.specs.Sent.{Sends, refusal-sends, request-sends}
+use Rattle.path_calls_begun.specs.Begun.{begun, questionOf}
 use Rattle.path_calls_begun.specs.KindLaws.{OnNode, sends-itself, walks-first}
 
 -- two answers by the same checks
@@ -87,33 +85,10 @@ module _ (t : Tables) (w : ℕ) (path : List ℕ) (make : Path → Call) where
         passes = λ k q. record { its = p; reads = e; passed = h; leads = cc; moves = refl };
       })
 
--- a call that is refused changes nothing; one that passes waits, and its request stands at the front of the buffer
-module _ (c : Config) (s : State (digestStore c)) (path : List ℕ) (make : Path → Call) where
-  abbrev moved : Move
-  moved = judged refuse (λ p. callChecks (s .skeleton .tables) (make p)) (λ p. callAction (s .skeleton .tables) (c .width) (make p)) path
-
-  pub refusal-sends : (n : ℕ) (m q : List ℕ) → moved ≡ refuse n → stateOf c m ≡ s → Sends c (begun c s path make) (Refused n) m q q
-  unfolding begun apply answerIn requestBytes overwrite
-  refusal-sends n m q z g = record {
-    state = g ∙ ap (λ v. apply c (digestStore c) s v .state) (sym z);
-    answer = ap (λ v. apply c (digestStore c) s v .outcome .answer) (sym z);
-    request = ap (λ v. atFront (requestBytes (apply c (digestStore c) s v .outcome .answer)) q) (sym z);
-  }
-
-  pub request-sends : (p : Pending) (x m q q′ : List ℕ) (o : Outcome) → moved ≡ send p x → stateOf c m ≡ waits c s p gatheredNone → q′ ≡ atFront x q → o ≡ Ask (length x) → length x ≤ length q
-      → Sends c (begun c s path make) o m q q′
-  unfolding begun apply answerIn requestBytes waits
-  request-sends p x m q q′ o z g u v h = record {
-    state = g ∙ ap (λ d. apply c (digestStore c) s d .state) (sym z);
-    answer =
-        ap (λ (n : Outcome). answerIn n [] q′) v
-        ∙ ap ask (ap (take (length x)) u ∙ take-overwrite q 0 x (length x) (omega arith) (omega arith))
-        ∙ ap (λ d. apply c (digestStore c) s d .outcome .answer) (sym z);
-    request = u ∙ ap (λ d. atFront (requestBytes (apply c (digestStore c) s d .outcome .answer)) q) (sym z);
-  }
-
-  pub refused-sends : (r : Walked) (n : ℕ) (m q : List ℕ) → r ≡ nodeFor (s .skeleton .tables) path make → r ≡ refusedNode n → stateOf c m ≡ s → Sends c (begun c s path make) (Refused n) m q q
-  refused-sends r n m q e f g = refusal-sends n m q (says (s .skeleton .tables) (c .width) path make .refuses n (sym e ∙ f)) g
+pub refused-sends : (c : Config) (s : State (digestStore c)) (path : List ℕ) (make : Path → Call) (r : Walked) (n : ℕ) (m q : List ℕ) → r ≡ nodeFor (s .skeleton .tables) path make
+    → r ≡ refusedNode n → stateOf c m ≡ s → Sends c (begun c s path make) (Refused n) m q q
+unfolding begun
+refused-sends c s path make r n m q e f g = refusal-sends c s _ n m q (says (s .skeleton .tables) (c .width) path make .refuses n (sym e ∙ f)) g
 
 module _ (path : List ℕ) (kind number : ℕ) (on : OnNode kind) where
   -- what is known of a call that passes: its node is there, and its path is not too long
@@ -137,12 +112,13 @@ module _ (c : Config) (s : State (digestStore c)) (path : List ℕ) (kind number
   pub node-sends : (r : Walked) (k : ℕ) (m q q′ : List ℕ) (o : Outcome) → r ≡ nodeFor here path (madeBy kind number) → r ≡ node k
       → stateOf c m ≡ waits c s (asked (questionOf kind number k)) gatheredNone → q′ ≡ atFront (pathRequest kind number path) q → o ≡ Ask (length (pathRequest kind number path))
       → length (pathRequest kind number path) ≤ length q → Sends c (begun c s path (madeBy kind number)) o m q q′
+  unfolding begun
   node-sends r k m q q′ o e f g u v h =
       let p = says here (c .width) path (madeBy kind number) .passes k (sym e ∙ f) in
       let y = readPath-was-bytes path (p .its) (p .reads) .0 in
       let z = p .moves ∙ sends-itself here (c .width) number (p .its) on
       ∙ ap₂ (λ i b. send (asked (questionOf kind number i)) (pathRequest kind number b)) (p .leads) (sym y) in
-      request-sends c s path (madeBy kind number) _ (pathRequest kind number path) m q q′ o z g u v h
+      request-sends c s _ _ (pathRequest kind number path) m q q′ o z g u v h
 
 -- the numbers that were loaded: within the tables' limits, and those of the state's tables
 module _ (m : List ℕ) (g : Guard) (e : g ≡ numbersOf (memOf m .head)) where

@@ -7,23 +7,22 @@ use mathlib.Core.Option.{some}
 use Prim.Native.Nat.{ℕ, zero, suc, _-_, _<_, _≤_}
 use native.Mathlib.Omega.{arith}
 use lib.Dec.{ltb, leb}
-use lib.ListN.{length, take, drop}
+use lib.ListN.{length, drop}
 use borrow.Author.Tests.{ltb-false, lt-leb}
 use Rattle.lists.specs.Pick.{pick}
 use Rattle.lists.specs.Equal.{or-fst, or-snd}
 use Rattle.lists.specs.All.{both, none, all-left, all-right, all-tail}
 use Rattle.lists.specs.Search.{any}
-use Rattle.lists.specs.PartLaws.{take-overwrite}
 use Rattle.lists.specs.Checks.{Check, Passed}
 use Rattle.filesystem.specs.Tables.{NAME-BYTES, PATH-BYTES, Tables, nodeAt}
 use Rattle.filesystem.specs.Paths.{Path, readPath, pathBytes, tooLong, walk, parentChecks, parentOf, lastOf}
 use Rattle.filesystem.specs.PathLaws.{readPath-was-bytes, parent-place}
 use Rattle.rules.specs.Calls.{create, callBytes}
 use Rattle.rules.specs.Requests.{asked, creating}
-use Rattle.rules.specs.Skeleton.{Config, ask, requestBytes, atFront}
+use Rattle.rules.specs.Skeleton.{Config, atFront}
 use Rattle.rules.specs.Rules.{Move, refuse, send, callChecks, callAction, newChecks, reachParent}
 use Rattle.rules.specs.Lengths.{path-short}
-use Rattle.machine.specs.Machine.{State, apply, guard as digestStore}
+use Rattle.machine.specs.Machine.{State, guard as digestStore}
 use Rattle.paths.specs.Parts.{componentsOf}
 use Rattle.paths.specs.FormAnswers.{read-components}
 use Rattle.paths.specs.WalkAnswers.{last-start}
@@ -36,9 +35,9 @@ use Rattle.guard_state.specs.State.{stateOf, gatheredNone}
 use Rattle.guard_state.specs.Waits.{waits}
 use Rattle.outcomes.specs.declared.Outcome.{Outcome}
 use Rattle.outcomes.specs.declared.Outcome.the-variants.{Ask, Refused}
-use Rattle.outcomes.specs.Values.{answerIn}
-use Rattle.path_calls_begun.specs.Begun.{begun, Sends}
-use Rattle.path_calls_begun.specs.BegunLaws.{both-judged, refusal-sends, request-sends}
+use Rattle.outcomes.specs.Sent.{Sends, refusal-sends, request-sends}
+use Rattle.path_calls_begun.specs.Begun.{begun}
+use Rattle.path_calls_begun.specs.BegunLaws.{both-judged}
 
 -- the kinds of a new node: 1 a file, 2 a directory
 pub data NewKind : ℕ → Type 0 where
@@ -153,15 +152,17 @@ module _ (path : List ℕ) (kind number : ℕ) (new : NewKind kind) where
 
     pub new-refused : (r : Placed) (n : ℕ) (m q : List ℕ) → r ≡ placeFor here path (madeBy kind number) → r ≡ refusedPlace n → stateOf c m ≡ s
         → Sends c (begun c s path (madeBy kind number)) (Refused n) m q q
-    new-refused r n m q e f g = refusal-sends c s path (madeBy kind number) n m q (says here (c .width) .refuses n (sym e ∙ f)) g
+    unfolding begun
+    new-refused r n m q e f g = refusal-sends c s _ n m q (says here (c .width) .refuses n (sym e ∙ f)) g
 
     pub new-sends : (r : Placed) (d at : ℕ) (m q q′ : List ℕ) (o : Outcome) → 0 < length (here .nodes) → r ≡ placeFor here path (madeBy kind number) → r ≡ In d at
         → stateOf c m ≡ waits c s (asked (creating (nodeAt (here .nodes) d .id) kind number (drop at path))) gatheredNone → q′ ≡ atFront (pathRequest kind number path) q
         → o ≡ Ask (length (pathRequest kind number path)) → length (pathRequest kind number path) ≤ length q → Sends c (begun c s path (madeBy kind number)) o m q q′
+    unfolding begun
     new-sends r d at m q q′ o y e f g u v h =
         let p = says here (c .width) .passes d at (sym e ∙ f) in
         let n = its-name here (c .width) d at _ y p .0 in
         let z = p .moves ∙ sends-new here (c .width) number (p .its) new
         ∙ ap₂ (λ (i : ℕ) (x : List ℕ). send (asked (creating (nodeAt (here .nodes) i .id) kind number x)) (pathRequest kind number (pathBytes (p .its)))) (p .leads) (sym n)
         ∙ ap (λ (b : List ℕ). send (asked (creating (nodeAt (here .nodes) d .id) kind number (drop at path))) (pathRequest kind number b)) (sym (readPath-was-bytes path (p .its) (p .reads) .0)) in
-        request-sends c s path (madeBy kind number) _ (pathRequest kind number path) m q q′ o z g u v h
+        request-sends c s _ _ (pathRequest kind number path) m q q′ o z g u v h

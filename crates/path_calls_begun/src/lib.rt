@@ -13,7 +13,8 @@ ghost use Rattle.requests.specs.PathRequests.{pathRequest};
 ghost use Rattle.outcomes.specs.declared.Outcome.the-variants.{Ask};
 ghost use Rattle.guard_state.specs.State.{stateOf, gatheredNone};
 ghost use Rattle.guard_state.specs.Waits.{waits};
-ghost use Rattle.path_calls_begun.specs.Begun.{begun, Sends, questionOf, plainQuestion};
+ghost use Rattle.outcomes.specs.Sent.{Sends};
+ghost use Rattle.path_calls_begun.specs.Begun.{begun, questionOf, plainQuestion};
 ghost use Rattle.path_calls_begun.specs.KindLaws.{OnNode};
 
 // ---- a node that is there
