@@ -43,10 +43,9 @@ numbersOf h = record {
 unfoldable pub stagedBytes : Guard → List ℕ → List ℕ
 stagedBytes g s = take (g .bytes) s
 
-unfoldable pub pendingIn : Guard → List ℕ → Pending
-pendingIn g s =
-    getD
-    (idle
+unfoldable pub pendings : Guard → List ℕ → List Pending
+pendings g s =
+    idle
     ∷ asked (creating (g .parent) (g .kind) (g .mode) (stagedBytes g s))
     ∷ asked (opening (g .node) (g .rights))
     ∷ asked (closing (g .opened))
@@ -60,8 +59,10 @@ pendingIn g s =
     ∷ fetching (g .node) (g .opened) (shrinking (g .size)) (g .page)
     ∷ storing (g .node) (g .opened) (shrinking (g .size)) (g .page)
     ∷ cutting (g .node) (g .opened) (shrinking (g .size))
-    ∷ [])
-    (g .call) idle
+    ∷ []
+
+unfoldable pub pendingIn : Guard → List ℕ → Pending
+pendingIn g s = getD (pendings g s) (g .call) idle
 
 -- a read (8) has gathered bytes, a change (9 to 13) new digests
 abbrev pub gatheredNone : Gathered

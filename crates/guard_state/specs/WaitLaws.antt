@@ -9,15 +9,16 @@ use native.Mathlib.Omega.{arith}
 use lib.Dec.{eqb}
 use lib.ListN.{length, getD, take, drop, set}
 use Rattle.lists.specs.Cells.{tab}
-use Rattle.filesystem.specs.Tables.{NODES, root, pagesFor}
+use Rattle.filesystem.specs.Tables.{NODES, Tables, root, pagesFor}
 use Rattle.filesystem.specs.Image.{divide}
 use Rattle.memory.specs.Layout.{Mem, memOf, headNumbers, openRows, withHead, withNodes, withStaged}
 use Rattle.rules.specs.Requests.{Pending, idle}
 use Rattle.rules.specs.Skeleton.{Config}
 use Rattle.machine.specs.Machine.{Gathered, fresh, guard as digestStore}
-use Rattle.tables.specs.View.{viewOf}
+use Rattle.tables.specs.View.{viewOf, tablesIn}
+use Rattle.tables.specs.RowsInUse.{count-nodes}
 use Rattle.guard_state.specs.declared.Guard.{Guard}
-use Rattle.guard_state.specs.State.{numbersOf, stateWith, stateIn, stateOf, clearedHead, pendingIn, gatheredIn}
+use Rattle.guard_state.specs.State.{numbersOf, stateWith, stateIn, stateOf, clearedHead, pendings, pendingIn, gatheredIn}
 use Rattle.guard_state.specs.Waits.{waits, ends, stops, restingState}
 
 -- a number within its limit is read as it is
@@ -52,18 +53,23 @@ pub waits-as : (c : Config) (m x y : List ℕ) → memOf x ≡ withHead y (memOf
     → (p : Pending) (a : Gathered) → getD y 2 0 ≡ 0 → pendingIn (numbersOf y) (memOf m .staged) ≡ p → gatheredIn (numbersOf y) (memOf m .staged) ≡ a → stateOf c x ≡ waits c (stateOf c m) p a
 waits-as c m x y = staged-waits c m x y (memOf m .staged)
 
+-- what is pending, by the call's number
+pub pending-at : (c : Config) (m : List ℕ) (k : ℕ) → numbersOf (memOf m .head) .call ≡ k → stateOf c m .skeleton .pending ≡ getD (pendings (numbersOf (memOf m .head)) (memOf m .staged)) k idle
+unfolding stateOf stateIn viewOf pendingIn
+pending-at c m k e = ap (λ (i : ℕ). getD (pendings (numbersOf (memOf m .head)) (memOf m .staged)) i idle) e
+
 -- nothing is pending; a stop
 module _ (c : Config) (m x : List ℕ) where
   pub ends-as : memOf x ≡ withHead (clearedHead (memOf m .head)) (memOf m) → stateOf c x ≡ ends c (stateOf c m) (stateOf c m .skeleton .tables) (stateOf c m .contents)
-  unfolding stateOf stateIn viewOf numbersOf clearedHead pendingIn gatheredIn ends
+  unfolding stateOf stateIn viewOf numbersOf clearedHead pendings pendingIn gatheredIn ends
   ends-as e = ap (λ (s : Mem). let g = numbersOf (s .head) in stateIn c g (viewOf (g .nodes) (g .opens) s)) e
 
   pub stops-as : memOf x ≡ withHead (set (clearedHead (memOf m .head)) 2 1) (memOf m) → stateOf c x ≡ stops c (stateOf c m)
-  unfolding stateOf stateIn viewOf numbersOf clearedHead pendingIn gatheredIn stops
+  unfolding stateOf stateIn viewOf numbersOf clearedHead pendings pendingIn gatheredIn stops
   stops-as e = ap (λ (s : Mem). let g = numbersOf (s .head) in stateIn c g (viewOf (g .nodes) (g .opens) s)) e
 
   pub rests-as : (n o : ℕ) → n ≤ NODES → o ≤ openRows → memOf x ≡ withHead (set (set (clearedHead (memOf m .head)) 0 n) 1 o) (memOf m) → stateOf c x ≡ restingState c (viewOf n o (memOf m))
-  unfolding stateOf stateIn viewOf numbersOf clearedHead pendingIn gatheredIn restingState
+  unfolding stateOf stateIn viewOf numbersOf clearedHead pendings pendingIn gatheredIn restingState
   rests-as n o f g e =
       ap (λ (s : Mem). let q = numbersOf (s .head) in stateIn c q (viewOf (q .nodes) (q .opens) s)) e
       ∙ ap₂ (λ i j. restingState c (viewOf i j (memOf m))) (kept n (NODES + 1) (omega arith)) (kept o (openRows + 1) (omega arith))
@@ -76,3 +82,20 @@ first-row (y ∷ l) x h = refl
 pub rests-fresh : (c : Config) (m : Mem) → 0 < length (m .nodes) → restingState c (viewOf 1 0 (withNodes (set (m .nodes) 0 root) m)) ≡ fresh c (digestStore c)
 unfolding restingState viewOf divide pagesFor
 rests-fresh c m h = rw (first-row (m .nodes) root h)
+
+-- the numbers that were loaded: within the tables' limits, and those of the state's tables
+module _ (m : List ℕ) (g : Guard) (e : g ≡ numbersOf (memOf m .head)) where
+  pub counts-fit : (g .nodes ≤ NODES) × (g .opens ≤ openRows)
+  unfolding numbersOf
+  counts-fit =
+      let n : g .nodes ≡ numbersOf (memOf m .head) .nodes = ap (λ (x : Guard). x .nodes) e in
+      let o : g .opens ≡ numbersOf (memOf m .head) .opens = ap (λ (x : Guard). x .opens) e in
+      (omega (arith, n), omega (arith, o))
+
+  pub tables-loaded : (c : Config) → tablesIn (g .nodes) (g .opens) (memOf m) ≡ stateOf c m .skeleton .tables
+  unfolding stateOf stateIn tablesIn viewOf
+  tables-loaded c = ap (λ (x : Guard). tablesIn (x .nodes) (x .opens) (memOf m)) e
+
+  pub nodes-loaded : (c : Config) → length (stateOf c m .skeleton .tables .nodes) ≡ g .nodes
+  unfolding tablesIn
+  nodes-loaded c = ap (λ (x : Tables). length (x .nodes)) (sym (tables-loaded c)) ∙ count-nodes m (g .nodes) (counts-fit .0)

@@ -9,9 +9,9 @@ use Rattle.lists.specs.Parts.{overwrite}
 use Rattle.lists.specs.PartLaws.{take-overwrite}
 use Rattle.filesystem.specs.Tables.{Tables}
 use Rattle.rules.specs.Requests.{Pending}
-use Rattle.rules.specs.Skeleton.{Config, ask, requestBytes, atFront}
+use Rattle.rules.specs.Skeleton.{Config, done, ask, requestBytes, atFront}
 use Rattle.rules.specs.Rules.{Move, refuse, halt, send, finish}
-use Rattle.machine.specs.Machine.{State, Result, apply, guard as digestStore}
+use Rattle.machine.specs.Machine.{State, Result, ending, apply, guard as digestStore}
 use Rattle.guard_state.specs.State.{stateOf, gatheredNone}
 use Rattle.guard_state.specs.Waits.{waits, ends, stops}
 use Rattle.outcomes.specs.declared.Outcome.{Outcome}
@@ -42,13 +42,18 @@ module _ (c : Config) (s : State (digestStore c)) (v : Move) where
     request = ap (λ d. atFront (requestBytes (apply c (digestStore c) s d .outcome .answer)) q) (sym z);
   }
 
-  pub finish-sends : (t : Tables) (n : ℕ) (m q : List ℕ) → v ≡ finish t n [] → stateOf c m ≡ ends c s t (s .contents) → Sends c (apply c (digestStore c) s v) (Done n 0) m q q
-  unfolding apply answerIn requestBytes overwrite ends
-  finish-sends t n m q z g = record {
-    state = g ∙ ap (λ d. apply c (digestStore c) s d .state) (sym z);
-    answer = ap (λ d. apply c (digestStore c) s d .outcome .answer) (sym z);
-    request = ap (λ d. atFront (requestBytes (apply c (digestStore c) s d .outcome .answer)) q) (sym z);
+  pub done-sends : (t : Tables) (x : List (List (List ℕ))) (n : ℕ) (m q : List ℕ) → apply c (digestStore c) s v ≡ ending c (digestStore c) s (done n []) t x → stateOf c m ≡ ends c s t x
+      → Sends c (apply c (digestStore c) s v) (Done n 0) m q q
+  unfolding answerIn requestBytes overwrite ends
+  done-sends t x n m q z g = record {
+    state = g ∙ ap (λ d. d .state) (sym z);
+    answer = ap (λ d. d .outcome .answer) (sym z);
+    request = ap (λ d. atFront (requestBytes (d .outcome .answer)) q) (sym z);
   }
+
+  pub finish-sends : (t : Tables) (n : ℕ) (m q : List ℕ) → v ≡ finish t n [] → stateOf c m ≡ ends c s t (s .contents) → Sends c (apply c (digestStore c) s v) (Done n 0) m q q
+  unfolding apply
+  finish-sends t n m q z g = done-sends t (s .contents) n m q (ap (apply c (digestStore c) s) z) g
 
   pub request-sends : (p : Pending) (x m q q′ : List ℕ) (o : Outcome) → v ≡ send p x → stateOf c m ≡ waits c s p gatheredNone → q′ ≡ atFront x q → o ≡ Ask (length x) → length x ≤ length q
       → Sends c (apply c (digestStore c) s v) o m q q′

@@ -10,14 +10,14 @@ use Prim.Native.Nat.{ℕ, _+_, _%_}
 use Rattle.filesystem.specs.Tables.{DATA-BYTES}
 use Rattle.memory.specs.Layout.{memOf, withHead, withStaged}
 use Rattle.rules.specs.Requests.{asked, creating}
-use Rattle.guard_state.specs.State.{numbersOf, clearedHead, pendingIn, gatheredIn, gatheredNone, stagedBytes}
+use Rattle.guard_state.specs.State.{numbersOf, clearedHead, pendings, pendingIn, gatheredIn, gatheredNone, stagedBytes}
 use Rattle.guard_state.specs.WaitLaws.{kept, staged-waits}
 use borrow.Author.Needs.{needs}
 use Rattle.guard_state.proofs.wait_create.Statement.{statement}
 use Rattle.guard_state.proofs.wait_create.Tie as tie
 
 returns : tie.Need-returns
-unfolding clearedHead numbersOf pendingIn gatheredIn stagedBytes
+unfolding clearedHead numbersOf pendings pendingIn gatheredIn stagedBytes
 returns c =
     let p5 = c .before .before in
     let p4 = p5 .before .before .before .before in

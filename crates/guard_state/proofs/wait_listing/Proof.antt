@@ -7,14 +7,14 @@ use Prim.Native.Nat.{ℕ}
 use Rattle.filesystem.specs.Tables.{NODES}
 use Rattle.memory.specs.Layout.{memOf, withHead}
 use Rattle.rules.specs.Requests.{asked, listing}
-use Rattle.guard_state.specs.State.{numbersOf, clearedHead, pendingIn, gatheredIn, gatheredNone}
+use Rattle.guard_state.specs.State.{numbersOf, clearedHead, pendings, pendingIn, gatheredIn, gatheredNone}
 use Rattle.guard_state.specs.WaitLaws.{kept, waits-as}
 use borrow.Author.Needs.{needs}
 use Rattle.guard_state.proofs.wait_listing.Statement.{statement}
 use Rattle.guard_state.proofs.wait_listing.Tie as tie
 
 returns : tie.Need-returns
-unfolding clearedHead numbersOf pendingIn gatheredIn
+unfolding clearedHead numbersOf pendings pendingIn gatheredIn
 returns c =
     let p2 = c .before .before in
     let p1 = p2 .before .before .before .before in
