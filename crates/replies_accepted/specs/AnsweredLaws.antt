@@ -1,26 +1,27 @@
 -- What a reply comes to, by the reason that was found: a stop, or what the rules make of it.
 -- Assumes nothing.
 use mathlib.Core.Path.{_≡_, refl, ap, sym, _∙_, subst}
-use mathlib.Core.Bool.{Bool, true, false}
+use mathlib.Core.Bool.{Bool, true, false, not, true≢false}
 use mathlib.Core.List.{List, [], _∷_, _++_}
 use Prim.Native.Nat.{ℕ, _<_, _≤_}
 use native.Mathlib.Omega.{arith}
-use lib.Dec.{ltb}
-use borrow.Author.Tests.{ltb-true}
+use lib.Dec.{ltb, eqb}
+use borrow.Author.Tests.{ltb-true, eqb-true}
+use lib.ListN.{length, take}
 use Rattle.lists.specs.Pick.{pick}
 use Rattle.lists.specs.All.{All, both, none}
 use Rattle.lists.specs.Search.{without}
-use Rattle.lists.specs.Checks.{Check, decide}
-use Rattle.filesystem.specs.Tables.{ID-BYTES, Tables, setMode}
+use Rattle.lists.specs.Checks.{Check, Passed, decide}
+use Rattle.filesystem.specs.Tables.{ID-BYTES, Node, OpenFile, Tables, freshTables, setMode}
 use Rattle.rules.specs.Requests.{asked, Pending, idle, creating, opening, closing, removing, changing, listing, stating, reading, fetching, storing, cutting}
 use Rattle.rules.specs.Skeleton.{Config}
-use Rattle.rules.specs.Rules.{Move, halt, finish, delete, replyChecks, replyAction}
+use Rattle.rules.specs.Rules.{Move, halt, finish, add, delete, lengthCheck, replyChecks, replyAction}
 use Rattle.machine.specs.Machine.{State, Result, apply, guard as digestStore}
 use Rattle.memory.specs.Layout.{Mem, memOf, withNodes}
-use Rattle.tables.specs.View.{View, viewOf, withoutNode, withoutOpen}
+use Rattle.tables.specs.View.{View, viewOf, withNode, withoutNode, withOpen, withoutOpen}
 use Rattle.tables.specs.ViewLaws.{view-mode}
 use Rattle.guard_state.specs.declared.Guard.{Guard}
-use Rattle.guard_state.specs.State.{numbersOf, pendings, stateIn, stateOf}
+use Rattle.guard_state.specs.State.{numbersOf, stagedBytes, pendings, stateIn, stateOf}
 use Rattle.guard_state.specs.Waits.{stops, ends, restingState}
 use Rattle.guard_state.specs.WaitLaws.{pending-at}
 use Rattle.outcomes.specs.declared.Outcome.the-variants.{Done, Stopped}
@@ -75,6 +76,29 @@ module _ (c : Config) (wide : c .width ≡ ID-BYTES) (s : State (digestStore c))
   unfolding reasonFor
   taken-passes e = at-width ∙ passes _ (replyChecks ID-BYTES (s .skeleton .tables) r p) (positive (s .skeleton .tables) r p) e
 
+-- a reply without a reason has its length
+passed-all : (cs : List Check) → All Positive cs → 0 ≡ decide (λ n. n) cs 0 → Passed cs
+unfolding decide pick
+passed-all [] a e = none
+passed-all ((n, true) ∷ cs) (both p a) e = absurd (omega (arith, ltb-true 0 n p))
+passed-all ((n, false) ∷ cs) (both p a) e = both refl (passed-all cs a e)
+
+long-enough : (r : List ℕ) (n : ℕ) (cs : List Check) → Passed (lengthCheck ID-BYTES freshTables r n ∷ cs) → length r ≡ n
+long-enough r n cs (both e _) = eqb-true (length r) n (yes (eqb (length r) n) e)
+  where
+    yes : (b : Bool) → not b ≡ false → b ≡ true
+    yes true h = refl
+    yes false h = absurd (true≢false h)
+
+module _ (t : Tables) (r : List ℕ) where
+  pub opening-long : (k rights : ℕ) → 0 ≡ reasonFor t r (asked (opening k rights)) → length r ≡ 4
+  unfolding reasonFor replyChecks
+  opening-long k rights e = long-enough r 4 _ (passed-all _ (positive t r (asked (opening k rights))) e)
+
+  pub creating-long : (p k m : ℕ) (name : List ℕ) → 0 ≡ reasonFor t r (asked (creating p k m name)) → length r ≡ ID-BYTES
+  unfolding reasonFor replyChecks
+  creating-long p k m name e = long-enough r ID-BYTES _ (passed-all _ (positive t r (asked (creating p k m name))) e)
+
 -- A reply to the pending call p: it stops the guard, or the call is done.
 module _ (c : Config) (wide : c .width ≡ ID-BYTES) (s : State (digestStore c)) (r : List ℕ) (p : Pending) (waiting : s .skeleton .pending ≡ p) where
   abbrev t : Tables
@@ -94,10 +118,25 @@ module _ (c : Config) (wide : c .width ≡ ID-BYTES) (s : State (digestStore c))
   unfolding answered apply
   answer-deletes k x q e f g = done-sends c s (taken c s r) (record { nodes = without k (t .nodes); opens = t .opens }) (without k (s .contents)) 0 x q (ap (apply c (digestStore c) s) (taken-passes c wide s r p waiting e ∙ f)) g
 
+  pub answer-adds : (n : Node) (x q : List ℕ) → 0 ≡ reasonFor t r p → replyAction ID-BYTES t r p ≡ add n
+      → stateOf c x ≡ ends c s (record { nodes = t .nodes ++ (n ∷ []); opens = t .opens }) (s .contents ++ ([] ∷ [])) → Sends c (answered c s r) (Done (n .id) 0) x q q
+  unfolding answered apply
+  answer-adds n x q e f g =
+      done-sends c s (taken c s r) (record { nodes = t .nodes ++ (n ∷ []); opens = t .opens }) (s .contents ++ ([] ∷ [])) (n .id) x q
+      (ap (apply c (digestStore c) s) (taken-passes c wide s r p waiting e ∙ f)) g
+
 -- The pending calls, by the header's numbers.
 module _ (c : Config) (m : List ℕ) where
   abbrev g : Guard
   g = numbersOf (memOf m .head)
+
+  pub create-pending : g .call ≡ 1 → stateOf c m .skeleton .pending ≡ asked (creating (g .parent) (g .kind) (g .mode) (take (g .bytes) (memOf m .staged)))
+  unfolding pendings stagedBytes
+  create-pending e = pending-at c m 1 e
+
+  pub open-pending : g .call ≡ 2 → stateOf c m .skeleton .pending ≡ asked (opening (g .node) (g .rights))
+  unfolding pendings
+  open-pending e = pending-at c m 2 e
 
   pub close-pending : g .call ≡ 3 → stateOf c m .skeleton .pending ≡ asked (closing (g .opened))
   unfolding pendings
@@ -120,6 +159,16 @@ module _ (c : Config) (m : List ℕ) (g : Guard) (e : g ≡ numbersOf (memOf m .
       ≡ ends c here (record { nodes = here .skeleton .tables .nodes; opens = without (numbersOf (memOf m .head) .opened) (here .skeleton .tables .opens) }) (here .contents)
   unfolding restingState ends stateOf stateIn viewOf
   close-ends = ap (λ (x : Guard). restingState c (withoutOpen (x .opened) (viewOf (x .nodes) (x .opens) (memOf m)))) e
+
+  pub open-ends : (x : OpenFile) → restingState c (withOpen x (viewOf (g .nodes) (g .opens) (memOf m)))
+      ≡ ends c here (record { nodes = here .skeleton .tables .nodes; opens = here .skeleton .tables .opens ++ (x ∷ []) }) (here .contents)
+  unfolding restingState ends stateOf stateIn viewOf
+  open-ends x = ap (λ (z : Guard). restingState c (withOpen x (viewOf (z .nodes) (z .opens) (memOf m)))) e
+
+  pub create-ends : (x : Node) → restingState c (withNode x (viewOf (g .nodes) (g .opens) (memOf m)))
+      ≡ ends c here (record { nodes = here .skeleton .tables .nodes ++ (x ∷ []); opens = here .skeleton .tables .opens }) (here .contents ++ ([] ∷ []))
+  unfolding restingState ends stateOf stateIn viewOf
+  create-ends x = ap (λ (z : Guard). restingState c (withNode x (viewOf (z .nodes) (z .opens) (memOf m)))) e
 
   pub remove-ends : restingState c (withoutNode (g .node) (viewOf (g .nodes) (g .opens) (memOf m)))
       ≡ ends c here (record { nodes = without (numbersOf (memOf m .head) .node) (here .skeleton .tables .nodes); opens = here .skeleton .tables .opens }) (without (numbersOf (memOf m .head) .node) (here .contents))

@@ -4,8 +4,8 @@ ghost use mathlib.Core.Path.{_≡_};
 ghost use mathlib.Core.List.{List};
 ghost use Prim.Native.Nat.{ℕ, _<_, _≤_};
 ghost use lib.ListN.{length};
-ghost use Rattle.filesystem.specs.Tables.{ID-BYTES, PAGES, pageTotal};
-ghost use Rattle.memory.specs.Layout.{memOf, memorySize};
+ghost use Rattle.filesystem.specs.Tables.{NODES, PAGES, NAME-BYTES, ID-BYTES, pageTotal};
+ghost use Rattle.memory.specs.Layout.{memOf, memorySize, openRows};
 ghost use Rattle.rules.specs.Skeleton.{Config};
 ghost use Rattle.guard_state.specs.State.{numbersOf, stateOf};
 ghost use Rattle.outcomes.specs.Sent.{Sends};
@@ -80,6 +80,68 @@ pub fn accept_remove(m: &mut [u8], reply: &[u8]) -> outcomes::Outcome
     guard_state::rest(m, n - 1, g.opens);
     outcomes::Outcome::Done {
         number: 0,
+        length: 0,
+    }
+}
+
+// open: one more open file, at its beginning; done with its id, which is its handle.
+pub fn accept_open(m: &mut [u8], reply: &[u8]) -> outcomes::Outcome
+    requires { ⌜ (numbersOf (memOf (now m) .head) .call ≡ 2) × (memorySize ≤ length (now m)) ⌝ }
+    ensures { λ r. ⌜ ((c : Config) → c .width ≡ ID-BYTES → numbersOf (memOf (now (m .entry)) .head) .node < numbersOf (memOf (now (m .entry)) .head) .nodes → numbersOf (memOf (now (m .entry)) .head) .opens < openRows → numbersOf (memOf (now (m .entry)) .head) .rights < 256 → (q : List ℕ) → Sends c (answered c (stateOf c (now (m .entry))) (now (reply .entry))) r (now (m .exit)) q q) ⌝ }
+    ensures { λ _. ⌜ length (now (m .exit)) ≡ length (now (m .entry)) ⌝ }
+{
+    let g = guard_state::Guard::load(m);
+    let o = g.opens;
+    let b = replies::judge_descriptor(m, o, reply);
+    if b != 0 {
+        guard_state::stop(m);
+        return outcomes::Outcome::Stopped(b);
+    }
+    if memory::OPEN_ROWS <= o {
+        return outcomes::Outcome::Stopped(4);
+    }
+    let id = memory::node_id(m, g.node);
+    let row = memory::open_row(id, numbers::u32_at(reply, 0), (g.rights % 256) as u8, 0);
+    tables::add_open(m, o, row);
+    guard_state::rest(m, g.nodes, o + 1);
+    outcomes::Outcome::Done {
+        number: id,
+        length: 0,
+    }
+}
+
+// create and mkdir: one more node, behind the others, with the staged name; done with its id.
+pub fn accept_create(m: &mut [u8], reply: &[u8]) -> outcomes::Outcome
+    requires { ⌜ (numbersOf (memOf (now m) .head) .call ≡ 1) × (memorySize ≤ length (now m)) ⌝ }
+    ensures { λ r. ⌜ ((c : Config) → c .width ≡ ID-BYTES → numbersOf (memOf (now (m .entry)) .head) .nodes < NODES → numbersOf (memOf (now (m .entry)) .head) .bytes ≤ NAME-BYTES → numbersOf (memOf (now (m .entry)) .head) .kind < 256 → numbersOf (memOf (now (m .entry)) .head) .mode < 256 → (q : List ℕ) → Sends c (answered c (stateOf c (now (m .entry))) (now (reply .entry))) r (now (m .exit)) q q) ⌝ }
+    ensures { λ _. ⌜ length (now (m .exit)) ≡ length (now (m .entry)) ⌝ }
+{
+    let g = guard_state::Guard::load(m);
+    let n = g.nodes;
+    let b = replies::judge_id(m, n, reply);
+    if b != 0 {
+        guard_state::stop(m);
+        return outcomes::Outcome::Stopped(b);
+    }
+    if limits::NODES <= n {
+        return outcomes::Outcome::Stopped(3);
+    }
+    if limits::NAME_BYTES < g.bytes {
+        return outcomes::Outcome::Stopped(3);
+    }
+    let id = numbers::number_at(reply, 0, limits::ID_BYTES);
+    let row = memory::node_row(
+        id,
+        g.parent,
+        (g.kind % 256) as u8,
+        (g.mode % 256) as u8,
+        0,
+        memory::staged(m, 0, g.bytes),
+    );
+    tables::add_node(m, n, row);
+    guard_state::rest(m, n + 1, g.opens);
+    outcomes::Outcome::Done {
+        number: id,
         length: 0,
     }
 }

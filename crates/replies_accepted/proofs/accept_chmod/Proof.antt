@@ -19,8 +19,7 @@ returns c =
     let p = c .before .before in
     let j = p .before .before .before in
     let b = j .before .before .before in
-    let a = b .args in
-    (
+    let a = b .args in (
       λ d w l k q.
           answer-stops d w (stateOf d (a .m .now)) (a .reply .now) _ (chmod-pending d (a .m .now) (b .pre .0)) _ _ q
           (j .judge-status .ensures 0 refl ∙ sym (changing-reason (stateOf d (a .m .now) .skeleton .tables) (a .reply .now) _ _)) (omega (arith, p .before .before .if1 .taken)) (p .stop .ensures .0 d),
@@ -46,8 +45,7 @@ returns-2 c =
     let a = b .args in
     let n = numbersOf (memOf (a .m .now) .head) in
     let k : g .load .result .node ≡ n .node = ap (λ (x : Guard). x .node) (g .load .ensures) in
-    let z : g .load .result .mode ≡ n .mode = ap (λ (x : Guard). x .mode) (g .load .ensures) in
-    (
+    let z : g .load .result .mode ≡ n .mode = ap (λ (x : Guard). x .mode) (g .load .ensures) in (
       λ d w l u q.
           answer-finishes d w (stateOf d (a .m .now)) (a .reply .now) _ (chmod-pending d (a .m .now) (b .pre .0)) _ 0 _ q
           (sym (g .before .before .if1 .left) ∙ j .judge-status .ensures 0 refl ∙ sym (changing-reason (stateOf d (a .m .now) .skeleton .tables) (a .reply .now) _ _)) refl

@@ -52,8 +52,7 @@ returns-3 c =
     let g = v .before .before .before in
     let j = g .before .before .before in
     let b = j .before .before .before in
-    let a = b .args in
-    (
+    let a = b .args in (
       λ d w l q.
           answer-finishes d w (stateOf d (a .m .now)) (a .reply .now) _ (close-pending d (a .m .now) (b .pre .0)) _ 0 _ q
           (sym (g .before .before .if1 .left) ∙ j .judge-status .ensures 0 refl ∙ sym (closing-reason (stateOf d (a .m .now) .skeleton .tables) (a .reply .now) _)) refl

@@ -22,8 +22,7 @@ returns c =
     let p = c .before .before in
     let j = p .before .before .before in
     let b = j .before .before .before in
-    let a = b .args in
-    (
+    let a = b .args in (
       λ d w l k q.
           answer-stops d w (stateOf d (a .m .now)) (a .reply .now) _ (remove-pending d (a .m .now) (b .pre .0)) _ _ q
           (j .judge-status .ensures 0 refl ∙ sym (removing-reason (stateOf d (a .m .now) .skeleton .tables) (a .reply .now) _)) (omega (arith, p .before .before .if1 .taken)) (p .stop .ensures .0 d),
@@ -49,8 +48,7 @@ unfolding tablesIn
 returns-3 c =
     let f = c .before in
     let g = f .before .before .before in
-    let a = g .before .before .before .before .before .before .args in
-    (
+    let a = g .before .before .before .before .before .before .args in (
       λ d w l u q.
           absurd (omega (arith, c .if3 .taken, f .first-page .ensures .0, ap (λ (x : Tables). pageTotal (x .nodes)) (tables-loaded (a .m .now) _ (g .load .ensures) d), u)),
       refl,
@@ -78,8 +76,7 @@ returns-4 c =
     let g = v .before .before .before .before .before .before in
     let j = g .before .before .before in
     let b = j .before .before .before in
-    let a = b .args in
-    (
+    let a = b .args in (
       λ d w l u q.
           answer-deletes d w (stateOf d (a .m .now)) (a .reply .now) _ (remove-pending d (a .m .now) (b .pre .0)) _ _ q
           (sym (g .before .before .if1 .left) ∙ j .judge-status .ensures 0 refl ∙ sym (removing-reason (stateOf d (a .m .now) .skeleton .tables) (a .reply .now) _)) refl

@@ -1,0 +1,119 @@
+-- `replies_accepted::accept_open` meets its contract. Assumes nothing.
+use native.Mathlib.Omega.{arith}
+use native.Mathlib.Nat.{mod-eq-of-lt}
+use mathlib.Core.Path.{_≡_, refl, ap, ap₂, sym, _∙_}
+use mathlib.Core.List.{List, [], _∷_, _++_}
+use Prim.Native.Nat.{ℕ, _%_}
+use lib.ListN.{length}
+use Rattle.lists.specs.LittleEndian.{decode}
+use Rattle.lists.specs.Parts.{part}
+use Rattle.filesystem.specs.Tables.{OpenFile, Tables, nodeAt, newOpenFile, withCursor}
+use Rattle.memory.specs.Layout.{memOf}
+use Rattle.tables.specs.View.{View, viewOf, withOpen, tablesIn}
+use Rattle.tables.specs.RowsInUse.{node-front}
+use Rattle.rules.specs.Requests.{asked, opening}
+use Rattle.rules.specs.Rules.{finish, replyAction}
+use Rattle.replies.specs.Judged.{reasonFor}
+use Rattle.replies.specs.JudgedLaws.{whole-part}
+use Rattle.guard_state.specs.declared.Guard.{Guard}
+use Rattle.guard_state.specs.State.{numbersOf, stateOf}
+use Rattle.guard_state.specs.Waits.{ends, restingState}
+use Rattle.guard_state.specs.WaitLaws.{counts-fit, tables-loaded}
+use Rattle.replies_accepted.specs.AnsweredLaws.{answer-stops, answer-finishes, opening-long, open-pending, open-ends}
+use borrow.Author.Needs.{needs}
+use Rattle.replies_accepted.proofs.accept_open.Statement.{statement}
+use Rattle.replies_accepted.proofs.accept_open.Tie as tie
+
+judge-descriptor-requires : tie.Need-judge-descriptor-requires
+judge-descriptor-requires c κs =
+    let g = c .before in
+    let a = g .before .before .before .before .args in
+    (counts-fit (a .m .now) _ (g .load .ensures) .1, omega arith)
+
+returns : tie.Need-returns
+returns c =
+    let p = c .before .before in
+    let j = p .before .before .before in
+    let g = j .before .before in
+    let b = g .before .before .before .before in
+    let a = b .args in
+    let n = numbersOf (memOf (a .m .now) .head) in (
+      λ d w l o u q.
+          answer-stops d w (stateOf d (a .m .now)) (a .reply .now) _ (open-pending d (a .m .now) (b .pre .0)) _ _ q
+          (j .judge-descriptor .ensures (n .node) (n .rights) (g .load .result .nodes) ∙ ap (λ (x : Tables). reasonFor x (a .reply .now) (asked (opening (n .node) (n .rights)))) (tables-loaded (a .m .now) _ (g .load .ensures) d))
+          (omega (arith, p .before .before .if1 .taken)) (p .stop .ensures .0 d),
+      omega arith,
+    )
+
+returns-2 : tie.Need-returns-2
+returns-2 c =
+    let g = c .before .before .before .before in
+    let a = g .before .before .before .before .args in
+    let n : g .load .result .opens ≡ numbersOf (memOf (a .m .now) .head) .opens = ap (λ (x : Guard). x .opens) (g .load .ensures) in
+    (λ d w l o u q. absurd (omega (arith, n, o, c .if2 .taken)), refl)
+
+node-id-requires : tie.Need-node-id-requires
+unfolding numbersOf
+node-id-requires c κs =
+    let g = c .before .before .before .before .before in
+    let a = g .before .before .before .before .args in
+    let k : g .load .result .node ≡ numbersOf (memOf (a .m .now) .head) .node = ap (λ (x : Guard). x .node) (g .load .ensures) in
+    (omega (arith, k), omega arith)
+
+u32-at-requires : tie.Need-u32-at-requires
+u32-at-requires c κs =
+    let j = c .before .before .before .before in
+    let g = j .before .before in
+    let a = g .before .before .before .before .args in
+    let l = opening-long (tablesIn 0 (g .load .result .opens) (memOf (a .m .now))) (a .reply .now) 0 0 (sym (c .before .before .before .if1 .left) ∙ j .judge-descriptor .ensures 0 0 0) in
+    omega (arith, l)
+
+rest-requires : tie.Need-rest-requires
+rest-requires c κs =
+    let t = c .before .before .before .before .before .before .before .before .before .before in
+    let g = t .before .before .before .before in
+    let a = g .before .before .before .before .args in
+    let f = counts-fit (a .m .now) _ (g .load .ensures) in
+    (f .0, omega (arith, t .if2 .left), omega arith)
+
+returns-3 : tie.Need-returns-3
+unfolding replyAction tablesIn
+returns-3 c =
+    let r = c .before .before in
+    let v = r .before .before .before .before in
+    let w = v .before .before in
+    let x = w .before .before in
+    let i = x .before in
+    let j = i .before .before .before .before in
+    let g = j .before .before in
+    let b = g .before .before .before .before in
+    let a = b .args in
+    let n = numbersOf (memOf (a .m .now) .head) in
+    let k : g .load .result .node ≡ n .node = ap (λ (y : Guard). y .node) (g .load .ensures) in
+    let z : g .load .result .rights ≡ n .rights = ap (λ (y : Guard). y .rights) (g .load .ensures) in
+    let m : g .load .result .nodes ≡ n .nodes = ap (λ (y : Guard). y .nodes) (g .load .ensures) in (
+      λ d e l o u q.
+          let s = stateOf d (a .m .now) in
+          let y = tables-loaded (a .m .now) _ (g .load .ensures) d in
+          let h : 0 ≡ reasonFor (s .skeleton .tables) (a .reply .now) (asked (opening (n .node) (n .rights))) =
+          sym (i .before .before .before .if1 .left) ∙ j .judge-descriptor .ensures (n .node) (n .rights) (g .load .result .nodes)
+          ∙ ap (λ (t : Tables). reasonFor t (a .reply .now) (asked (opening (n .node) (n .rights)))) y in
+          let p : i .node-id .result ≡ nodeAt (s .skeleton .tables .nodes) (n .node) .id =
+          i .node-id .ensures ∙ ap (λ (f : ℕ). nodeAt (memOf (a .m .now) .nodes) f .id) k
+          ∙ sym (ap (λ f. f .id) (node-front (g .load .result .nodes) (memOf (a .m .now) .nodes) (n .node) (omega (arith, m, l)))) ∙ ap (λ (t : Tables). nodeAt (t .nodes) (n .node) .id) y in
+          let t : x .u32-at .result ≡ decode (a .reply .now) =
+          x .u32-at .ensures ∙ ap decode (whole-part (a .reply .now) 4 (opening-long (s .skeleton .tables) (a .reply .now) (n .node) (n .rights) h)) in
+          let f = w .open-row .ensures
+          ∙ ap₂ (λ (i j : ℕ). newOpenFile i j (g .load .result .rights % 256)) p t
+          ∙ ap (λ (i : ℕ). newOpenFile (nodeAt (s .skeleton .tables .nodes) (n .node) .id) (decode (a .reply .now)) i) (ap (λ (i : ℕ). i % 256) z ∙ mod-eq-of-lt u) in
+          let file = newOpenFile (nodeAt (s .skeleton .tables .nodes) (n .node) .id) (decode (a .reply .now)) (n .rights) in
+          let after : Tables = record { nodes = s .skeleton .tables .nodes; opens = s .skeleton .tables .opens ++ (file ∷ []) } in
+          answer-finishes d e s (a .reply .now) _ (open-pending d (a .m .now) (b .pre .0)) after (i .node-id .result) _ q h (ap (λ (v : ℕ). finish after v []) (sym p))
+          (r .rest .ensures .0 d ∙ ap (λ (v : View). restingState d v) (v .add-open .ensures .0 (g .load .result .nodes)) ∙ open-ends d (a .m .now) _ (g .load .ensures) _
+          ∙ ap (λ (v : OpenFile). ends d s (record { nodes = s .skeleton .tables .nodes; opens = s .skeleton .tables .opens ++ (v ∷ []) }) (s .contents)) f),
+      omega arith,
+    )
+
+pub accept-open-spec : {M : Type 1} → statement M
+accept-open-spec =
+    tie.close (tie.spec (λ c κs. search needs) judge-descriptor-requires (λ c κs. search needs) (λ c. search needs) returns (λ c. search needs) returns-2 node-id-requires u32-at-requires (λ c. search needs) (λ c κs. search needs) (λ c κs. search needs) (λ c. search needs) rest-requires (λ c. search needs) returns-3)
