@@ -10,7 +10,7 @@ use lib.ListN.{length}
 use Rattle.lists.specs.Pick.{pick, pick-ind}
 use Rattle.lists.specs.All.{both, none, all-left, all-tail}
 use Rattle.lists.specs.Checks.{Check, Passed, decide}
-use Rattle.filesystem.specs.Tables.{NODES, PATH-BYTES, Tables}
+use Rattle.filesystem.specs.Tables.{PATH-BYTES, Tables}
 use Rattle.filesystem.specs.Paths.{Path, readPath, pathBytes, walk}
 use Rattle.filesystem.specs.PathLaws.{readPath-was-bytes, walk-place}
 use Rattle.rules.specs.Calls.{Call}
@@ -24,11 +24,7 @@ use Rattle.paths.specs.declared.Walked.the-variants.{Node as node, Refused as r
 use Rattle.path_calls.specs.Judged.{judged, nodeFor}
 use Rattle.call_reader.specs.Meaning.{madeBy}
 use Rattle.requests.specs.PathRequests.{hasNumber, pathRequest}
-use Rattle.memory.specs.Layout.{memOf, openRows}
-use Rattle.tables.specs.View.{tablesIn, viewOf}
-use Rattle.tables.specs.RowsInUse.{count-nodes}
-use Rattle.guard_state.specs.declared.Guard.{Guard}
-use Rattle.guard_state.specs.State.{numbersOf, stateIn, stateOf, gatheredNone}
+use Rattle.guard_state.specs.State.{stateOf, gatheredNone}
 use Rattle.guard_state.specs.Waits.{waits}
 use Rattle.outcomes.specs.declared.Outcome.{Outcome}
 use Rattle.outcomes.specs.declared.Outcome.the-variants.{Ask, Refused}
@@ -119,20 +115,3 @@ module _ (c : Config) (s : State (digestStore c)) (path : List ℕ) (kind number
       let z = p .moves ∙ sends-itself here (c .width) number (p .its) on
       ∙ ap₂ (λ i b. send (asked (questionOf kind number i)) (pathRequest kind number b)) (p .leads) (sym y) in
       request-sends c s _ _ (pathRequest kind number path) m q q′ o z g u v h
-
--- the numbers that were loaded: within the tables' limits, and those of the state's tables
-module _ (m : List ℕ) (g : Guard) (e : g ≡ numbersOf (memOf m .head)) where
-  pub counts-fit : (g .nodes ≤ NODES) × (g .opens ≤ openRows)
-  unfolding numbersOf
-  counts-fit =
-      let n : g .nodes ≡ numbersOf (memOf m .head) .nodes = ap (λ (x : Guard). x .nodes) e in
-      let o : g .opens ≡ numbersOf (memOf m .head) .opens = ap (λ (x : Guard). x .opens) e in
-      (omega (arith, n), omega (arith, o))
-
-  pub tables-loaded : (c : Config) → tablesIn (g .nodes) (g .opens) (memOf m) ≡ stateOf c m .skeleton .tables
-  unfolding stateOf stateIn tablesIn viewOf
-  tables-loaded c = ap (λ (x : Guard). tablesIn (x .nodes) (x .opens) (memOf m)) e
-
-  pub nodes-loaded : (c : Config) → length (stateOf c m .skeleton .tables .nodes) ≡ g .nodes
-  unfolding tablesIn
-  nodes-loaded c = ap (λ (x : Tables). length (x .nodes)) (sym (tables-loaded c)) ∙ count-nodes m (g .nodes) (counts-fit .0)

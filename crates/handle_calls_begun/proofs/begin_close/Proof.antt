@@ -8,7 +8,7 @@ use Rattle.tables.specs.RowsInUse.{count-opens, open-front}
 use Rattle.rules.specs.Calls.{close}
 use Rattle.handle_calls.specs.Judged.{handledFor}
 use Rattle.guard_state.specs.State.{stateOf}
-use Rattle.path_calls_begun.specs.BegunLaws.{counts-fit, tables-loaded}
+use Rattle.guard_state.specs.LoadedLaws.{counts-fit, tables-loaded}
 use Rattle.handle_calls_begun.specs.StartedLaws.{close-there, handle-refused, close-sends}
 use borrow.Author.Needs.{needs}
 use Rattle.handle_calls_begun.proofs.begin_close.Statement.{statement}

@@ -9,7 +9,7 @@ use Rattle.rules.specs.Calls.{seek}
 use Rattle.handle_calls.specs.Judged.{handledFor}
 use Rattle.guard_state.specs.declared.Guard.{Guard}
 use Rattle.guard_state.specs.State.{stateOf}
-use Rattle.path_calls_begun.specs.BegunLaws.{counts-fit, tables-loaded}
+use Rattle.guard_state.specs.LoadedLaws.{counts-fit, tables-loaded}
 use Rattle.handle_calls_begun.specs.StartedLaws.{seek-there, handle-refused, seek-sends}
 use borrow.Author.Needs.{needs}
 use Rattle.handle_calls_begun.proofs.finish_seek.Statement.{statement}
