@@ -3,3 +3,4 @@ pub mod StageLaws
 pub mod Waits
 pub mod WaitLaws
 pub mod Changes
+pub mod LoadedLaws

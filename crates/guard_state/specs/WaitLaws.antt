@@ -9,14 +9,13 @@ use native.Mathlib.Omega.{arith}
 use lib.Dec.{eqb}
 use lib.ListN.{length, getD, take, drop, set}
 use Rattle.lists.specs.Cells.{tab}
-use Rattle.filesystem.specs.Tables.{NODES, Tables, root, pagesFor}
+use Rattle.filesystem.specs.Tables.{NODES, root, pagesFor}
 use Rattle.filesystem.specs.Image.{divide}
 use Rattle.memory.specs.Layout.{Mem, memOf, headNumbers, openRows, withHead, withNodes, withStaged}
 use Rattle.rules.specs.Requests.{Pending, idle}
 use Rattle.rules.specs.Skeleton.{Config}
 use Rattle.machine.specs.Machine.{Gathered, fresh, guard as digestStore}
-use Rattle.tables.specs.View.{viewOf, tablesIn}
-use Rattle.tables.specs.RowsInUse.{count-nodes}
+use Rattle.tables.specs.View.{viewOf}
 use Rattle.guard_state.specs.declared.Guard.{Guard}
 use Rattle.guard_state.specs.State.{numbersOf, stateWith, stateIn, stateOf, clearedHead, pendings, pendingIn, gatheredIn}
 use Rattle.guard_state.specs.Waits.{waits, ends, stops, restingState}
@@ -82,20 +81,3 @@ first-row (y ∷ l) x h = refl
 pub rests-fresh : (c : Config) (m : Mem) → 0 < length (m .nodes) → restingState c (viewOf 1 0 (withNodes (set (m .nodes) 0 root) m)) ≡ fresh c (digestStore c)
 unfolding restingState viewOf divide pagesFor
 rests-fresh c m h = rw (first-row (m .nodes) root h)
-
--- the numbers that were loaded: within the tables' limits, and those of the state's tables
-module _ (m : List ℕ) (g : Guard) (e : g ≡ numbersOf (memOf m .head)) where
-  pub counts-fit : (g .nodes ≤ NODES) × (g .opens ≤ openRows)
-  unfolding numbersOf
-  counts-fit =
-      let n : g .nodes ≡ numbersOf (memOf m .head) .nodes = ap (λ (x : Guard). x .nodes) e in
-      let o : g .opens ≡ numbersOf (memOf m .head) .opens = ap (λ (x : Guard). x .opens) e in
-      (omega (arith, n), omega (arith, o))
-
-  pub tables-loaded : (c : Config) → tablesIn (g .nodes) (g .opens) (memOf m) ≡ stateOf c m .skeleton .tables
-  unfolding stateOf stateIn tablesIn viewOf
-  tables-loaded c = ap (λ (x : Guard). tablesIn (x .nodes) (x .opens) (memOf m)) e
-
-  pub nodes-loaded : (c : Config) → length (stateOf c m .skeleton .tables .nodes) ≡ g .nodes
-  unfolding tablesIn
-  nodes-loaded c = ap (λ (x : Tables). length (x .nodes)) (sym (tables-loaded c)) ∙ count-nodes m (g .nodes) (counts-fit .0)

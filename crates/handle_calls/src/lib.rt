@@ -9,6 +9,7 @@ ghost use Rattle.tables.specs.View.{tablesIn};
 ghost use Rattle.rules.specs.Calls.{close, seek, read, write, truncate};
 ghost use Rattle.rules.specs.Rules.{noRoom};
 ghost use Rattle.handle_calls.specs.Judged.{handledFor, lacksRight, endChecked};
+ghost use Rattle.handle_calls.specs.declared.Handled.the-variants.{Open};
 
 // The places of an open file and of its node, or the number that stops the call.
 pub enum Handled {
@@ -64,10 +65,11 @@ fn size_at(m: &[u8], n: usize, k: usize) -> u32
     memory::node_size(m, k)
 }
 
-// 22 past the end, for the open file in place k.
+// 22 past the end, for the open file in place k. A position that passes is at most a size, so it fits a u32.
 fn judge_end(m: &[u8], n: usize, handle: u64, k: usize, position: u64) -> Handled
     requires { ⌜ (n ≤ NODES) × (memorySize ≤ length (now m)) ⌝ }
     ensures { λ r. ⌜ r ≡ endChecked (take n (memOf (now (m .entry)) .nodes)) handle k position ⌝ }
+    ensures { λ r. ⌜ ((i j : ℕ) → r ≡ Open i j → position < 4294967296) ⌝ }
 {
     let node = tables::find_id(m, n, handle);
     if (size_at(m, n, node) as u64) < position {
@@ -80,6 +82,7 @@ fn judge_end(m: &[u8], n: usize, handle: u64, k: usize, position: u64) -> Handle
 pub fn judge_seek(m: &[u8], n: usize, o: usize, handle: u64, position: u64) -> Handled
     requires { ⌜ (n ≤ NODES) × (o ≤ openRows) × (memorySize ≤ length (now m)) ⌝ }
     ensures { λ r. ⌜ r ≡ handledFor (tablesIn n o (memOf (now (m .entry)))) handle (seek handle position) ⌝ }
+    ensures { λ r. ⌜ ((i j : ℕ) → r ≡ Open i j → position < 4294967296) ⌝ }
 {
     let k = tables::find_handle(m, o, handle);
     if o <= k {

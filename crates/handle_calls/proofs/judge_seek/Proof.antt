@@ -1,6 +1,7 @@
 -- `handle_calls::judge_seek` meets its contract. Assumes nothing.
 use native.Mathlib.Omega.{arith}
 use mathlib.Core.Path.{_≡_, sym, _∙_}
+use Prim.Native.Nat.{ℕ}
 use lib.ListN.{length, take}
 use Rattle.memory.specs.Layout.{memOf}
 use Rattle.tables.specs.View.{tablesIn}
@@ -15,15 +16,17 @@ unfolding tablesIn
 returns c =
     let a = c .before .before .before .args in
     let e : length (take (a .o) (memOf (a .m .now) .opens)) ≡ a .o = count-opens (a .m .now) (a .o) (omega arith) in
-    sym (seek-refused (tablesIn (a .n) (a .o) (memOf (a .m .now))) (a .handle) _ (c .before .find-handle .ensures) (a .position) (omega arith))
+    (sym (seek-refused (tablesIn (a .n) (a .o) (memOf (a .m .now))) (a .handle) _ (c .before .find-handle .ensures) (a .position) (omega arith)), λ i j f. absurd (let z : _≡_ {A = ℕ} 0 1 = cc in omega arith))
 
 returns-2 : tie.Need-returns-2
 unfolding tablesIn
 returns-2 c =
     let a = c .before .before .before .before .args in
-    let e : length (take (a .o) (memOf (a .m .now) .opens)) ≡ a .o = count-opens (a .m .now) (a .o) (omega arith) in
-    c .judge-end .ensures
-    ∙ sym (seek-handled (tablesIn (a .n) (a .o) (memOf (a .m .now))) (a .handle) _ (c .before .before .find-handle .ensures) (a .position) (omega arith))
+    let e : length (take (a .o) (memOf (a .m .now) .opens)) ≡ a .o = count-opens (a .m .now) (a .o) (omega arith) in (
+      c .judge-end .ensures .0
+          ∙ sym (seek-handled (tablesIn (a .n) (a .o) (memOf (a .m .now))) (a .handle) _ (c .before .before .find-handle .ensures) (a .position) (omega arith)),
+      c .judge-end .ensures .1,
+    )
 
 pub judge-seek-spec : {M : Type 1} → statement M
 judge-seek-spec = tie.close (tie.spec (λ c κs. search needs) returns (λ c κs. search needs) returns-2)

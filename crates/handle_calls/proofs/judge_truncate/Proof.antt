@@ -18,7 +18,7 @@ unfolding tablesIn
 returns-2 c =
     let find-handle = c .before .before .before .find-handle in
     let a = c .before .before .before .before .before .args in
-    c .judge-end .ensures
+    c .judge-end .ensures .0
     ∙ sym (truncate-handled (tablesIn (a .n) (a .o) (memOf (a .m .now))) (a .handle) _ (find-handle .ensures) (a .size) (sym (c .before .before .lacks-right .ensures) ∙ c .before .if1 .left))
 
 pub judge-truncate-spec : {M : Type 1} → statement M

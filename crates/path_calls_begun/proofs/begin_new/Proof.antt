@@ -9,10 +9,10 @@ use Rattle.tables.specs.RowsInUse.{count-nodes, node-front}
 use Rattle.rules.specs.Requests.{asked, creating, storeLength}
 use Rattle.path_calls.specs.Judged.{placeFor}
 use Rattle.call_reader.specs.Meaning.{madeBy}
+use Rattle.guard_state.specs.LoadedLaws.{counts-fit, tables-loaded, nodes-loaded}
 use Rattle.guard_state.specs.State.{stateOf, gatheredNone}
 use Rattle.guard_state.specs.Waits.{waits}
 use Rattle.path_calls_begun.specs.BegunLaws.{request-most}
-use Rattle.guard_state.specs.WaitLaws.{counts-fit, tables-loaded, nodes-loaded}
 use Rattle.path_calls_begun.specs.NewLaws.{new-kind, place-made, new-named, new-never, new-refused, new-sends}
 use lib.ListN.{drop}
 use borrow.Author.Needs.{needs}

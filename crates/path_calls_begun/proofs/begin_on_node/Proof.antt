@@ -8,10 +8,10 @@ use Rattle.tables.specs.RowsInUse.{count-nodes}
 use Rattle.rules.specs.Requests.{storeLength}
 use Rattle.path_calls.specs.Judged.{nodeFor}
 use Rattle.call_reader.specs.Meaning.{madeBy}
+use Rattle.guard_state.specs.LoadedLaws.{counts-fit, tables-loaded, nodes-loaded}
 use Rattle.guard_state.specs.State.{stateOf}
 use Rattle.path_calls_begun.specs.KindLaws.{on-node}
 use Rattle.path_calls_begun.specs.BegunLaws.{request-most, refused-sends, passes-node, node-sends}
-use Rattle.guard_state.specs.WaitLaws.{counts-fit, tables-loaded, nodes-loaded}
 use borrow.Author.Needs.{needs}
 use Rattle.path_calls_begun.proofs.begin_on_node.Statement.{statement}
 use Rattle.path_calls_begun.proofs.begin_on_node.Tie as tie

@@ -8,7 +8,7 @@ use Rattle.rules.specs.Rules.{replyAction}
 use Rattle.replies.specs.JudgedLaws.{closing-reason}
 use Rattle.guard_state.specs.State.{numbersOf, stateOf}
 use Rattle.guard_state.specs.Waits.{restingState}
-use Rattle.guard_state.specs.WaitLaws.{counts-fit}
+use Rattle.guard_state.specs.LoadedLaws.{counts-fit}
 use Rattle.replies_accepted.specs.AnsweredLaws.{answer-stops, answer-finishes, close-pending, close-ends}
 use borrow.Author.Needs.{needs}
 use Rattle.replies_accepted.proofs.accept_close.Statement.{statement}

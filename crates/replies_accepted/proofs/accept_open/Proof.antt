@@ -18,7 +18,7 @@ use Rattle.replies.specs.JudgedLaws.{whole-part}
 use Rattle.guard_state.specs.declared.Guard.{Guard}
 use Rattle.guard_state.specs.State.{numbersOf, stateOf}
 use Rattle.guard_state.specs.Waits.{ends, restingState}
-use Rattle.guard_state.specs.WaitLaws.{counts-fit, tables-loaded}
+use Rattle.guard_state.specs.LoadedLaws.{counts-fit, tables-loaded}
 use Rattle.replies_accepted.specs.AnsweredLaws.{answer-stops, answer-finishes, opening-long, open-pending, open-ends}
 use borrow.Author.Needs.{needs}
 use Rattle.replies_accepted.proofs.accept_open.Statement.{statement}

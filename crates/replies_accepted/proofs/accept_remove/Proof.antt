@@ -10,7 +10,7 @@ use Rattle.rules.specs.Rules.{replyAction}
 use Rattle.guard_state.specs.declared.Guard.{Guard}
 use Rattle.guard_state.specs.State.{numbersOf, stateOf}
 use Rattle.guard_state.specs.Waits.{restingState}
-use Rattle.guard_state.specs.WaitLaws.{counts-fit, tables-loaded}
+use Rattle.guard_state.specs.LoadedLaws.{counts-fit, tables-loaded}
 use Rattle.replies.specs.JudgedLaws.{removing-reason}
 use Rattle.replies_accepted.specs.AnsweredLaws.{answer-stops, answer-deletes, remove-pending, remove-ends}
 use borrow.Author.Needs.{needs}

@@ -1,0 +1,73 @@
+-- `handle_calls_begun::finish_seek` meets its contract. Assumes nothing.
+use native.Mathlib.Omega.{arith}
+use mathlib.Core.Path.{refl, ap, _∙_}
+use Rattle.filesystem.specs.Tables.{Tables}
+use Rattle.memory.specs.Layout.{memOf}
+use Rattle.tables.specs.View.{tablesIn}
+use Rattle.tables.specs.RowsInUse.{count-opens}
+use Rattle.rules.specs.Calls.{seek}
+use Rattle.handle_calls.specs.Judged.{handledFor}
+use Rattle.guard_state.specs.declared.Guard.{Guard}
+use Rattle.guard_state.specs.State.{stateOf}
+use Rattle.guard_state.specs.LoadedLaws.{counts-fit, tables-loaded}
+use Rattle.handle_calls_begun.specs.StartedLaws.{seek-there, handle-refused, seek-sends}
+use borrow.Author.Needs.{needs}
+use Rattle.handle_calls_begun.proofs.finish_seek.Statement.{statement}
+use Rattle.handle_calls_begun.proofs.finish_seek.Tie as tie
+
+judge-seek-requires : tie.Need-judge-seek-requires
+judge-seek-requires c κs =
+    let l = c .before in
+    let a = l .before .before .before .args in
+    let f = counts-fit (a .m .now) _ (l .load .ensures) in
+    (f .0, f .1, omega arith)
+
+cast-end-at : tie.Need-cast-end-at
+cast-end-at c =
+    let v = c .before .before in
+    let j = v .before .before in
+    let h = j .judge-seek .ensures .1 _ _ (v .w .given .1) in
+    omega arith
+
+end-at-requires : tie.Need-end-at-requires
+unfolding tablesIn
+end-at-requires c κs =
+    let v = c .before .before in
+    let j = v .before .before in
+    let l = j .before .before in
+    let a = l .before .before .before .args in
+    let f = counts-fit (a .m .now) _ (l .load .ensures) in
+    let n = count-opens (a .m .now) (l .load .result .opens) (f .1) in
+    let p = seek-there (tablesIn (l .load .result .nodes) (l .load .result .opens) (memOf (a .m .now))) (a .handle) _ _ _ (v .w .given .1) (a .position) (j .judge-seek .ensures .0) in
+    let o = ap (λ (g : Guard). g .opens) (l .load .ensures) in
+    (omega (arith, n, p, o), omega (arith, n, p, f .1), omega arith)
+
+returns : tie.Need-returns
+returns c =
+    let s = c .before .before in
+    let v = s .before .before .before in
+    let j = v .before .before in
+    let l = j .before .before in
+    let a = l .before .before .before .args in (
+      λ q x.
+          seek-sends q (stateOf q (a .m .now)) (a .handle) _ _ _ (a .position) _ x
+          (j .judge-seek .ensures .0 ∙ ap (λ (t : Tables). handledFor t (a .handle) (seek (a .handle) (a .position))) (tables-loaded (a .m .now) _ (l .load .ensures) q)) (v .w .given .1)
+          (s .end-at .ensures .0 q),
+      omega arith,
+    )
+
+returns-2 : tie.Need-returns-2
+returns-2 c =
+    let v = c .before in
+    let j = v .before .before in
+    let l = j .before .before in
+    let a = l .before .before .before .args in (
+      λ q x.
+          handle-refused q (stateOf q (a .m .now)) (a .handle) _ (seek (a .handle) (a .position)) _ (a .m .now) x
+          (j .judge-seek .ensures .0 ∙ ap (λ (t : Tables). handledFor t (a .handle) (seek (a .handle) (a .position))) (tables-loaded (a .m .now) _ (l .load .ensures) q)) (v .w2 .given .1) refl,
+      refl,
+    )
+
+pub finish-seek-spec : {M : Type 1} → statement M
+finish-seek-spec =
+    tie.close (tie.spec (λ c κs. search needs) judge-seek-requires (λ c. search needs) cast-end-at end-at-requires (λ c. search needs) (λ c. search needs) returns (λ c. search needs) returns-2)

@@ -1,0 +1,71 @@
+// Calls by handle that need no page: a close begun, its request written over the front of the request buffer; a seek done at once.
+ghost use mathlib.Core.Path.{_≡_};
+ghost use mathlib.Core.List.{List};
+ghost use Prim.Native.Nat.{ℕ, _<_, _≤_};
+ghost use lib.ListN.{length};
+ghost use Rattle.filesystem.specs.Tables.{openAt};
+ghost use Rattle.memory.specs.Layout.{memOf, memorySize, openRows};
+ghost use Rattle.rules.specs.Calls.{close, seek};
+ghost use Rattle.rules.specs.Requests.{asked, closing, closeRequest, storeLength};
+ghost use Rattle.rules.specs.Skeleton.{Config, atFront};
+ghost use Rattle.guard_state.specs.State.{numbersOf, stateOf, gatheredNone};
+ghost use Rattle.guard_state.specs.Waits.{waits};
+ghost use Rattle.outcomes.specs.declared.Outcome.the-variants.{Ask};
+ghost use Rattle.outcomes.specs.Sent.{Sends};
+ghost use Rattle.handle_calls_begun.specs.Started.{startedBy, cursorMoved};
+
+// A close that passed: it waits, and its request goes out.
+fn send_close(m: &mut [u8], opened: usize, request: &mut [u8]) -> outcomes::Outcome
+    requires { ⌜ (opened < openRows) × (memorySize ≤ length (now m)) × (storeLength ≤ length (now request)) ⌝ }
+    ensures { λ _. ⌜ ((c : Config) → stateOf c (now (m .exit)) ≡ waits c (stateOf c (now (m .entry))) (asked (closing opened)) gatheredNone) ⌝ }
+    ensures { λ _. ⌜ length (now (m .exit)) ≡ length (now (m .entry)) ⌝ }
+    ensures { λ r. ⌜ (now (request .exit) ≡ atFront (closeRequest (openAt (memOf (now (m .entry)) .opens) opened .descriptor)) (now (request .entry))) × (r ≡ Ask (length (closeRequest (openAt (memOf (now (m .entry)) .opens) opened .descriptor)))) ⌝ }
+{
+    let d = memory::open_descriptor(m, opened);
+    guard_state::wait_close(m, opened);
+    let l = requests::write_close(request, d);
+    outcomes::Outcome::Ask(l)
+}
+
+pub fn begin_close(m: &mut [u8], handle: u64, request: &mut [u8]) -> outcomes::Outcome
+    requires { ⌜ (memorySize ≤ length (now m)) × (storeLength ≤ length (now request)) ⌝ }
+    ensures { λ r. ⌜ ((c : Config) → Sends c (startedBy c (stateOf c (now (m .entry))) (close handle)) r (now (m .exit)) (now (request .entry)) (now (request .exit))) ⌝ }
+    ensures { λ _. ⌜ length (now (m .exit)) ≡ length (now (m .entry)) ⌝ }
+{
+    let g = guard_state::Guard::load(m);
+    let w = handle_calls::judge_close(m, g.nodes, g.opens, handle);
+    match w {
+        handle_calls::Handled::Open { opened, node } => send_close(m, opened, request),
+        handle_calls::Handled::Refused(b) => outcomes::Outcome::Refused(b),
+    }
+}
+
+// The cursor of an open file is set, and the call is done.
+fn end_at(m: &mut [u8], opened: usize, position: u32)
+    requires { ⌜ (opened < numbersOf (memOf (now m) .head) .opens) × (opened < openRows) × (memorySize ≤ length (now m)) ⌝ }
+    ensures { λ _. ⌜ ((c : Config) → stateOf c (now (m .exit)) ≡ cursorMoved c (stateOf c (now (m .entry))) opened position) ⌝ }
+    ensures { λ _. ⌜ length (now (m .exit)) ≡ length (now (m .entry)) ⌝ }
+{
+    memory::set_cursor(m, opened, position);
+    guard_state::finish(m);
+}
+
+// A seek asks nothing of the host: no request buffer is touched.
+pub fn finish_seek(m: &mut [u8], handle: u64, position: u64) -> outcomes::Outcome
+    requires { ⌜ memorySize ≤ length (now m) ⌝ }
+    ensures { λ r. ⌜ ((c : Config) (q : List ℕ) → Sends c (startedBy c (stateOf c (now (m .entry))) (seek handle position)) r (now (m .exit)) q q) ⌝ }
+    ensures { λ _. ⌜ length (now (m .exit)) ≡ length (now (m .entry)) ⌝ }
+{
+    let g = guard_state::Guard::load(m);
+    let w = handle_calls::judge_seek(m, g.nodes, g.opens, handle, position);
+    match w {
+        handle_calls::Handled::Open { opened, node } => {
+            end_at(m, opened, position as u32);
+            outcomes::Outcome::Done {
+                number: position,
+                length: 0,
+            }
+        }
+        handle_calls::Handled::Refused(b) => outcomes::Outcome::Refused(b),
+    }
+}
