@@ -3,13 +3,13 @@
 ghost use mathlib.Core.Path.{_≡_};
 ghost use Prim.Native.Nat.{_+_, _%_, _<_, _≤_};
 ghost use lib.ListN.{length, getD, set};
-ghost use Rattle.filesystem.specs.Tables.{NODES, NAME-BYTES};
+ghost use Rattle.filesystem.specs.Tables.{NODES, NAME-BYTES, FILE-BYTES, DATA-BYTES};
 ghost use Rattle.memory.specs.Layout.{memOf, memorySize, headNumbers, openRows, withHead};
-ghost use Rattle.rules.specs.Requests.{asked, creating, opening, closing, removing, changing, listing, stating};
+ghost use Rattle.rules.specs.Requests.{asked, creating, opening, closing, removing, changing, listing, stating, reading};
 ghost use Rattle.rules.specs.Skeleton.{Config};
 ghost use Rattle.machine.specs.Machine.{fresh, guard as digestStore};
 ghost use Rattle.tables.specs.View.{viewOf};
-ghost use Rattle.guard_state.specs.State.{numbersOf, stateOf, clearedHead, gatheredNone};
+ghost use Rattle.guard_state.specs.State.{numbersOf, stateOf, clearedHead, gatheredNone, filePages};
 ghost use Rattle.guard_state.specs.Waits.{waits, ends, stops, restingState};
 
 pub mod calls;
@@ -231,6 +231,28 @@ pub fn wait_stat(m: &mut [u8], node: usize)
     clear(m);
     memory::put_head(m, header::CALL, calls::STATING);
     memory::put_head(m, header::NODE, node as u64);
+}
+
+// A read waits for its first page: nothing is gathered yet.
+pub fn wait_read(
+    m: &mut [u8],
+    node: usize,
+    opened: usize,
+    position: usize,
+    count: usize,
+    page: usize,
+)
+    requires { ⌜ (node < NODES) × (opened < openRows) × (position ≤ FILE-BYTES) × (count ≤ DATA-BYTES) × (page ≤ filePages) × (memorySize ≤ length (now m)) ⌝ }
+    ensures { λ _. ⌜ ((c : Config) → stateOf c (now (m .exit)) ≡ waits c (stateOf c (now (m .entry))) (reading node opened position count page) gatheredNone) ⌝ }
+    ensures { λ _. ⌜ length (now (m .exit)) ≡ length (now (m .entry)) ⌝ }
+{
+    clear(m);
+    memory::put_head(m, header::CALL, calls::READING);
+    memory::put_head(m, header::NODE, node as u64);
+    memory::put_head(m, header::OPENED, opened as u64);
+    memory::put_head(m, header::POSITION, position as u64);
+    memory::put_head(m, header::COUNT, count as u64);
+    memory::put_head(m, header::PAGE, page as u64);
 }
 
 // ---- a call ends
