@@ -94,7 +94,7 @@ sized-within m n k h l = go (leb n k) refl
     go true e = absurd (omega (arith, size-past (take n (memOf m .nodes)) k (omega (arith, count-nodes m n h, leb-true n k e)), l))
     go false e = leb-false n k e
 
-fetch-most : (d i : ℕ) → length (fetchRequest d i) ≤ storeLength
+pub fetch-most : (d i : ℕ) → length (fetchRequest d i) ≤ storeLength
 unfolding fetchRequest storeLength encode
 fetch-most d i = omega arith
 

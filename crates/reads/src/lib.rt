@@ -1,16 +1,17 @@
 // A read by handle begun: judged, then done at once or waiting for its first page, its request written over the front of the request buffer.
 ghost use mathlib.Core.Path.{_≡_};
-ghost use Prim.Native.Nat.{_<_, _≤_};
-ghost use lib.ListN.{length};
-ghost use Rattle.filesystem.specs.Tables.{NODES, FILE-BYTES, DATA-BYTES, nodeAt, openAt};
+ghost use mathlib.Core.List.{List};
+ghost use Prim.Native.Nat.{ℕ, _+_, _*_, _<_, _≤_};
+ghost use lib.ListN.{length, take};
+ghost use Rattle.filesystem.specs.Tables.{NODES, PAGE-BYTES, FILE-BYTES, DATA-BYTES, nodeAt, openAt};
 ghost use Rattle.memory.specs.Layout.{memOf, memorySize, openRows};
 ghost use Rattle.rules.specs.Calls.{read};
-ghost use Rattle.rules.specs.Pages.{pageAt};
+ghost use Rattle.rules.specs.Pages.{pageAt, pagePart};
 ghost use Rattle.rules.specs.Requests.{reading, fetchRequest, storeLength};
 ghost use Rattle.rules.specs.Skeleton.{Config, atFront};
 ghost use Rattle.rules.specs.Rules.{filePlace};
-ghost use Rattle.machine.specs.Machine.{apply, guard as digestStore};
-ghost use Rattle.guard_state.specs.State.{numbersOf, stateOf, gatheredNone};
+ghost use Rattle.machine.specs.Machine.{apply, readOn, guard as digestStore};
+ghost use Rattle.guard_state.specs.State.{numbersOf, stateOf, gatheredNone, gatheredRead, filePages};
 ghost use Rattle.guard_state.specs.Waits.{waits};
 ghost use Rattle.outcomes.specs.declared.Outcome.the-variants.{Ask};
 ghost use Rattle.outcomes.specs.Sent.{Sends};
@@ -79,4 +80,29 @@ pub fn begin_read(m: &mut [u8], handle: u64, count: usize, request: &mut [u8]) -
         handle_calls::Handled::Open { opened, node } => read_at(m, n, opened, node, count, request),
         handle_calls::Handled::Refused(b) => outcomes::Outcome::Refused(b),
     }
+}
+
+// ---- a page came
+
+// A page came and the read is not done: its bytes are staged behind those before, and the read waits for the next page.
+pub fn next_page(
+    m: &mut [u8],
+    node: usize,
+    opened: usize,
+    position: usize,
+    count: usize,
+    page: usize,
+    bytes: usize,
+    more: &[u8],
+    request: &mut [u8],
+) -> outcomes::Outcome
+    requires { ⌜ (opened < numbersOf (memOf (now m) .head) .opens) × (page * PAGE-BYTES + PAGE-BYTES < position + count) × (bytes + length (now more) ≤ DATA-BYTES) × (node < NODES) × (opened < openRows) × (position ≤ FILE-BYTES) × (count ≤ DATA-BYTES) × (page < filePages) × (memorySize ≤ length (now m)) × (storeLength ≤ length (now request)) ⌝ }
+    ensures { λ r. ⌜ ((c : Config) (x : List ℕ) → now (more .entry) ≡ pagePart x position count page → stateOf c (now (m .entry)) .progress ≡ gatheredRead (take bytes (memOf (now (m .entry)) .staged)) → Sends c (readOn c (digestStore c) (stateOf c (now (m .entry))) node opened position count page (digestStore c .gather (stateOf c (now (m .entry)) .progress) position count page x)) r (now (m .exit)) (now (request .entry)) (now (request .exit))) ⌝ }
+    ensures { λ _. ⌜ length (now (m .exit)) ≡ length (now (m .entry)) ⌝ }
+{
+    let descriptor = memory::open_descriptor(m, opened);
+    let next = page + 1;
+    guard_state::wait_page(m, node, opened, position, count, next, bytes, more);
+    let l = requests::write_fetch(request, descriptor, next as u32);
+    outcomes::Outcome::Ask(l)
 }
