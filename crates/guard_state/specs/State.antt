@@ -68,8 +68,11 @@ pendingIn g s = getD (pendings g s) (g .call) idle
 abbrev pub gatheredNone : Gathered
 gatheredNone = record { bytes = []; digests = [] }
 
+abbrev pub gatheredRead : List ℕ → Gathered
+gatheredRead b = record { bytes = b; digests = [] }
+
 abbrev pub gatheredBytes : Guard → List ℕ → Gathered
-gatheredBytes g s = record { bytes = stagedBytes g s; digests = [] }
+gatheredBytes g s = gatheredRead (stagedBytes g s)
 
 abbrev pub gatheredDigests : Guard → List ℕ → Gathered
 gatheredDigests g s = record { bytes = []; digests = stagedDigests (g .digests) s }

@@ -1,15 +1,16 @@
 // The guard's numbers in the memory's header, the memory as the machine's state, and the pending call: one begins to wait for a reply, is
 // done, or the guard stops. Contracts are over the machine's states (specs/State.antt).
 ghost use mathlib.Core.Path.{_≡_};
+ghost use mathlib.Core.List.{_++_};
 ghost use Prim.Native.Nat.{_+_, _%_, _<_, _≤_};
-ghost use lib.ListN.{length, getD, set};
-ghost use Rattle.filesystem.specs.Tables.{NODES, NAME-BYTES};
+ghost use lib.ListN.{length, getD, take, set};
+ghost use Rattle.filesystem.specs.Tables.{NODES, NAME-BYTES, FILE-BYTES, DATA-BYTES};
 ghost use Rattle.memory.specs.Layout.{memOf, memorySize, headNumbers, openRows, withHead};
-ghost use Rattle.rules.specs.Requests.{asked, creating, opening, closing, removing, changing, listing, stating};
+ghost use Rattle.rules.specs.Requests.{asked, creating, opening, closing, removing, changing, listing, stating, reading};
 ghost use Rattle.rules.specs.Skeleton.{Config};
 ghost use Rattle.machine.specs.Machine.{fresh, guard as digestStore};
 ghost use Rattle.tables.specs.View.{viewOf};
-ghost use Rattle.guard_state.specs.State.{numbersOf, stateOf, clearedHead, gatheredNone};
+ghost use Rattle.guard_state.specs.State.{numbersOf, stateOf, clearedHead, gatheredNone, gatheredRead, filePages};
 ghost use Rattle.guard_state.specs.Waits.{waits, ends, stops, restingState};
 
 pub mod calls;
@@ -231,6 +232,58 @@ pub fn wait_stat(m: &mut [u8], node: usize)
     clear(m);
     memory::put_head(m, header::CALL, calls::STATING);
     memory::put_head(m, header::NODE, node as u64);
+}
+
+// The numbers of a read that waits for a page.
+fn put_read(m: &mut [u8], node: usize, opened: usize, position: usize, count: usize, page: usize)
+    requires { ⌜ memorySize ≤ length (now m) ⌝ }
+    ensures { λ _. ⌜ memOf (now (m .exit)) ≡ withHead (set (set (set (set (set (set (clearedHead (memOf (now (m .entry)) .head)) 3 8) 4 node) 5 opened) 10 position) 11 count) 13 page) (memOf (now (m .entry))) ⌝ }
+    ensures { λ _. ⌜ length (now (m .exit)) ≡ length (now (m .entry)) ⌝ }
+{
+    clear(m);
+    memory::put_head(m, header::CALL, calls::READING);
+    memory::put_head(m, header::NODE, node as u64);
+    memory::put_head(m, header::OPENED, opened as u64);
+    memory::put_head(m, header::POSITION, position as u64);
+    memory::put_head(m, header::COUNT, count as u64);
+    memory::put_head(m, header::PAGE, page as u64);
+}
+
+// A read waits for its first page: nothing is gathered yet.
+pub fn wait_read(
+    m: &mut [u8],
+    node: usize,
+    opened: usize,
+    position: usize,
+    count: usize,
+    page: usize,
+)
+    requires { ⌜ (node < NODES) × (opened < openRows) × (position ≤ FILE-BYTES) × (count ≤ DATA-BYTES) × (page ≤ filePages) × (memorySize ≤ length (now m)) ⌝ }
+    ensures { λ _. ⌜ ((c : Config) → stateOf c (now (m .exit)) ≡ waits c (stateOf c (now (m .entry))) (reading node opened position count page) gatheredNone) ⌝ }
+    ensures { λ _. ⌜ length (now (m .exit)) ≡ length (now (m .entry)) ⌝ }
+{
+    put_read(m, node, opened, position, count, page);
+}
+
+// A read waits for a further page: behind the first bytes that are staged, those of the page that came.
+pub fn wait_page(
+    m: &mut [u8],
+    node: usize,
+    opened: usize,
+    position: usize,
+    count: usize,
+    page: usize,
+    bytes: usize,
+    more: &[u8],
+)
+    requires { ⌜ (node < NODES) × (opened < openRows) × (position ≤ FILE-BYTES) × (count ≤ DATA-BYTES) × (page ≤ filePages) × (bytes + length (now more) ≤ DATA-BYTES) × (memorySize ≤ length (now m)) ⌝ }
+    ensures { λ _. ⌜ ((c : Config) → stateOf c (now (m .exit)) ≡ waits c (stateOf c (now (m .entry))) (reading node opened position count page) (gatheredRead (take bytes (memOf (now (m .entry)) .staged) ++ now (more .entry)))) ⌝ }
+    ensures { λ _. ⌜ length (now (m .exit)) ≡ length (now (m .entry)) ⌝ }
+{
+    let l = bytes + more.len();
+    memory::stage(m, bytes, more);
+    put_read(m, node, opened, position, count, page);
+    memory::put_head(m, header::BYTES, l as u64);
 }
 
 // ---- a call ends

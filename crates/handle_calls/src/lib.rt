@@ -55,7 +55,7 @@ pub fn judge_read(m: &[u8], n: usize, o: usize, handle: u64) -> Handled
 }
 
 // The size of the node in place k; past the nodes there is none.
-fn size_at(m: &[u8], n: usize, k: usize) -> u32
+pub fn size_at(m: &[u8], n: usize, k: usize) -> u32
     requires { ⌜ (n ≤ NODES) × (memorySize ≤ length (now m)) ⌝ }
     ensures { λ r. ⌜ r ≡ nodeAt (take n (memOf (now (m .entry)) .nodes)) k .size ⌝ }
 {

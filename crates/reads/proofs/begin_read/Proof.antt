@@ -1,0 +1,74 @@
+-- `reads::begin_read` meets its contract. Assumes nothing.
+use native.Mathlib.Omega.{arith}
+use mathlib.Core.Path.{refl, ap, subst, _∙_}
+use Prim.Native.Nat.{ℕ, _≤_}
+use Rattle.filesystem.specs.Tables.{FILE-BYTES, Tables, nodeAt}
+use Rattle.memory.specs.Layout.{memOf}
+use Rattle.tables.specs.View.{tablesIn}
+use Rattle.tables.specs.RowsInUse.{count-opens}
+use Rattle.rules.specs.Calls.{read}
+use Rattle.handle_calls.specs.Judged.{handledFor}
+use Rattle.guard_state.specs.declared.Guard.{Guard}
+use Rattle.guard_state.specs.State.{stateOf}
+use Rattle.reads.specs.ReadLaws.{nodes-fit, opens-fit, tables-loaded, read-place, read-file, refused-sends, read-sends}
+use borrow.Author.Needs.{needs}
+use Rattle.reads.proofs.begin_read.Statement.{statement}
+use Rattle.reads.proofs.begin_read.Tie as tie
+
+judge-read-requires : tie.Need-judge-read-requires
+judge-read-requires c κs =
+    let l = c .before in
+    let a = l .before .before .before .before .args in
+    (nodes-fit (a .m .now) _ (l .load .ensures), opens-fit (a .m .now) _ (l .load .ensures), omega arith)
+
+read-at-requires : tie.Need-read-at-requires
+unfolding tablesIn
+read-at-requires c κs =
+    let v = c .before .before .before in
+    let j = v .before .before in
+    let l = j .before .before in
+    let a = l .before .before .before .before .args in
+    let o = opens-fit (a .m .now) _ (l .load .ensures) in
+    let p = read-place (tablesIn (l .load .result .nodes) (l .load .result .opens) (memOf (a .m .now))) (a .handle) (a .count) _ (j .judge-read .ensures (a .count)) _ _ (v .j .given .1) in
+    let n = count-opens (a .m .now) (l .load .result .opens) o in (
+      ap (λ (x : Guard). x .nodes) (l .load .ensures),
+      omega (arith, p, n, ap (λ (x : Guard). x .opens) (l .load .ensures)),
+      nodes-fit (a .m .now) _ (l .load .ensures),
+      omega (arith, p, n, o),
+      omega arith,
+      omega arith,
+      omega arith,
+    )
+
+returns : tie.Need-returns
+returns c =
+    let s = c .before .before .before .before in
+    let v = s .before .before .before .before in
+    let j = v .before .before in
+    let l = j .before .before in
+    let a = l .before .before .before .before .args in (
+      λ q h.
+          let t = stateOf q (a .m .now) .skeleton .tables in
+          let e = j .judge-read .ensures (a .count) ∙ ap (λ (x : Tables). handledFor x (a .handle) (read (a .handle) (a .count))) (tables-loaded (a .m .now) _ (l .load .ensures) q) in
+          read-sends q (stateOf q (a .m .now)) (a .handle) (a .count) _ e _ _ _ (a .request .now) _ _ (v .j .given .1)
+          (s .read-at .ensures .0 q (subst (λ (k : ℕ). nodeAt (t .nodes) k .size ≤ FILE-BYTES) (read-file t (a .handle) (a .count) _ e _ _ (v .j .given .1)) h)),
+      omega arith,
+    )
+
+returns-2 : tie.Need-returns-2
+returns-2 c =
+    let v = c .before in
+    let j = v .before .before in
+    let l = j .before .before in
+    let a = l .before .before .before .before .args in (
+      λ q h.
+          refused-sends q (stateOf q (a .m .now)) (a .handle) (a .count) _
+          (j .judge-read .ensures (a .count) ∙ ap (λ (x : Tables). handledFor x (a .handle) (read (a .handle) (a .count))) (tables-loaded (a .m .now) _ (l .load .ensures) q))
+          _ (a .m .now) (a .request .now) (v .j2 .given .1) refl,
+      refl,
+    )
+
+pub begin-read-spec : {M : Type 1} → statement M
+begin-read-spec =
+    tie.close
+    (tie.spec (λ c κs. search needs) judge-read-requires (λ c. search needs) read-at-requires (λ c. search needs) (λ c. search needs) (λ c. search needs) returns (λ c. search needs) returns-2)

@@ -1,0 +1,30 @@
+-- A read by handle as it begins: judged on the state, done at once where it has no bytes, else its first page asked for.
+-- Assumes nothing.
+use mathlib.Core.List.{[]}
+use Prim.Native.Nat.{ℕ, _-_, min}
+use lib.Dec.{eqb}
+use Rattle.lists.specs.Pick.{pick}
+use Rattle.lists.specs.Checks.{decide}
+use Rattle.filesystem.specs.Tables.{Tables, nodeAt, openAt}
+use Rattle.rules.specs.Calls.{Call}
+use Rattle.rules.specs.Pages.{pageAt}
+use Rattle.rules.specs.Requests.{reading, fetchRequest}
+use Rattle.rules.specs.Skeleton.{Config}
+use Rattle.rules.specs.Rules.{Move, refuse, send, finish, callChecks, callAction}
+use Rattle.machine.specs.Machine.{State, Result, apply, guard as digestStore}
+
+-- a call on the machine's state
+unfoldable pub startedBy : (c : Config) → State (digestStore c) → Call → Result (digestStore c)
+startedBy c s q =
+    apply c (digestStore c) s (decide refuse (callChecks (s .skeleton .tables) q) (callAction (s .skeleton .tables) (c .width) q))
+
+-- what a read of n bytes does, of the open file in place o and the node in place k
+unfoldable pub readOf : Tables → (o k n : ℕ) → Move
+readOf t o k n =
+    pick (eqb n 0) (finish t 0 [])
+    (send (reading k o (openAt (t .opens) o .cursor) n (pageAt (openAt (t .opens) o .cursor)))
+    (fetchRequest (openAt (t .opens) o .descriptor) (pageAt (openAt (t .opens) o .cursor))))
+
+-- 'the smaller of count and what remains'
+unfoldable pub leftOf : Tables → (o k count : ℕ) → ℕ
+leftOf t o k count = min count (nodeAt (t .nodes) k .size - openAt (t .opens) o .cursor)

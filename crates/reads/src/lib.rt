@@ -1,0 +1,108 @@
+// A read by handle begun: judged, then done at once or waiting for its first page, its request written over the front of the request buffer.
+ghost use mathlib.Core.Path.{_≡_};
+ghost use mathlib.Core.List.{List};
+ghost use Prim.Native.Nat.{ℕ, _+_, _*_, _<_, _≤_};
+ghost use lib.ListN.{length, take};
+ghost use Rattle.filesystem.specs.Tables.{NODES, PAGE-BYTES, FILE-BYTES, DATA-BYTES, nodeAt, openAt};
+ghost use Rattle.memory.specs.Layout.{memOf, memorySize, openRows};
+ghost use Rattle.rules.specs.Calls.{read};
+ghost use Rattle.rules.specs.Pages.{pageAt, pagePart};
+ghost use Rattle.rules.specs.Requests.{reading, fetchRequest, storeLength};
+ghost use Rattle.rules.specs.Skeleton.{Config, atFront};
+ghost use Rattle.rules.specs.Rules.{filePlace};
+ghost use Rattle.machine.specs.Machine.{apply, readOn, guard as digestStore};
+ghost use Rattle.guard_state.specs.State.{numbersOf, stateOf, gatheredNone, gatheredRead, filePages};
+ghost use Rattle.guard_state.specs.Waits.{waits};
+ghost use Rattle.outcomes.specs.declared.Outcome.the-variants.{Ask};
+ghost use Rattle.outcomes.specs.Sent.{Sends};
+ghost use Rattle.reads.specs.Begun.{startedBy, readOf, leftOf};
+
+// The read waits for the page that its position lies in, and asks for it.
+fn fetch(
+    m: &mut [u8],
+    node: usize,
+    opened: usize,
+    position: usize,
+    count: usize,
+    request: &mut [u8],
+) -> outcomes::Outcome
+    requires { ⌜ (node < NODES) × (opened < openRows) × (position ≤ FILE-BYTES) × (count ≤ DATA-BYTES) × (memorySize ≤ length (now m)) × (storeLength ≤ length (now request)) ⌝ }
+    ensures { λ _. ⌜ ((c : Config) → stateOf c (now (m .exit)) ≡ waits c (stateOf c (now (m .entry))) (reading node opened position count (pageAt position)) gatheredNone) ⌝ }
+    ensures { λ _. ⌜ length (now (m .exit)) ≡ length (now (m .entry)) ⌝ }
+    ensures { λ r. ⌜ (now (request .exit) ≡ atFront (fetchRequest (openAt (memOf (now (m .entry)) .opens) opened .descriptor) (pageAt position)) (now (request .entry))) × (r ≡ Ask (length (fetchRequest (openAt (memOf (now (m .entry)) .opens) opened .descriptor) (pageAt position)))) ⌝ }
+{
+    let descriptor = memory::open_descriptor(m, opened);
+    let page = position / limits::PAGE_BYTES;
+    guard_state::wait_read(m, node, opened, position, count, page);
+    let l = requests::write_fetch(request, descriptor, page as u32);
+    outcomes::Outcome::Ask(l)
+}
+
+// A read that passed, by the places of its open file and node. Of no bytes it asks for nothing; no valid table has a longer file.
+fn read_at(
+    m: &mut [u8],
+    n: usize,
+    opened: usize,
+    node: usize,
+    count: usize,
+    request: &mut [u8],
+) -> outcomes::Outcome
+    requires { ⌜ (n ≡ numbersOf (memOf (now m) .head) .nodes) × (opened < numbersOf (memOf (now m) .head) .opens) × (n ≤ NODES) × (opened < openRows) × (count ≤ DATA-BYTES) × (memorySize ≤ length (now m)) × (storeLength ≤ length (now request)) ⌝ }
+    ensures { λ r. ⌜ ((c : Config) → nodeAt (stateOf c (now (m .entry)) .skeleton .tables .nodes) node .size ≤ FILE-BYTES → Sends c (apply c (digestStore c) (stateOf c (now (m .entry))) (readOf (stateOf c (now (m .entry)) .skeleton .tables) opened node (leftOf (stateOf c (now (m .entry)) .skeleton .tables) opened node count))) r (now (m .exit)) (now (request .entry)) (now (request .exit))) ⌝ }
+    ensures { λ _. ⌜ length (now (m .exit)) ≡ length (now (m .entry)) ⌝ }
+{
+    let cursor = memory::open_cursor(m, opened) as usize;
+    let size = handle_calls::size_at(m, n, node) as usize;
+    let left = numbers::smaller(count, numbers::excess(size, cursor));
+    if left == 0 {
+        guard_state::finish(m);
+        return outcomes::Outcome::Done {
+            number: 0,
+            length: 0,
+        };
+    }
+    if limits::FILE_BYTES < size {
+        return outcomes::Outcome::Refused(27);
+    }
+    fetch(m, node, opened, cursor, left, request)
+}
+
+// read: at most count bytes from the cursor on, of the open file with this handle.
+pub fn begin_read(m: &mut [u8], handle: u64, count: usize, request: &mut [u8]) -> outcomes::Outcome
+    requires { ⌜ (count ≤ DATA-BYTES) × (memorySize ≤ length (now m)) × (storeLength ≤ length (now request)) ⌝ }
+    ensures { λ r. ⌜ ((c : Config) → nodeAt (stateOf c (now (m .entry)) .skeleton .tables .nodes) (filePlace (stateOf c (now (m .entry)) .skeleton .tables) handle) .size ≤ FILE-BYTES → Sends c (startedBy c (stateOf c (now (m .entry))) (read handle count)) r (now (m .exit)) (now (request .entry)) (now (request .exit))) ⌝ }
+    ensures { λ _. ⌜ length (now (m .exit)) ≡ length (now (m .entry)) ⌝ }
+{
+    let g = guard_state::Guard::load(m);
+    let n = g.nodes;
+    let j = handle_calls::judge_read(m, n, g.opens, handle);
+    match j {
+        handle_calls::Handled::Open { opened, node } => read_at(m, n, opened, node, count, request),
+        handle_calls::Handled::Refused(b) => outcomes::Outcome::Refused(b),
+    }
+}
+
+// ---- a page came
+
+// A page came and the read is not done: its bytes are staged behind those before, and the read waits for the next page.
+pub fn next_page(
+    m: &mut [u8],
+    node: usize,
+    opened: usize,
+    position: usize,
+    count: usize,
+    page: usize,
+    bytes: usize,
+    more: &[u8],
+    request: &mut [u8],
+) -> outcomes::Outcome
+    requires { ⌜ (opened < numbersOf (memOf (now m) .head) .opens) × (page * PAGE-BYTES + PAGE-BYTES < position + count) × (bytes + length (now more) ≤ DATA-BYTES) × (node < NODES) × (opened < openRows) × (position ≤ FILE-BYTES) × (count ≤ DATA-BYTES) × (page < filePages) × (memorySize ≤ length (now m)) × (storeLength ≤ length (now request)) ⌝ }
+    ensures { λ r. ⌜ ((c : Config) (x : List ℕ) → now (more .entry) ≡ pagePart x position count page → stateOf c (now (m .entry)) .progress ≡ gatheredRead (take bytes (memOf (now (m .entry)) .staged)) → Sends c (readOn c (digestStore c) (stateOf c (now (m .entry))) node opened position count page (digestStore c .gather (stateOf c (now (m .entry)) .progress) position count page x)) r (now (m .exit)) (now (request .entry)) (now (request .exit))) ⌝ }
+    ensures { λ _. ⌜ length (now (m .exit)) ≡ length (now (m .entry)) ⌝ }
+{
+    let descriptor = memory::open_descriptor(m, opened);
+    let next = page + 1;
+    guard_state::wait_page(m, node, opened, position, count, next, bytes, more);
+    let l = requests::write_fetch(request, descriptor, next as u32);
+    outcomes::Outcome::Ask(l)
+}
