@@ -27,7 +27,8 @@ use Rattle.handle_calls.specs.Judged.{handledFor}
 use Rattle.outcomes.specs.declared.Outcome.{Outcome}
 use Rattle.outcomes.specs.declared.Outcome.the-variants.{Done, Ask, Refused}
 use Rattle.outcomes.specs.Sent.{Sends, refusal-sends, finish-sends, request-sends}
-use Rattle.handle_calls_begun.specs.Started.{startedBy, cursorMoved}
+use Rattle.outcomes.specs.Started.{startedBy}
+use Rattle.handle_calls_begun.specs.Moved.{cursorMoved}
 
 -- the move, by the answer
 unfoldable moveOf : Move → Handled → Move

@@ -12,7 +12,8 @@ ghost use Rattle.guard_state.specs.State.{numbersOf, stateOf, gatheredNone};
 ghost use Rattle.guard_state.specs.Waits.{waits};
 ghost use Rattle.outcomes.specs.declared.Outcome.the-variants.{Ask};
 ghost use Rattle.outcomes.specs.Sent.{Sends};
-ghost use Rattle.handle_calls_begun.specs.Started.{startedBy, cursorMoved};
+ghost use Rattle.outcomes.specs.Started.{startedBy};
+ghost use Rattle.handle_calls_begun.specs.Moved.{cursorMoved};
 
 // A close that passed: it waits, and its request goes out.
 fn send_close(m: &mut [u8], opened: usize, request: &mut [u8]) -> outcomes::Outcome

@@ -4,19 +4,10 @@ use mathlib.Core.List.{[]}
 use Prim.Native.Nat.{ℕ, _-_, min}
 use lib.Dec.{eqb}
 use Rattle.lists.specs.Pick.{pick}
-use Rattle.lists.specs.Checks.{decide}
 use Rattle.filesystem.specs.Tables.{Tables, nodeAt, openAt}
-use Rattle.rules.specs.Calls.{Call}
 use Rattle.rules.specs.Pages.{pageAt}
 use Rattle.rules.specs.Requests.{reading, fetchRequest}
-use Rattle.rules.specs.Skeleton.{Config}
-use Rattle.rules.specs.Rules.{Move, refuse, send, finish, callChecks, callAction}
-use Rattle.machine.specs.Machine.{State, Result, apply, guard as digestStore}
-
--- a call on the machine's state
-unfoldable pub startedBy : (c : Config) → State (digestStore c) → Call → Result (digestStore c)
-startedBy c s q =
-    apply c (digestStore c) s (decide refuse (callChecks (s .skeleton .tables) q) (callAction (s .skeleton .tables) (c .width) q))
+use Rattle.rules.specs.Rules.{Move, send, finish}
 
 -- what a read of n bytes does, of the open file in place o and the node in place k
 unfoldable pub readOf : Tables → (o k n : ℕ) → Move

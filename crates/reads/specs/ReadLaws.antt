@@ -33,7 +33,8 @@ use Rattle.guard_state.specs.Waits.{waits, ends}
 use Rattle.outcomes.specs.declared.Outcome.{Outcome}
 use Rattle.outcomes.specs.declared.Outcome.the-variants.{Done, Ask, Refused}
 use Rattle.outcomes.specs.Sent.{Sends, refusal-sends, finish-sends, request-sends}
-use Rattle.reads.specs.Begun.{startedBy, readOf, leftOf}
+use Rattle.outcomes.specs.Started.{startedBy}
+use Rattle.reads.specs.Begun.{readOf, leftOf}
 
 -- what a judged handle says of the move v: a refusal, or the move a on these places, its checks passed
 record Says (cs : List Check) (o k : ℕ) (a : Move) (r : Handled) (v : Move) : Type 0 where

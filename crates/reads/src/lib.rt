@@ -15,7 +15,8 @@ ghost use Rattle.guard_state.specs.State.{numbersOf, stateOf, gatheredNone, gat
 ghost use Rattle.guard_state.specs.Waits.{waits};
 ghost use Rattle.outcomes.specs.declared.Outcome.the-variants.{Ask};
 ghost use Rattle.outcomes.specs.Sent.{Sends};
-ghost use Rattle.reads.specs.Begun.{startedBy, readOf, leftOf};
+ghost use Rattle.outcomes.specs.Started.{startedBy};
+ghost use Rattle.reads.specs.Begun.{readOf, leftOf};
 
 // The read waits for the page that its position lies in, and asks for it.
 fn fetch(

@@ -10,7 +10,7 @@ use Rattle.filesystem.specs.Tables.{NODES, FILE-BYTES, DATA-BYTES}
 use Rattle.memory.specs.Layout.{memOf, openRows, withHead, withStaged}
 use Rattle.memory.specs.MemLaws.{length-staged}
 use Rattle.rules.specs.Requests.{reading}
-use Rattle.guard_state.specs.State.{numbersOf, clearedHead, pendingIn, gatheredIn, gatheredRead, stagedBytes, filePages}
+use Rattle.guard_state.specs.State.{numbersOf, clearedHead, pendings, pendingIn, gatheredIn, gatheredRead, stagedBytes, filePages}
 use Rattle.guard_state.specs.StageLaws.{bytes-more}
 use Rattle.guard_state.specs.WaitLaws.{kept, staged-waits}
 use borrow.Author.Needs.{needs}
@@ -18,7 +18,7 @@ use Rattle.guard_state.proofs.wait_page.Statement.{statement}
 use Rattle.guard_state.proofs.wait_page.Tie as tie
 
 returns : tie.Need-returns
-unfolding clearedHead numbersOf pendingIn gatheredIn stagedBytes
+unfolding clearedHead numbersOf pendings pendingIn gatheredIn stagedBytes
 returns c =
     let p = c .before .before in
     let r = p .before .before .before .before in

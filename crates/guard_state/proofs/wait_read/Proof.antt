@@ -6,14 +6,14 @@ use Prim.Native.Nat.{_+_}
 use Rattle.filesystem.specs.Tables.{NODES, FILE-BYTES, DATA-BYTES}
 use Rattle.memory.specs.Layout.{openRows}
 use Rattle.rules.specs.Requests.{reading}
-use Rattle.guard_state.specs.State.{numbersOf, clearedHead, pendingIn, gatheredIn, gatheredNone, stagedBytes, filePages}
+use Rattle.guard_state.specs.State.{numbersOf, clearedHead, pendings, pendingIn, gatheredIn, gatheredNone, stagedBytes, filePages}
 use Rattle.guard_state.specs.WaitLaws.{kept, waits-as}
 use borrow.Author.Needs.{needs}
 use Rattle.guard_state.proofs.wait_read.Statement.{statement}
 use Rattle.guard_state.proofs.wait_read.Tie as tie
 
 returns : tie.Need-returns
-unfolding clearedHead numbersOf pendingIn gatheredIn stagedBytes
+unfolding clearedHead numbersOf pendings pendingIn gatheredIn stagedBytes
 returns c =
     let p = c .before .before in
     let a = p .before .before .before .args in
