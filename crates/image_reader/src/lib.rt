@@ -8,7 +8,7 @@ ghost use lib.ListN.{length, set};
 ghost use Rattle.lists.specs.Pick.{pick};
 ghost use Rattle.lists.specs.Parts.{overwrite};
 ghost use Rattle.lists.specs.Search.{any, every, place};
-ghost use Rattle.filesystem.specs.Tables.{ID-BYTES, NODES, PAGES, FILE-BYTES, NAME-BYTES, pageTotal};
+ghost use Rattle.filesystem.specs.Tables.{ID-BYTES, NODES, PAGES, DIGEST-BYTES, FILE-BYTES, NAME-BYTES, pageTotal};
 ghost use Rattle.filesystem.specs.Paths.{componentForm};
 ghost use Rattle.filesystem.specs.Image.{isRoot, inLimits, soundNodes, parse};
 ghost use Rattle.memory.specs.Layout.{memOf, memorySize, withNodes, withDigests};
@@ -372,7 +372,7 @@ pub fn is_sound(image: &[u8]) -> bool
 
 // The record at `at` as node i of the memory.
 fn load_record(image: &[u8], at: usize, m: &mut [u8], i: usize)
-    requires { ⌜ (recordEnd ID-BYTES (now image) at ≤ length (now image)) × (length (recordAt ID-BYTES (now image) at .name) ≤ 32) × (i < NODES) × (memorySize ≤ length (now m)) ⌝ }
+    requires { ⌜ (recordEnd ID-BYTES (now image) at ≤ length (now image)) × (length (recordAt ID-BYTES (now image) at .name) ≤ NAME-BYTES) × (i < NODES) × (memorySize ≤ length (now m)) ⌝ }
     ensures { λ _. ⌜ memOf (now (m .exit)) ≡ withNodes (set (memOf (now (m .entry)) .nodes) i (recordAt ID-BYTES (now (image .entry)) at)) (memOf (now (m .entry))) ⌝ }
     ensures { λ _. ⌜ length (now (m .exit)) ≡ length (now (m .entry)) ⌝ }
 {
@@ -408,7 +408,7 @@ fn load_records(image: &[u8], n: usize, m: &mut [u8]) -> usize
 
 // The second section's digests as the memory's first digests.
 fn load_digests(image: &[u8], end: usize, m: &mut [u8])
-    requires { ⌜ (end ≡ recordsEnd ID-BYTES (now image)) × (end + 4 + digestCount ID-BYTES (now image) * 32 ≡ length (now image)) × (digestCount ID-BYTES (now image) ≤ PAGES) × (memorySize ≤ length (now m)) ⌝ }
+    requires { ⌜ (end ≡ recordsEnd ID-BYTES (now image)) × (end + 4 + digestCount ID-BYTES (now image) * DIGEST-BYTES ≡ length (now image)) × (digestCount ID-BYTES (now image) ≤ PAGES) × (memorySize ≤ length (now m)) ⌝ }
     ensures { λ _. ⌜ memOf (now (m .exit)) ≡ withDigests (overwrite (memOf (now (m .entry)) .digests) 0 (imageDigests ID-BYTES (now (image .entry)))) (memOf (now (m .entry))) ⌝ }
     ensures { λ _. ⌜ length (now (m .exit)) ≡ length (now (m .entry)) ⌝ }
 {

@@ -118,7 +118,7 @@ pub fn write_image(m: &[u8], n: usize, out: &mut [u8], at: usize) -> usize
 // ---- the seal
 
 // An image's SHA-256.
-pub fn seal(image: &[u8]) -> [u8; 32]
+pub fn seal(image: &[u8]) -> [u8; limits::DIGEST_BYTES]
     ensures { λ r. ⌜ r ≡ sha256 (now (image .entry)) ⌝ }
 {
     digest::sha256(image)
