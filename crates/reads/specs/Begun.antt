@@ -4,9 +4,12 @@ use mathlib.Core.Path.{_≡_}
 use mathlib.Core.List.{List, []}
 use Prim.Native.Nat.{ℕ, _-_, min}
 use lib.Dec.{eqb}
+use lib.ListN.{length}
+use Rattle.lists.specs.Equal.{equal}
+use Rattle.digest.specs.Sha256.{sha256}
 use Rattle.lists.specs.Pick.{pick}
 use Rattle.lists.specs.Checks.{decide}
-use Rattle.filesystem.specs.Tables.{Tables, nodeAt, openAt, setCursor}
+use Rattle.filesystem.specs.Tables.{PAGE-BYTES, Tables, nodeAt, openAt, setCursor}
 use Rattle.rules.specs.Calls.{Call}
 use Rattle.rules.specs.Pages.{pageAt}
 use Rattle.rules.specs.Requests.{reading, fetchRequest}
@@ -42,3 +45,7 @@ pub record Fills (c : Config) (x : Result (digestStore c)) (r : Outcome) (m a a�
   pub state : stateOf c m ≡ x .state
   pub answer : answerIn r a′ [] ≡ x .outcome .answer
   pub filled : a′ ≡ atFront (answerBytes (x .outcome .answer)) a
+
+-- the stop reason of a page's bytes, by the digest that is kept of it; 0 where there is none
+unfoldable pub pageReason : (kept bytes : List ℕ) → ℕ
+pageReason d x = pick (eqb (length x) PAGE-BYTES) (pick (equal (sha256 x) d) 0 5) 1

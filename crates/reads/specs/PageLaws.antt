@@ -4,10 +4,13 @@ use mathlib.Core.Path.{_≡_, refl, ap, sym, _∙_}
 use mathlib.Core.List.{List, [], _++_}
 use Prim.Native.Nat.{ℕ, suc, _+_, _*_, _<_, _≤_}
 use native.Mathlib.Omega.{arith}
+use mathlib.Core.Bool.{true, false}
 use lib.Dec.{leb}
+use Rattle.lists.specs.Equal.{equal}
+use Rattle.digest.specs.Sha256.{sha256}
 use lib.ListN.{length, take, length-append}
 use lib.Seq.{length-take-le}
-use borrow.Author.Tests.{le-leb, lt-leb}
+use borrow.Author.Tests.{le-leb, lt-leb, eq-eqb, ne-eqb}
 use Rattle.lists.specs.Pick.{pick, pick-true, pick-false}
 use Rattle.lists.specs.PartLaws.{take-overwrite}
 use Rattle.filesystem.specs.Tables.{PAGE-BYTES, DATA-BYTES, openAt, setCursor}
@@ -25,7 +28,7 @@ use Rattle.outcomes.specs.declared.Outcome.{Outcome}
 use Rattle.outcomes.specs.declared.Outcome.the-variants.{Done, Ask}
 use Rattle.outcomes.specs.Values.{answerIn}
 use Rattle.outcomes.specs.Sent.{Sends}
-use Rattle.reads.specs.Begun.{Fills, cursorTo}
+use Rattle.reads.specs.Begun.{Fills, cursorTo, pageReason}
 use Rattle.reads.specs.ReadLaws.{fetch-most}
 
 module _ (c : Config) (s : State (digestStore c)) (k o p n i : ℕ) where
@@ -81,3 +84,17 @@ pub staged-more : (m y : List ℕ) (n : ℕ) → n ≤ DATA-BYTES → memorySize
 staged-more m y n h f =
     let e = length-staged m f in
     length-append (take n (memOf m .staged)) y ∙ ap (λ (i : ℕ). i + length y) (length-take-le n (memOf m .staged) (omega arith))
+
+-- a page's stop reason, test by test
+module _ (d x : List ℕ) where
+  pub page-short : (length x ≡ PAGE-BYTES → ⊥) → 1 ≡ pageReason d x
+  unfolding pageReason
+  page-short h = sym (pick-false _ _ _ (ne-eqb (length x) PAGE-BYTES h))
+
+  pub page-right : length x ≡ PAGE-BYTES → equal (sha256 x) d ≡ true → 0 ≡ pageReason d x
+  unfolding pageReason
+  page-right h e = sym (pick-true _ _ _ (eq-eqb (length x) PAGE-BYTES h) ∙ pick-true _ _ _ e)
+
+  pub page-wrong : length x ≡ PAGE-BYTES → equal (sha256 x) d ≡ false → 5 ≡ pageReason d x
+  unfolding pageReason
+  page-wrong h e = sym (pick-true _ _ _ (eq-eqb (length x) PAGE-BYTES h) ∙ pick-false _ _ _ e)
