@@ -1,24 +1,26 @@
 -- A page of a read that came is what the machine makes of the reply.
 -- Assumes nothing.
-use mathlib.Core.Path.{_≡_, refl, ap, sym, _∙_}
-use mathlib.Core.List.{List, [], _++_}
-use Prim.Native.Nat.{ℕ, suc, _+_, _*_, _<_, _≤_}
+use mathlib.Core.Path.{_≡_, refl, ap, ap₂, sym, _∙_}
+use mathlib.Core.List.{List, [], _∷_, _++_}
+use Prim.Native.Nat.{ℕ, suc, _+_, _-_, _*_, _<_, _≤_, min, max}
 use native.Mathlib.Omega.{arith}
 use mathlib.Core.Bool.{true, false}
 use lib.Dec.{leb}
 use Rattle.lists.specs.Equal.{equal}
 use Rattle.digest.specs.Sha256.{sha256}
-use lib.ListN.{length, take, length-append}
+use lib.ListN.{length, getD, take, length-append}
 use lib.Seq.{length-take-le}
 use borrow.Author.Tests.{le-leb, lt-leb, eq-eqb, ne-eqb}
 use Rattle.lists.specs.Pick.{pick, pick-true, pick-false}
-use Rattle.lists.specs.PartLaws.{take-overwrite}
+use Rattle.lists.specs.PartLaws.{length-part, getD-part, take-overwrite}
+use Rattle.lists.specs.Parts.{part}
+use Rattle.lists.specs.Cells.{tab, tab-cong}
 use Rattle.filesystem.specs.Tables.{PAGE-BYTES, DATA-BYTES, openAt, setCursor}
 use Rattle.memory.specs.Layout.{Mem, memOf, memorySize, withOpens}
 use Rattle.memory.specs.MemLaws.{length-staged}
 use Rattle.tables.specs.View.{viewOf}
 use Rattle.tables.specs.ViewLaws.{view-cursor}
-use Rattle.rules.specs.Pages.{pagePart}
+use Rattle.rules.specs.Pages.{bytesAt, pagePart}
 use Rattle.rules.specs.Requests.{reading, fetchRequest, storeLength}
 use Rattle.rules.specs.Skeleton.{Config, done, ask, answerBytes, requestBytes, atFront}
 use Rattle.machine.specs.Machine.{State, Result, Gathered, readOn, asking, ending, guard as digestStore}
@@ -98,3 +100,24 @@ module _ (d x : List ℕ) where
   pub page-wrong : length x ≡ PAGE-BYTES → equal (sha256 x) d ≡ false → 5 ≡ pageReason d x
   unfolding pageReason
   page-wrong h e = sym (pick-true _ _ _ (eq-eqb (length x) PAGE-BYTES h) ∙ pick-false _ _ _ e)
+
+-- a part of a page, cell by cell
+own-cells : (b : List ℕ) → b ≡ tab (length b) (λ j. getD b j 0)
+unfolding tab
+own-cells [] = refl
+own-cells (x ∷ b) = ap (λ (l : List ℕ). x ∷ l) (own-cells b)
+
+part-cells : (x : List ℕ) (a k : ℕ) → a + k ≤ length x → part a k x ≡ bytesAt x a k
+unfolding bytesAt
+part-cells x a k h =
+    own-cells (part a k x)
+    ∙ ap (λ (i : ℕ). tab i (λ j. getD (part a k x) j 0)) (length-part a k x h)
+    ∙ tab-cong k _ _ (λ j l. getD-part a k j x 0 l)
+
+pub page-part : (x : List ℕ) (p n i s e : ℕ) → length x ≡ PAGE-BYTES → s ≡ max p (i * PAGE-BYTES) - i * PAGE-BYTES → e ≡ min (p + n) (i * PAGE-BYTES + PAGE-BYTES) - i * PAGE-BYTES → s ≤ e
+    → part s (e - s) x ≡ pagePart x p n i
+unfolding pagePart
+page-part x p n i s e h f g l =
+    let b : s + (e - s) ≤ length x = omega arith in
+    let k : e - s ≡ min (p + n) (i * PAGE-BYTES + PAGE-BYTES) - max p (i * PAGE-BYTES) = omega arith in
+    part-cells x s (e - s) b ∙ ap₂ (bytesAt x) f k
