@@ -1,4 +1,4 @@
--- A read by handle as it begins: judged on the state, done at once where it has no bytes, else its first page asked for.
+-- A read by handle as it begins, and what a page that came leaves.
 -- Assumes nothing.
 use mathlib.Core.Path.{_≡_}
 use mathlib.Core.List.{List, []}

@@ -1,4 +1,4 @@
-// A read by handle begun: judged, then done at once or waiting for its first page, its request written over the front of the request buffer.
+// A read by handle: begun, done at once or waiting for its first page; and a page that came, judged, staged or put into the answer buffer.
 ghost use mathlib.Core.Path.{_≡_};
 ghost use mathlib.Core.List.{List, [], _++_};
 ghost use Prim.Native.Nat.{ℕ, _+_, _*_, _<_, _≤_};
@@ -173,4 +173,15 @@ pub fn last_page(
         number: count as u64,
         length: l,
     }
+}
+
+// The bytes of a page that lie in the read.
+pub fn page_part(reply: &[u8], position: usize, count: usize, page: usize) -> &[u8]
+    requires { ⌜ (length (now reply) ≡ PAGE-BYTES) × (position ≤ FILE-BYTES) × (count ≤ DATA-BYTES) × (page ≤ filePages) × (page * PAGE-BYTES < position + count) × (position < page * PAGE-BYTES + PAGE-BYTES) ⌝ }
+    ensures { λ r. ⌜ (now r ≡ pagePart (now (reply .entry)) position count page) × (length (now r) ≤ count) ⌝ }
+{
+    let at = page * limits::PAGE_BYTES;
+    let start = numbers::excess(position, at);
+    let end = numbers::smaller(position + count - at, limits::PAGE_BYTES);
+    &reply[start..end]
 }
