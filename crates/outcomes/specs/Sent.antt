@@ -1,4 +1,4 @@
--- What an event leaves where no bytes go to the answer buffer: the outcome, the memory and the request buffer are those of the machine's result.
+-- What an event leaves: the outcome, the memory and the buffer that it writes are those of the machine's result.
 -- Assumes nothing.
 use mathlib.Core.Path.{_≡_, refl, ap, sym, _∙_}
 use mathlib.Core.List.{List, []}
@@ -9,7 +9,7 @@ use Rattle.lists.specs.Parts.{overwrite}
 use Rattle.lists.specs.PartLaws.{take-overwrite}
 use Rattle.filesystem.specs.Tables.{Tables}
 use Rattle.rules.specs.Requests.{Pending}
-use Rattle.rules.specs.Skeleton.{Config, done, ask, requestBytes, atFront}
+use Rattle.rules.specs.Skeleton.{Config, done, ask, answerBytes, requestBytes, atFront}
 use Rattle.rules.specs.Rules.{Move, refuse, halt, send, finish}
 use Rattle.machine.specs.Machine.{State, Result, ending, apply, guard as digestStore}
 use Rattle.guard_state.specs.State.{stateOf, gatheredNone}
@@ -23,6 +23,12 @@ pub record Sends (c : Config) (x : Result (digestStore c)) (r : Outcome) (m q q�
   pub state : stateOf c m ≡ x .state
   pub answer : answerIn r [] q′ ≡ x .outcome .answer
   pub request : q′ ≡ atFront (requestBytes (x .outcome .answer)) q
+
+-- and where bytes go to the front of the answer buffer, before a and now a′; the request buffer is not touched
+pub record Fills (c : Config) (x : Result (digestStore c)) (r : Outcome) (m a a′ : List ℕ) : Type 0 where
+  pub state : stateOf c m ≡ x .state
+  pub answer : answerIn r a′ [] ≡ x .outcome .answer
+  pub filled : a′ ≡ atFront (answerBytes (x .outcome .answer)) a
 
 -- a move that is known: a refusal changes nothing, a stop is for good, a request goes out and the call waits, a call is done
 module _ (c : Config) (s : State (digestStore c)) (v : Move) where

@@ -1,9 +1,10 @@
-// A read by handle begun: judged, then done at once or waiting for its first page, its request written over the front of the request buffer.
+// A read by handle: begun, done at once or waiting for its first page; and a page that came, judged, staged or put into the answer buffer.
 ghost use mathlib.Core.Path.{_≡_};
-ghost use mathlib.Core.List.{List};
+ghost use mathlib.Core.List.{List, [], _++_};
 ghost use Prim.Native.Nat.{ℕ, _+_, _*_, _<_, _≤_};
-ghost use lib.ListN.{length, take};
-ghost use Rattle.filesystem.specs.Tables.{NODES, PAGE-BYTES, FILE-BYTES, DATA-BYTES, nodeAt, openAt};
+ghost use lib.ListN.{length, getD, take};
+ghost use Rattle.filesystem.specs.Tables.{NODES, PAGES, PAGE-BYTES, FILE-BYTES, DATA-BYTES, nodeAt, openAt, pagesFor, pageTotal};
+ghost use Rattle.filesystem.specs.Image.{divide};
 ghost use Rattle.memory.specs.Layout.{memOf, memorySize, openRows};
 ghost use Rattle.rules.specs.Calls.{read};
 ghost use Rattle.rules.specs.Pages.{pageAt, pagePart};
@@ -12,11 +13,11 @@ ghost use Rattle.rules.specs.Skeleton.{Config, atFront};
 ghost use Rattle.rules.specs.Rules.{filePlace};
 ghost use Rattle.machine.specs.Machine.{apply, readOn, guard as digestStore};
 ghost use Rattle.guard_state.specs.State.{numbersOf, stateOf, gatheredNone, gatheredRead, filePages};
-ghost use Rattle.guard_state.specs.Waits.{waits};
+ghost use Rattle.guard_state.specs.Waits.{waits, ends};
 ghost use Rattle.outcomes.specs.declared.Outcome.the-variants.{Ask};
-ghost use Rattle.outcomes.specs.Sent.{Sends};
+ghost use Rattle.outcomes.specs.Sent.{Fills, Sends};
 ghost use Rattle.outcomes.specs.Started.{startedBy};
-ghost use Rattle.reads.specs.Begun.{readOf, leftOf};
+ghost use Rattle.reads.specs.Begun.{readOf, leftOf, cursorTo, pageReason};
 
 // The read waits for the page that its position lies in, and asks for it.
 fn fetch(
@@ -85,6 +86,29 @@ pub fn begin_read(m: &mut [u8], handle: u64, count: usize, request: &mut [u8]) -
 
 // ---- a page came
 
+// Page i of the node in place k as a reply: 1 of another length, 5 where its digest is not the kept one, else 0. No valid table lacks the page.
+pub fn judge_page(m: &[u8], n: usize, k: usize, i: usize, reply: &[u8]) -> u8
+    requires { ⌜ (n ≤ NODES) × (memorySize ≤ length (now m)) ⌝ }
+    ensures { λ r. ⌜ (k < n → i < pagesFor (nodeAt (memOf (now (m .entry)) .nodes) k .size) → pageTotal (take n (memOf (now (m .entry)) .nodes)) ≤ PAGES → r ≡ pageReason (getD (getD (divide (take n (memOf (now (m .entry)) .nodes)) (memOf (now (m .entry)) .digests)) k []) i []) (now (reply .entry))) ⌝ }
+{
+    if reply.len() != limits::PAGE_BYTES {
+        return 1;
+    }
+    if n <= k {
+        return 5;
+    }
+    if tables::pages_for(memory::node_size(m, k)) <= i {
+        return 5;
+    }
+    if limits::PAGES < tables::first_page(m, n) {
+        return 5;
+    }
+    if tables::is_page(m, n, k, i, reply) {
+        return 0;
+    }
+    5
+}
+
 // A page came and the read is not done: its bytes are staged behind those before, and the read waits for the next page.
 pub fn next_page(
     m: &mut [u8],
@@ -106,4 +130,59 @@ pub fn next_page(
     guard_state::wait_page(m, node, opened, position, count, next, bytes, more);
     let l = requests::write_fetch(request, descriptor, next as u32);
     outcomes::Outcome::Ask(l)
+}
+
+// The bytes of a read that is done, over the front of the answer buffer: those that are staged, and those of the last page.
+fn put_answer(m: &[u8], bytes: usize, more: &[u8], answer: &mut [u8])
+    requires { ⌜ (bytes + length (now more) ≤ DATA-BYTES) × (DATA-BYTES ≤ length (now answer)) × (memorySize ≤ length (now m)) ⌝ }
+    ensures { λ _. ⌜ now (answer .exit) ≡ atFront (take bytes (memOf (now (m .entry)) .staged) ++ now (more .entry)) (now (answer .entry)) ⌝ }
+{
+    let b = memory::staged(m, 0, bytes);
+    buffers::put(answer, 0, b);
+    buffers::put(answer, bytes, more);
+}
+
+// The read is done: its cursor stands behind what it gave.
+fn end_read(m: &mut [u8], opened: usize, end: usize)
+    requires { ⌜ (opened < numbersOf (memOf (now m) .head) .opens) × (opened < openRows) × (end ≤ FILE-BYTES + DATA-BYTES) × (memorySize ≤ length (now m)) ⌝ }
+    ensures { λ _. ⌜ ((c : Config) → stateOf c (now (m .exit)) ≡ ends c (stateOf c (now (m .entry))) (cursorTo (stateOf c (now (m .entry)) .skeleton .tables) opened end) (stateOf c (now (m .entry)) .contents)) ⌝ }
+    ensures { λ _. ⌜ length (now (m .exit)) ≡ length (now (m .entry)) ⌝ }
+{
+    memory::set_cursor(m, opened, end as u32);
+    guard_state::finish(m);
+}
+
+// The last page of a read came: its bytes go to the answer buffer behind those that are staged, and the read is done.
+pub fn last_page(
+    m: &mut [u8],
+    opened: usize,
+    position: usize,
+    count: usize,
+    bytes: usize,
+    more: &[u8],
+    answer: &mut [u8],
+) -> outcomes::Outcome
+    requires { ⌜ (opened < numbersOf (memOf (now m) .head) .opens) × (opened < openRows) × (position ≤ FILE-BYTES) × (count ≤ DATA-BYTES) × (bytes + length (now more) ≤ DATA-BYTES) × (DATA-BYTES ≤ length (now answer)) × (memorySize ≤ length (now m)) ⌝ }
+    ensures { λ r. ⌜ ((c : Config) (k i : ℕ) (x : List ℕ) → position + count ≤ i * PAGE-BYTES + PAGE-BYTES → now (more .entry) ≡ pagePart x position count i → stateOf c (now (m .entry)) .progress ≡ gatheredRead (take bytes (memOf (now (m .entry)) .staged)) → Fills c (readOn c (digestStore c) (stateOf c (now (m .entry))) k opened position count i (digestStore c .gather (stateOf c (now (m .entry)) .progress) position count i x)) r (now (m .exit)) (now (answer .entry)) (now (answer .exit))) ⌝ }
+    ensures { λ _. ⌜ length (now (m .exit)) ≡ length (now (m .entry)) ⌝ }
+{
+    let l = bytes + more.len();
+    let end = position + count;
+    put_answer(m, bytes, more, answer);
+    end_read(m, opened, end);
+    outcomes::Outcome::Done {
+        number: count as u64,
+        length: l,
+    }
+}
+
+// The bytes of a page that lie in the read.
+pub fn page_part(reply: &[u8], position: usize, count: usize, page: usize) -> &[u8]
+    requires { ⌜ (length (now reply) ≡ PAGE-BYTES) × (position ≤ FILE-BYTES) × (count ≤ DATA-BYTES) × (page ≤ filePages) × (page * PAGE-BYTES < position + count) × (position < page * PAGE-BYTES + PAGE-BYTES) ⌝ }
+    ensures { λ r. ⌜ (now r ≡ pagePart (now (reply .entry)) position count page) × (length (now r) ≤ count) ⌝ }
+{
+    let at = page * limits::PAGE_BYTES;
+    let start = numbers::excess(position, at);
+    let end = numbers::smaller(position + count - at, limits::PAGE_BYTES);
+    &reply[start..end]
 }
