@@ -1,3 +1,4 @@
 pub mod Values
 pub mod Sent
 pub mod Started
+pub mod Answered

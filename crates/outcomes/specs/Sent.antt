@@ -2,14 +2,14 @@
 -- Assumes nothing.
 use mathlib.Core.Path.{_≡_, refl, ap, sym, _∙_}
 use mathlib.Core.List.{List, []}
-use Prim.Native.Nat.{ℕ, _≤_}
+use Prim.Native.Nat.{ℕ, zero, suc, _≤_}
 use native.Mathlib.Omega.{arith}
 use lib.ListN.{length, take}
 use Rattle.lists.specs.Parts.{overwrite}
-use Rattle.lists.specs.PartLaws.{take-overwrite}
+use Rattle.lists.specs.PartLaws.{take-overwrite, overwrite-none}
 use Rattle.filesystem.specs.Tables.{Tables}
 use Rattle.rules.specs.Requests.{Pending}
-use Rattle.rules.specs.Skeleton.{Config, done, ask, answerBytes, requestBytes, atFront}
+use Rattle.rules.specs.Skeleton.{Config, Answer, done, ask, answerBytes, requestBytes, atFront}
 use Rattle.rules.specs.Rules.{Move, refuse, halt, send, finish}
 use Rattle.machine.specs.Machine.{State, Result, ending, apply, guard as digestStore}
 use Rattle.guard_state.specs.State.{stateOf, gatheredNone}
@@ -21,14 +21,57 @@ use Rattle.outcomes.specs.Values.{answerIn}
 -- the outcome r, the memory m and the request buffer, before q and now q′, are those of x; the answer buffer is not touched
 pub record Sends (c : Config) (x : Result (digestStore c)) (r : Outcome) (m q q′ : List ℕ) : Type 0 where
   pub state : stateOf c m ≡ x .state
-  pub answer : answerIn r [] q′ ≡ x .outcome .answer
+  pub answer : (a : List ℕ) → answerIn r a q′ ≡ x .outcome .answer
   pub request : q′ ≡ atFront (requestBytes (x .outcome .answer)) q
 
 -- and where bytes go to the front of the answer buffer, before a and now a′; the request buffer is not touched
 pub record Fills (c : Config) (x : Result (digestStore c)) (r : Outcome) (m a a′ : List ℕ) : Type 0 where
   pub state : stateOf c m ≡ x .state
-  pub answer : answerIn r a′ [] ≡ x .outcome .answer
+  pub answer : (q : List ℕ) → answerIn r a′ q ≡ x .outcome .answer
   pub filled : a′ ≡ atFront (answerBytes (x .outcome .answer)) a
+
+-- and where both are lent
+pub record Leaves (c : Config) (x : Result (digestStore c)) (r : Outcome) (m a a′ q q′ : List ℕ) : Type 0 where
+  pub state : stateOf c m ≡ x .state
+  pub answer : answerIn r a′ q′ ≡ x .outcome .answer
+  pub filled : a′ ≡ atFront (answerBytes (x .outcome .answer)) a
+  pub request : q′ ≡ atFront (requestBytes (x .outcome .answer)) q
+
+-- an answer that no buffer changes has no bytes from there
+none-taken : (l : ℕ) → take {A = ℕ} l [] ≡ []
+none-taken zero = refl
+none-taken (suc l) = refl
+
+no-answer-bytes : (r : Outcome) (q′ : List ℕ) (y : Answer) → answerIn r [] q′ ≡ y → answerBytes y ≡ []
+unfolding answerIn answerBytes
+no-answer-bytes (Done n l) q′ y e = ap answerBytes (sym e) ∙ none-taken l
+no-answer-bytes (Ask l) q′ y e = ap answerBytes (sym e)
+no-answer-bytes (Refused n) q′ y e = ap answerBytes (sym e)
+no-answer-bytes (Stopped n) q′ y e = ap answerBytes (sym e)
+
+no-request-bytes : (r : Outcome) (a′ : List ℕ) (y : Answer) → answerIn r a′ [] ≡ y → requestBytes y ≡ []
+unfolding answerIn requestBytes
+no-request-bytes (Done n l) a′ y e = ap requestBytes (sym e)
+no-request-bytes (Ask l) a′ y e = ap requestBytes (sym e) ∙ none-taken l
+no-request-bytes (Refused n) a′ y e = ap requestBytes (sym e)
+no-request-bytes (Stopped n) a′ y e = ap requestBytes (sym e)
+
+module _ (c : Config) (x : Result (digestStore c)) (r : Outcome) where
+  pub sends-leaves : (m q q′ : List ℕ) → Sends c x r m q q′ → (a : List ℕ) → Leaves c x r m a a q q′
+  sends-leaves m q q′ h a = record {
+    state = h .state;
+    answer = h .answer a;
+    filled = sym (ap (λ (b : List ℕ). atFront b a) (no-answer-bytes r q′ (x .outcome .answer) (h .answer [])) ∙ overwrite-none 0 a 0);
+    request = h .request;
+  }
+
+  pub fills-leaves : (m a a′ : List ℕ) → Fills c x r m a a′ → (q : List ℕ) → Leaves c x r m a a′ q q
+  fills-leaves m a a′ h q = record {
+    state = h .state;
+    answer = h .answer q;
+    filled = h .filled;
+    request = sym (ap (λ (b : List ℕ). atFront b q) (no-request-bytes r a′ (x .outcome .answer) (h .answer [])) ∙ overwrite-none 0 q 0);
+  }
 
 -- a move that is known: a refusal changes nothing, a stop is for good, a request goes out and the call waits, a call is done
 module _ (c : Config) (s : State (digestStore c)) (v : Move) where
@@ -36,7 +79,7 @@ module _ (c : Config) (s : State (digestStore c)) (v : Move) where
   unfolding apply answerIn requestBytes overwrite
   refusal-sends n m q z g = record {
     state = g ∙ ap (λ d. apply c (digestStore c) s d .state) (sym z);
-    answer = ap (λ d. apply c (digestStore c) s d .outcome .answer) (sym z);
+    answer = λ a. ap (λ d. apply c (digestStore c) s d .outcome .answer) (sym z);
     request = ap (λ d. atFront (requestBytes (apply c (digestStore c) s d .outcome .answer)) q) (sym z);
   }
 
@@ -44,7 +87,7 @@ module _ (c : Config) (s : State (digestStore c)) (v : Move) where
   unfolding apply answerIn requestBytes overwrite stops
   stop-sends n m q z g = record {
     state = g ∙ ap (λ d. apply c (digestStore c) s d .state) (sym z);
-    answer = ap (λ d. apply c (digestStore c) s d .outcome .answer) (sym z);
+    answer = λ a. ap (λ d. apply c (digestStore c) s d .outcome .answer) (sym z);
     request = ap (λ d. atFront (requestBytes (apply c (digestStore c) s d .outcome .answer)) q) (sym z);
   }
 
@@ -53,7 +96,7 @@ module _ (c : Config) (s : State (digestStore c)) (v : Move) where
   unfolding answerIn requestBytes overwrite ends
   done-sends t x n m q z g = record {
     state = g ∙ ap (λ d. d .state) (sym z);
-    answer = ap (λ d. d .outcome .answer) (sym z);
+    answer = λ a. ap (λ d. d .outcome .answer) (sym z);
     request = ap (λ d. atFront (requestBytes (d .outcome .answer)) q) (sym z);
   }
 
@@ -66,8 +109,8 @@ module _ (c : Config) (s : State (digestStore c)) (v : Move) where
   unfolding apply answerIn requestBytes waits
   request-sends p x m q q′ o z g u e h = record {
     state = g ∙ ap (λ d. apply c (digestStore c) s d .state) (sym z);
-    answer =
-        ap (λ (n : Outcome). answerIn n [] q′) e
+    answer = λ a.
+        ap (λ (n : Outcome). answerIn n a q′) e
         ∙ ap ask (ap (take (length x)) u ∙ take-overwrite q 0 x (length x) (omega arith) (omega arith))
         ∙ ap (λ d. apply c (digestStore c) s d .outcome .answer) (sym z);
     request = u ∙ ap (λ d. atFront (requestBytes (apply c (digestStore c) s d .outcome .answer)) q) (sym z);

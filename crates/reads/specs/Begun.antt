@@ -1,13 +1,10 @@
--- A read by handle as it begins, and the reason that a page's bytes stop it.
+-- A read by handle as it begins.
 -- Assumes nothing.
 use mathlib.Core.List.{List, []}
 use Prim.Native.Nat.{ℕ, _-_, min}
 use lib.Dec.{eqb}
-use lib.ListN.{length}
-use Rattle.lists.specs.Equal.{equal}
-use Rattle.digest.specs.Sha256.{sha256}
 use Rattle.lists.specs.Pick.{pick}
-use Rattle.filesystem.specs.Tables.{PAGE-BYTES, Tables, nodeAt, openAt, setCursor}
+use Rattle.filesystem.specs.Tables.{Tables, nodeAt, openAt, setCursor}
 use Rattle.rules.specs.Pages.{pageAt}
 use Rattle.rules.specs.Requests.{reading, fetchRequest}
 use Rattle.rules.specs.Rules.{Move, send, finish}
@@ -26,7 +23,3 @@ leftOf t o k count = min count (nodeAt (t .nodes) k .size - openAt (t .opens) o 
 -- the tables with another cursor in place o
 abbrev pub cursorTo : Tables → (o x : ℕ) → Tables
 cursorTo t o x = record { nodes = t .nodes; opens = setCursor (t .opens) o x }
-
--- the stop reason of a page's bytes, by the digest that is kept of it; 0 where there is none
-unfoldable pub pageReason : (kept bytes : List ℕ) → ℕ
-pageReason d x = pick (eqb (length x) PAGE-BYTES) (pick (equal (sha256 x) d) 0 5) 1

@@ -30,7 +30,7 @@ use Rattle.outcomes.specs.declared.Outcome.{Outcome}
 use Rattle.outcomes.specs.declared.Outcome.the-variants.{Done, Ask}
 use Rattle.outcomes.specs.Values.{answerIn}
 use Rattle.outcomes.specs.Sent.{Fills, Sends}
-use Rattle.reads.specs.Begun.{cursorTo, pageReason}
+use Rattle.reads.specs.Begun.{cursorTo}
 use Rattle.reads.specs.ReadLaws.{fetch-most}
 
 module _ (c : Config) (s : State (digestStore c)) (k o p n i : ℕ) where
@@ -50,8 +50,8 @@ module _ (c : Config) (s : State (digestStore c)) (k o p n i : ℕ) where
       asks-next a h ∙ (λ t. asking c (digestStore c) s (fetchRequest (sym u t) (sym v t)) (reading k o p n (sym v t)) (record { bytes = f t .bytes ++ sym g t; digests = f t .digests })) in
       record {
         state = w ∙ ap (λ (d : Result (digestStore c)). d .state) (sym t);
-        answer =
-            ap (λ (n : Outcome). answerIn n [] q′) e
+        answer = λ a.
+            ap (λ (n : Outcome). answerIn n a q′) e
             ∙ ap ask (ap (take (length (fetchRequest d j))) z ∙ take-overwrite q 0 (fetchRequest d j) (length (fetchRequest d j)) (omega arith) (omega (arith, fetch-most d j, l)))
             ∙ ap (λ (d : Result (digestStore c)). d .outcome .answer) (sym t);
         request = z ∙ ap (λ (d : Result (digestStore c)). atFront (requestBytes (d .outcome .answer)) q) (sym t);
@@ -75,7 +75,7 @@ last-fills c s k o p n i l b x y m a a′ h f g w z e =
     pick-true _ _ _ (le-leb (p + n) (i * PAGE-BYTES + PAGE-BYTES) h) ∙ (λ t. ending c (digestStore c) s (done n (f t .bytes ++ sym g t)) (cursorTo (s .skeleton .tables) o (p + n)) (s .contents)) in
     record {
       state = w ∙ ap (λ (d : Result (digestStore c)). d .state) (sym t);
-      answer =
+      answer = λ q.
           ap (done n) (ap (λ (j : ℕ). take j a′) e ∙ ap (take (length (b ++ y))) z ∙ take-overwrite a 0 (b ++ y) (length (b ++ y)) (omega arith) (omega arith))
           ∙ ap (λ (d : Result (digestStore c)). d .outcome .answer) (sym t);
       filled = z ∙ ap (λ (d : Result (digestStore c)). atFront (answerBytes (d .outcome .answer)) a) (sym t);
@@ -86,20 +86,6 @@ pub staged-more : (m y : List ℕ) (n : ℕ) → n ≤ DATA-BYTES → memorySize
 staged-more m y n h f =
     let e = length-staged m f in
     length-append (take n (memOf m .staged)) y ∙ ap (λ (i : ℕ). i + length y) (length-take-le n (memOf m .staged) (omega arith))
-
--- a page's stop reason, test by test
-module _ (d x : List ℕ) where
-  pub page-short : (length x ≡ PAGE-BYTES → ⊥) → 1 ≡ pageReason d x
-  unfolding pageReason
-  page-short h = sym (pick-false _ _ _ (ne-eqb (length x) PAGE-BYTES h))
-
-  pub page-right : length x ≡ PAGE-BYTES → equal (sha256 x) d ≡ true → 0 ≡ pageReason d x
-  unfolding pageReason
-  page-right h e = sym (pick-true _ _ _ (eq-eqb (length x) PAGE-BYTES h) ∙ pick-true _ _ _ e)
-
-  pub page-wrong : length x ≡ PAGE-BYTES → equal (sha256 x) d ≡ false → 5 ≡ pageReason d x
-  unfolding pageReason
-  page-wrong h e = sym (pick-true _ _ _ (eq-eqb (length x) PAGE-BYTES h) ∙ pick-false _ _ _ e)
 
 -- a part of a page, cell by cell
 own-cells : (b : List ℕ) → b ≡ tab (length b) (λ j. getD b j 0)

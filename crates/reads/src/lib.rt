@@ -1,10 +1,9 @@
 // A read by handle: begun, done at once or waiting for its first page; and a page that came, judged, staged or put into the answer buffer.
 ghost use mathlib.Core.Path.{_≡_};
-ghost use mathlib.Core.List.{List, [], _++_};
+ghost use mathlib.Core.List.{List, _++_};
 ghost use Prim.Native.Nat.{ℕ, _+_, _*_, _<_, _≤_};
-ghost use lib.ListN.{length, getD, take};
-ghost use Rattle.filesystem.specs.Tables.{NODES, PAGES, PAGE-BYTES, FILE-BYTES, DATA-BYTES, nodeAt, openAt, pagesFor, pageTotal};
-ghost use Rattle.filesystem.specs.Image.{divide};
+ghost use lib.ListN.{length, take};
+ghost use Rattle.filesystem.specs.Tables.{NODES, PAGE-BYTES, FILE-BYTES, DATA-BYTES, nodeAt, openAt};
 ghost use Rattle.memory.specs.Layout.{memOf, memorySize, openRows};
 ghost use Rattle.rules.specs.Calls.{read};
 ghost use Rattle.rules.specs.Pages.{pageAt, pagePart};
@@ -17,7 +16,7 @@ ghost use Rattle.guard_state.specs.Waits.{waits, ends};
 ghost use Rattle.outcomes.specs.declared.Outcome.the-variants.{Ask};
 ghost use Rattle.outcomes.specs.Sent.{Fills, Sends};
 ghost use Rattle.outcomes.specs.Started.{startedBy};
-ghost use Rattle.reads.specs.Begun.{readOf, leftOf, cursorTo, pageReason};
+ghost use Rattle.reads.specs.Begun.{readOf, leftOf, cursorTo};
 
 // The read waits for the page that its position lies in, and asks for it.
 fn fetch(
@@ -85,29 +84,6 @@ pub fn begin_read(m: &mut [u8], handle: u64, count: usize, request: &mut [u8]) -
 }
 
 // ---- a page came
-
-// Page i of the node in place k as a reply: 1 of another length, 5 where its digest is not the kept one, else 0. No valid table lacks the page.
-pub fn judge_page(m: &[u8], n: usize, k: usize, i: usize, reply: &[u8]) -> u8
-    requires { ⌜ (n ≤ NODES) × (memorySize ≤ length (now m)) ⌝ }
-    ensures { λ r. ⌜ (k < n → i < pagesFor (nodeAt (memOf (now (m .entry)) .nodes) k .size) → pageTotal (take n (memOf (now (m .entry)) .nodes)) ≤ PAGES → r ≡ pageReason (getD (getD (divide (take n (memOf (now (m .entry)) .nodes)) (memOf (now (m .entry)) .digests)) k []) i []) (now (reply .entry))) ⌝ }
-{
-    if reply.len() != limits::PAGE_BYTES {
-        return 1;
-    }
-    if n <= k {
-        return 5;
-    }
-    if tables::pages_for(memory::node_size(m, k)) <= i {
-        return 5;
-    }
-    if limits::PAGES < tables::first_page(m, n) {
-        return 5;
-    }
-    if tables::is_page(m, n, k, i, reply) {
-        return 0;
-    }
-    5
-}
 
 // A page came and the read is not done: its bytes are staged behind those before, and the read waits for the next page.
 pub fn next_page(

@@ -2,8 +2,13 @@
 -- Assumes nothing.
 use Prim.Native.Nat.{ℕ}
 use mathlib.Core.List.{List}
+use lib.Dec.{eqb}
+use lib.ListN.{length}
+use Rattle.lists.specs.Pick.{pick}
+use Rattle.lists.specs.Equal.{equal}
 use Rattle.lists.specs.Checks.{decide}
-use Rattle.filesystem.specs.Tables.{ID-BYTES, Tables, freshTables}
+use Rattle.digest.specs.Sha256.{sha256}
+use Rattle.filesystem.specs.Tables.{PAGE-BYTES, ID-BYTES, Tables, freshTables}
 use Rattle.rules.specs.Requests.{Pending}
 use Rattle.rules.specs.Rules.{statusChecks, replyChecks}
 
@@ -13,3 +18,7 @@ reasonFor t r p = decide (λ n. n) (replyChecks ID-BYTES t r p) 0
 -- the same of a status, whatever the tables are
 unfoldable pub statusReason : List ℕ → (expected : ℕ) → ℕ
 statusReason r n = decide (λ n. n) (statusChecks ID-BYTES freshTables r n) 0
+
+-- the stop reason of a page's bytes, by the digest that is kept of it; 0 where there is none
+unfoldable pub pageReason : (kept bytes : List ℕ) → ℕ
+pageReason d x = pick (eqb (length x) PAGE-BYTES) (pick (equal (sha256 x) d) 0 5) 1

@@ -11,7 +11,8 @@ use lib.Signed.{ltZ, leZ, nonNeg}
 use lib.ListN.{length, take, set, length-append}
 use lib.Seq.{take-all}
 use borrow.Author.Tests.{eq-eqb, ne-eqb, ltb-true, lt-ltb, le-ltb, leb-true, leb-false, le-leb, lt-leb}
-use Rattle.lists.specs.Pick.{pick-ind}
+use Rattle.digest.specs.Sha256.{sha256}
+use Rattle.lists.specs.Pick.{pick-ind, pick-true, pick-false}
 use Rattle.lists.specs.Checks.{decide, check-last, check-passes, check-stops}
 use Rattle.lists.specs.Equal.{equal, or-both}
 use Rattle.lists.specs.LittleEndian.{encode, decode, length-encode}
@@ -23,7 +24,7 @@ use Rattle.rules.specs.Pages.{Change}
 use Rattle.rules.specs.Requests.{asked, creating, opening, closing, removing, changing, stating, storing, cutting}
 use Rattle.rules.specs.Rules.{signedOf, isNumber, isDescriptor, statBytes, replyChecks}
 use Rattle.tables.specs.RowsInUse.{node-front}
-use Rattle.replies.specs.Judged.{reasonFor, statusReason}
+use Rattle.replies.specs.Judged.{reasonFor, statusReason, pageReason}
 
 -- a reply of this length is its own part
 pub whole-part : (r : List ℕ) (n : ℕ) → length r ≡ n → part 0 n r ≡ r
@@ -232,3 +233,17 @@ stat-written w id kind mode size l h =
     ∙ e₃
     ∙ overwrite-all l (x₃ ++ encode 4 size) (omega arith)
     ∙ simp append-assoc
+
+-- a page's stop reason, test by test
+module _ (d x : List ℕ) where
+  pub page-short : (length x ≡ PAGE-BYTES → ⊥) → 1 ≡ pageReason d x
+  unfolding pageReason
+  page-short h = sym (pick-false _ _ _ (ne-eqb (length x) PAGE-BYTES h))
+
+  pub page-right : length x ≡ PAGE-BYTES → equal (sha256 x) d ≡ true → 0 ≡ pageReason d x
+  unfolding pageReason
+  page-right h e = sym (pick-true _ _ _ (eq-eqb (length x) PAGE-BYTES h) ∙ pick-true _ _ _ e)
+
+  pub page-wrong : length x ≡ PAGE-BYTES → equal (sha256 x) d ≡ false → 5 ≡ pageReason d x
+  unfolding pageReason
+  page-wrong h e = sym (pick-true _ _ _ (eq-eqb (length x) PAGE-BYTES h) ∙ pick-false _ _ _ e)

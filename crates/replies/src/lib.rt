@@ -1,17 +1,17 @@
-// The host's reply to a call of one request, judged: the stop reason, or 0 where the reply is right. Nothing is changed here.
+// The host's reply judged: the stop reason, or 0 where the reply is right. Nothing is changed here.
 ghost use mathlib.Core.Path.{_≡_};
 ghost use Prim.Native.Nat.{ℕ, _≤_, _<_};
-ghost use mathlib.Core.List.{List, _∷_, _++_};
+ghost use mathlib.Core.List.{List, [], _∷_, _++_};
 ghost use lib.IntN.{pos};
 ghost use mathlib.Core.Bool.{true};
-ghost use lib.ListN.{length, take};
+ghost use lib.ListN.{length, getD, take};
 ghost use Rattle.lists.specs.LittleEndian.{encode};
-ghost use Rattle.filesystem.specs.Tables.{NODES, ID-BYTES, nodeAt};
-ghost use Rattle.filesystem.specs.Image.{soundNodes};
+ghost use Rattle.filesystem.specs.Tables.{NODES, PAGES, ID-BYTES, nodeAt, pagesFor, pageTotal};
+ghost use Rattle.filesystem.specs.Image.{soundNodes, divide};
 ghost use Rattle.memory.specs.Layout.{memOf, memorySize, openRows};
 ghost use Rattle.tables.specs.View.{tablesIn};
 ghost use Rattle.rules.specs.Requests.{asked, creating, opening, stating, listing};
-ghost use Rattle.replies.specs.Judged.{reasonFor, statusReason};
+ghost use Rattle.replies.specs.Judged.{reasonFor, statusReason, pageReason};
 ghost use Rattle.replies.specs.Listing.{entryAt, entryEnd, endWithin, entryPlace};
 
 // A status: 1 of another length, 2 where it is not the expected one (specs/JudgedLaws.antt: of which requests).
@@ -98,6 +98,29 @@ pub fn judge_stat(m: &[u8], n: usize, k: usize, reply: &[u8]) -> u8
         return 6;
     }
     0
+}
+
+// Page i of the node in place k as a reply: 1 of another length, 5 where its digest is not the kept one, else 0. No valid table lacks the page.
+pub fn judge_page(m: &[u8], n: usize, k: usize, i: usize, reply: &[u8]) -> u8
+    requires { ⌜ (n ≤ NODES) × (memorySize ≤ length (now m)) ⌝ }
+    ensures { λ r. ⌜ (k < n → i < pagesFor (nodeAt (memOf (now (m .entry)) .nodes) k .size) → pageTotal (take n (memOf (now (m .entry)) .nodes)) ≤ PAGES → r ≡ pageReason (getD (getD (divide (take n (memOf (now (m .entry)) .nodes)) (memOf (now (m .entry)) .digests)) k []) i []) (now (reply .entry))) ⌝ }
+{
+    if reply.len() != limits::PAGE_BYTES {
+        return 1;
+    }
+    if n <= k {
+        return 5;
+    }
+    if tables::pages_for(memory::node_size(m, k)) <= i {
+        return 5;
+    }
+    if limits::PAGES < tables::first_page(m, n) {
+        return 5;
+    }
+    if tables::is_page(m, n, k, i, reply) {
+        return 0;
+    }
+    5
 }
 
 // A listing's entry up to its name: id, kind and the name's length.

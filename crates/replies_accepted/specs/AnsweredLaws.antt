@@ -27,7 +27,7 @@ use Rattle.guard_state.specs.WaitLaws.{pending-at}
 use Rattle.outcomes.specs.declared.Outcome.the-variants.{Done, Stopped}
 use Rattle.outcomes.specs.Sent.{Sends, stop-sends, done-sends, finish-sends}
 use Rattle.replies.specs.Judged.{reasonFor}
-use Rattle.replies_accepted.specs.Answered.{taken, answered}
+use Rattle.outcomes.specs.Answered.{taken, answered}
 
 -- reasons are not 0, so 0 says that none holds
 abbrev Positive : Check → Type 0

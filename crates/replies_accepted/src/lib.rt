@@ -9,7 +9,7 @@ ghost use Rattle.memory.specs.Layout.{memOf, memorySize, openRows};
 ghost use Rattle.rules.specs.Skeleton.{Config};
 ghost use Rattle.guard_state.specs.State.{numbersOf, stateOf};
 ghost use Rattle.outcomes.specs.Sent.{Sends};
-ghost use Rattle.replies_accepted.specs.Answered.{answered};
+ghost use Rattle.outcomes.specs.Answered.{answered};
 
 // close: the open file is taken out.
 pub fn accept_close(m: &mut [u8], reply: &[u8]) -> outcomes::Outcome

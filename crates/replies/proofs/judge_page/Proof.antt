@@ -1,11 +1,11 @@
--- `reads::judge_page` meets its contract. Assumes nothing.
+-- `replies::judge_page` meets its contract. Assumes nothing.
 use native.Mathlib.Omega.{arith}
 use mathlib.Core.Path.{ap, sym, _∙_}
 use Rattle.filesystem.specs.Tables.{pagesFor}
-use Rattle.reads.specs.PageLaws.{page-short, page-right, page-wrong}
+use Rattle.replies.specs.JudgedLaws.{page-short, page-right, page-wrong}
 use borrow.Author.Needs.{needs}
-use Rattle.reads.proofs.judge_page.Statement.{statement}
-use Rattle.reads.proofs.judge_page.Tie as tie
+use Rattle.replies.proofs.judge_page.Statement.{statement}
+use Rattle.replies.proofs.judge_page.Tie as tie
 
 returns : tie.Need-returns
 returns c h f g = page-short _ (c .before .before .before .args .reply .now) (c .if1 .taken)
