@@ -1,18 +1,13 @@
 -- Demand 3 at the digest and the width that are delivered.
 -- Assumes nothing.
 use native.Mathlib.Omega.{arith}
-use Rattle.filesystem.specs.Tables.{ID-BYTES}
-use Rattle.rules.specs.Skeleton.{Config}
-use Rattle.digest.specs.Sha256.{sha256}
+use Rattle.configuration.specs.Delivered.{delivered}
 use Rattle.digest.specs.Laws.{length-sha256, bytes-sha256}
 use Rattle.machine.specs.Claim.{Fit, FirstHalf, SecondHalf}
 use Rattle.machine.specs.Run.{first-half}
 use Rattle.machine.specs.HonestRun.{second-half}
 
-unfoldable pub delivered : Config
-delivered = record { digest = sha256; width = ID-BYTES }
-
-delivered-fit : Fit delivered
+pub delivered-fit : Fit delivered
 unfolding delivered
 delivered-fit = record { long = length-sha256; bytes = bytes-sha256; wide = omega arith }
 

@@ -25,7 +25,7 @@ pub kept : (x n : ℕ) → x < n → x % n ≡ x
 kept x n h = mod-eq-of-lt h
 
 -- the first n numbers, one by one
-head-cells : (n : ℕ) (h : List ℕ) → n ≤ length h → h ≡ tab n (λ i. getD h i 0) ++ drop n h
+pub head-cells : (n : ℕ) (h : List ℕ) → n ≤ length h → h ≡ tab n (λ i. getD h i 0) ++ drop n h
 unfolding tab
 head-cells zero h f = refl
 head-cells (suc n) [] f = absurd (omega arith)

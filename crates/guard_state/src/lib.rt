@@ -1,16 +1,18 @@
 // The guard's numbers in the memory's header, the memory as the machine's state, and the pending call: one begins to wait for a reply, is
 // done, or the guard stops. Contracts are over the machine's states (specs/State.antt).
 ghost use mathlib.Core.Path.{_≡_};
-ghost use mathlib.Core.List.{_++_};
+ghost use mathlib.Core.List.{[], _∷_, _++_};
 ghost use Prim.Native.Nat.{_+_, _%_, _<_, _≤_};
 ghost use lib.ListN.{length, getD, take, set};
 ghost use Rattle.filesystem.specs.Tables.{NODES, NAME-BYTES, FILE-BYTES, DATA-BYTES};
-ghost use Rattle.memory.specs.Layout.{memOf, memorySize, headNumbers, openRows, withHead};
-ghost use Rattle.rules.specs.Requests.{asked, creating, opening, closing, removing, changing, listing, stating, reading};
+ghost use Rattle.memory.specs.Layout.{memOf, memorySize, headNumbers, openRows, newDigests, withHead};
+ghost use Rattle.rules.specs.Requests.{asked, creating, opening, closing, removing, changing, listing, stating, reading, fetching};
+ghost use Rattle.rules.specs.Pages.{writing, shrinking};
 ghost use Rattle.rules.specs.Skeleton.{Config};
 ghost use Rattle.machine.specs.Machine.{fresh, guard as digestStore};
 ghost use Rattle.tables.specs.View.{viewOf};
-ghost use Rattle.guard_state.specs.State.{numbersOf, stateOf, clearedHead, gatheredNone, gatheredRead, filePages};
+ghost use Rattle.guard_state.specs.State.{numbersOf, pendingIn, stateOf, clearedHead, gatheredNone, gatheredRead, filePages};
+ghost use Rattle.guard_state.specs.Onward.{writeNumbers, shrinkNumbers, goesOn};
 ghost use Rattle.guard_state.specs.Waits.{waits, ends, stops, restingState};
 
 pub mod calls;
@@ -284,6 +286,62 @@ pub fn wait_page(
     memory::stage(m, bytes, more);
     put_read(m, node, opened, position, count, page);
     memory::put_head(m, header::BYTES, l as u64);
+}
+
+// ---- a change of a file's bytes
+
+// A write waits: its bytes are staged, and no page of it is asked yet.
+pub fn wait_write(m: &mut [u8], node: usize, opened: usize, position: usize, bytes: &[u8])
+    requires { ⌜ (node < NODES) × (opened < openRows) × (position ≤ FILE-BYTES) × (length (now bytes) ≤ DATA-BYTES) × (memorySize ≤ length (now m)) ⌝ }
+    ensures { λ _. ⌜ ((c : Config) → stateOf c (now (m .exit)) ≡ waits c (stateOf c (now (m .entry))) (fetching node opened (writing position (now (bytes .entry))) 0) gatheredNone) ⌝ }
+    ensures { λ _. ⌜ numbersOf (memOf (now (m .exit)) .head) ≡ writeNumbers (numbersOf (memOf (now (m .entry)) .head)) node opened position (length (now (bytes .entry))) ⌝ }
+    ensures { λ _. ⌜ length (now (m .exit)) ≡ length (now (m .entry)) ⌝ }
+{
+    let n = bytes.len();
+    memory::stage(m, 0, bytes);
+    clear(m);
+    memory::put_head(m, header::CALL, calls::FETCHING);
+    memory::put_head(m, header::NODE, node as u64);
+    memory::put_head(m, header::OPENED, opened as u64);
+    memory::put_head(m, header::POSITION, position as u64);
+    memory::put_head(m, header::BYTES, n as u64);
+}
+
+// A truncation to a smaller size waits: nothing is asked yet.
+pub fn wait_shrink(m: &mut [u8], node: usize, opened: usize, size: usize)
+    requires { ⌜ (node < NODES) × (opened < openRows) × (size ≤ FILE-BYTES) × (memorySize ≤ length (now m)) ⌝ }
+    ensures { λ _. ⌜ ((c : Config) → stateOf c (now (m .exit)) ≡ waits c (stateOf c (now (m .entry))) (fetching node opened (shrinking size) 0) gatheredNone) ⌝ }
+    ensures { λ _. ⌜ numbersOf (memOf (now (m .exit)) .head) ≡ shrinkNumbers (numbersOf (memOf (now (m .entry)) .head)) node opened size ⌝ }
+    ensures { λ _. ⌜ length (now (m .exit)) ≡ length (now (m .entry)) ⌝ }
+{
+    clear(m);
+    memory::put_head(m, header::CALL, calls::SHRINK_FETCHING);
+    memory::put_head(m, header::NODE, node as u64);
+    memory::put_head(m, header::OPENED, opened as u64);
+    memory::put_head(m, header::SIZE, size as u64);
+}
+
+// A change goes on: what it waits for now (calls.rt), and the page that is asked.
+pub fn wait_further(m: &mut [u8], call: u64, page: usize)
+    requires { ⌜ (9 ≤ numbersOf (memOf (now m) .head) .call) × (numbersOf (memOf (now m) .head) .call ≤ 13) × (9 ≤ call) × (call ≤ 13) × (page ≤ filePages) × (memorySize ≤ length (now m)) ⌝ }
+    ensures { λ _. ⌜ ((c : Config) → stateOf c (now (m .exit)) ≡ waits c (stateOf c (now (m .entry))) (pendingIn (goesOn call page (numbersOf (memOf (now (m .entry)) .head))) (memOf (now (m .entry)) .staged)) (stateOf c (now (m .entry)) .progress)) ⌝ }
+    ensures { λ _. ⌜ length (now (m .exit)) ≡ length (now (m .entry)) ⌝ }
+{
+    memory::put_head(m, header::STOPPED, 0);
+    memory::put_head(m, header::CALL, call);
+    memory::put_head(m, header::PAGE, page as u64);
+}
+
+// The same with the digest of the page that goes out, staged behind those before.
+pub fn wait_sent(m: &mut [u8], call: u64, page: usize, digest: [u8; limits::DIGEST_BYTES])
+    requires { ⌜ (9 ≤ numbersOf (memOf (now m) .head) .call) × (numbersOf (memOf (now m) .head) .call ≤ 13) × (9 ≤ call) × (call ≤ 13) × (page ≤ filePages) × (numbersOf (memOf (now m) .head) .digests < newDigests) × (memorySize ≤ length (now m)) ⌝ }
+    ensures { λ _. ⌜ ((c : Config) → stateOf c (now (m .exit)) ≡ waits c (stateOf c (now (m .entry))) (pendingIn (goesOn call page (numbersOf (memOf (now (m .entry)) .head))) (memOf (now (m .entry)) .staged)) (record { bytes = []; digests = stateOf c (now (m .entry)) .progress .digests ++ (digest ∷ []) })) ⌝ }
+    ensures { λ _. ⌜ length (now (m .exit)) ≡ length (now (m .entry)) ⌝ }
+{
+    let k = number(m, header::DIGESTS, memory::NEW_DIGESTS);
+    memory::stage_digest(m, k, digest);
+    memory::put_head(m, header::DIGESTS, k as u64 + 1);
+    wait_further(m, call, page);
 }
 
 // ---- a call ends

@@ -8,13 +8,13 @@ use native.Mathlib.Omega.{arith}
 use lib.ListN.{length}
 use borrow.Author.Tests.{leb-false}
 use Rattle.lists.specs.All.{both}
-use Rattle.lists.specs.Checks.{Check, Passed, decide, decide-ind, decide-map}
+use Rattle.lists.specs.Checks.{Check, Passed}
 use Rattle.lists.specs.LittleEndian.{length-encode}
 use Rattle.filesystem.specs.Tables.{Tables, openAt, setCursor}
 use Rattle.rules.specs.Calls.{Call, close, seek}
 use Rattle.rules.specs.Requests.{idle, asked, closing, closeRequest, storeLength}
 use Rattle.rules.specs.Skeleton.{Config, atFront}
-use Rattle.rules.specs.Rules.{Move, refuse, send, finish, callChecks, callAction, handleCheck, openPlace}
+use Rattle.rules.specs.Rules.{send, finish, callChecks, callAction, handleCheck, openPlace}
 use Rattle.machine.specs.Machine.{State, guard as digestStore}
 use Rattle.memory.specs.Layout.{Mem, memOf, withOpens}
 use Rattle.tables.specs.View.{View, viewOf}
@@ -24,36 +24,12 @@ use Rattle.guard_state.specs.Waits.{waits, ends}
 use Rattle.handle_calls.specs.declared.Handled.{Handled}
 use Rattle.handle_calls.specs.declared.Handled.the-variants.{Open, Refused as refusedHandle}
 use Rattle.handle_calls.specs.Judged.{handledFor}
+use Rattle.handle_calls.specs.MoveLaws.{move-refused, move-passed, passed-at}
 use Rattle.outcomes.specs.declared.Outcome.{Outcome}
 use Rattle.outcomes.specs.declared.Outcome.the-variants.{Done, Ask, Refused}
 use Rattle.outcomes.specs.Sent.{Sends, refusal-sends, finish-sends, request-sends}
 use Rattle.outcomes.specs.Started.{startedBy}
 use Rattle.handle_calls_begun.specs.Moved.{cursorMoved}
-
--- the move, by the answer
-unfoldable moveOf : Move → Handled → Move
-moveOf x (refusedHandle n) = refuse n
-moveOf x (Open k j) = x
-
-module _ (t : Tables) (h : ℕ) (q : Call) (r : Handled) (e : r ≡ handledFor t h q) where
-  move-known : (x : Move) → decide refuse (callChecks t q) x ≡ moveOf x r
-  unfolding handledFor moveOf
-  move-known x = sym (decide-map refusedHandle (moveOf x) (callChecks t q) _) ∙ ap (moveOf x) (sym e)
-
-  move-refused : (x : Move) (n : ℕ) → r ≡ refusedHandle n → decide refuse (callChecks t q) x ≡ refuse n
-  unfolding moveOf
-  move-refused x n f = move-known x ∙ ap (moveOf x) f
-
-  move-passed : (x : Move) (k j : ℕ) → r ≡ Open k j → decide refuse (callChecks t q) x ≡ x
-  unfolding moveOf
-  move-passed x k j f = move-known x ∙ ap (moveOf x) f
-
-  -- what is known of a call that passes
-  place-passed : (k j : ℕ) → r ≡ Open k j → Passed (callChecks t q) × (openPlace t h ≡ k)
-  unfolding handledFor
-  place-passed k j f =
-      decide-ind refusedHandle (λ y. y ≡ Open k j → Passed (callChecks t q) × (openPlace t h ≡ k)) (callChecks t q) _
-      (λ n g z. absurd (let y : _≡_ {A = ℕ} 0 1 = cc in omega arith)) (λ p z. (p, cc)) (sym e ∙ f)
 
 opened-there : (t : Tables) (h k : ℕ) (cs : List Check) → Passed (handleCheck t h ∷ cs) → openPlace t h ≡ k → k < length (t .opens)
 opened-there t h k cs (both a _) e = subst (λ i. i < length (t .opens)) e (leb-false _ _ a)
@@ -61,11 +37,11 @@ opened-there t h k cs (both a _) e = subst (λ i. i < length (t .opens)) e (leb-
 module _ (t : Tables) (h : ℕ) (r : Handled) (k j : ℕ) (f : r ≡ Open k j) where
   pub close-there : r ≡ handledFor t h (close h) → k < length (t .opens)
   unfolding callChecks
-  close-there e = let p = place-passed t h (close h) r e k j f in opened-there t h k _ (p .0) (p .1)
+  close-there e = let p = passed-at t h (close h) r e k j f in opened-there t h k _ (p .checks) (p .open-place)
 
   pub seek-there : (p : ℕ) → r ≡ handledFor t h (seek h p) → k < length (t .opens)
   unfolding callChecks
-  seek-there n e = let p = place-passed t h (seek h n) r e k j f in opened-there t h k _ (p .0) (p .1)
+  seek-there n e = let p = passed-at t h (seek h n) r e k j f in opened-there t h k _ (p .checks) (p .open-place)
 
 module _ (c : Config) (s : State (digestStore c)) (h : ℕ) (r : Handled) where
   abbrev here : Tables
@@ -81,7 +57,7 @@ module _ (c : Config) (s : State (digestStore c)) (h : ℕ) (r : Handled) where
   unfolding startedBy callAction closeRequest storeLength
   close-sends k j d m q q′ o e f y g u v l =
       let z = move-passed here h (close h) r e _ k j f
-      ∙ ap (λ (i : ℕ). send (asked (closing i)) (closeRequest (openAt (here .opens) i .descriptor))) (place-passed here h (close h) r e k j f .1)
+      ∙ ap (λ (i : ℕ). send (asked (closing i)) (closeRequest (openAt (here .opens) i .descriptor))) (passed-at here h (close h) r e k j f .open-place)
       ∙ ap (λ (i : ℕ). send (asked (closing k)) (closeRequest i)) y in
       request-sends c s _ _ (closeRequest d) m q q′ o z g u v (omega (arith, length-encode 4 d))
 
@@ -89,7 +65,7 @@ module _ (c : Config) (s : State (digestStore c)) (h : ℕ) (r : Handled) where
   unfolding startedBy callAction
   seek-sends k j p m q e f g =
       let z = move-passed here h (seek h p) r e _ k j f
-      ∙ ap (λ (i : ℕ). finish (record { nodes = here .nodes; opens = setCursor (here .opens) i p }) p []) (place-passed here h (seek h p) r e k j f .1) in
+      ∙ ap (λ (i : ℕ). finish (record { nodes = here .nodes; opens = setCursor (here .opens) i p }) p []) (passed-at here h (seek h p) r e k j f .open-place) in
       finish-sends c s _ _ p m q z g
 
 -- the cursor set in memory x, and the call done in memory y

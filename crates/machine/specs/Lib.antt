@@ -6,6 +6,7 @@ pub mod EventLaws
 pub mod LoadLaws
 pub mod PosixLaws
 pub mod StepLengths
+pub mod Consistent
 pub mod Trials
 pub mod Tree
 pub mod History

@@ -63,6 +63,12 @@ module _ (c : Config) where
   unfolding replaced
   length-replaced ds size from new = length-tab _ _
 
+  pub fresh-holds : 1 ≤ c .width → Holds (fresh c (guard c))
+  fresh-holds wide = record {
+    valid = fresh-valid (c .width) wide;
+    pages = record { counted = unfold pagesFor in refl; digested = both none none; sent = none };
+  }
+
   -- what is loaded was so saved
   parsed-shape : {e : Event} → EventBytes e → (s d : List ℕ) (i : Image) → e ≡ load s d → parse (c .width) s ≡ some i → (sound (c .width) i ≡ true) × Shaped i
   unfolding EventBytes
@@ -211,10 +217,7 @@ module _ (c : Config) (digest-fits : (s : List ℕ) → Digest (c .digest s)) wh
     at-end = final c (guard c) (fresh c (guard c)) es
 
     pub always-holds : Holds c at-end
-    always-holds = run-holds (fresh c (guard c)) es a (record {
-      valid = fresh-valid (c .width) wide;
-      pages = record { counted = unfold pagesFor in refl; digested = both none none; sent = none };
-    })
+    always-holds = run-holds (fresh c (guard c)) es a (fresh-holds c wide)
 
     pub always-valid : Valid (c .width) (at-end .skeleton)
     always-valid = always-holds .valid

@@ -11,7 +11,7 @@ use Rattle.filesystem.specs.Tables.{Tables}
 use Rattle.rules.specs.Requests.{Pending}
 use Rattle.rules.specs.Skeleton.{Config, Answer, done, ask, answerBytes, requestBytes, atFront}
 use Rattle.rules.specs.Rules.{Move, refuse, halt, send, finish}
-use Rattle.machine.specs.Machine.{State, Result, ending, apply, guard as digestStore}
+use Rattle.machine.specs.Machine.{State, Result, Gathered, asking, ending, apply, guard as digestStore}
 use Rattle.guard_state.specs.State.{stateOf, gatheredNone}
 use Rattle.guard_state.specs.Waits.{waits, ends, stops}
 use Rattle.outcomes.specs.declared.Outcome.{Outcome}
@@ -73,6 +73,19 @@ module _ (c : Config) (x : Result (digestStore c)) (r : Outcome) where
     request = sym (ap (λ (b : List ℕ). atFront b q) (no-request-bytes r a′ (x .outcome .answer) (h .answer [])) ∙ overwrite-none 0 q 0);
   }
 
+-- a request goes out and the call waits
+pub asking-sends : (c : Config) (s : State (digestStore c)) (y : Result (digestStore c)) (p : Pending) (x : List ℕ) (a : Gathered) (m q q′ : List ℕ) (o : Outcome)
+    → y ≡ asking c (digestStore c) s x p a → stateOf c m ≡ waits c s p a → q′ ≡ atFront x q → o ≡ Ask (length x) → length x ≤ length q → Sends c y o m q q′
+unfolding answerIn requestBytes waits
+asking-sends c s y p x a m q q′ o z g u e h = record {
+  state = g ∙ ap (λ d. d .state) (sym z);
+  answer = λ b.
+      ap (λ (n : Outcome). answerIn n b q′) e
+      ∙ ap ask (ap (take (length x)) u ∙ take-overwrite q 0 x (length x) (omega arith) (omega arith))
+      ∙ ap (λ d. d .outcome .answer) (sym z);
+  request = u ∙ ap (λ d. atFront (requestBytes (d .outcome .answer)) q) (sym z);
+}
+
 -- a move that is known: a refusal changes nothing, a stop is for good, a request goes out and the call waits, a call is done
 module _ (c : Config) (s : State (digestStore c)) (v : Move) where
   pub refusal-sends : (n : ℕ) (m q : List ℕ) → v ≡ refuse n → stateOf c m ≡ s → Sends c (apply c (digestStore c) s v) (Refused n) m q q
@@ -106,12 +119,5 @@ module _ (c : Config) (s : State (digestStore c)) (v : Move) where
 
   pub request-sends : (p : Pending) (x m q q′ : List ℕ) (o : Outcome) → v ≡ send p x → stateOf c m ≡ waits c s p gatheredNone → q′ ≡ atFront x q → o ≡ Ask (length x) → length x ≤ length q
       → Sends c (apply c (digestStore c) s v) o m q q′
-  unfolding apply answerIn requestBytes waits
-  request-sends p x m q q′ o z g u e h = record {
-    state = g ∙ ap (λ d. apply c (digestStore c) s d .state) (sym z);
-    answer = λ a.
-        ap (λ (n : Outcome). answerIn n a q′) e
-        ∙ ap ask (ap (take (length x)) u ∙ take-overwrite q 0 x (length x) (omega arith) (omega arith))
-        ∙ ap (λ d. apply c (digestStore c) s d .outcome .answer) (sym z);
-    request = u ∙ ap (λ d. atFront (requestBytes (apply c (digestStore c) s d .outcome .answer)) q) (sym z);
-  }
+  unfolding apply
+  request-sends p x m q q′ o z g u e h = asking-sends c s _ p x gatheredNone m q q′ o (ap (apply c (digestStore c) s) z) g u e h

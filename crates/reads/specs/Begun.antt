@@ -1,6 +1,6 @@
 -- A read by handle as it begins.
 -- Assumes nothing.
-use mathlib.Core.List.{List, []}
+use mathlib.Core.List.{[]}
 use Prim.Native.Nat.{ℕ, _-_, min}
 use lib.Dec.{eqb}
 use Rattle.lists.specs.Pick.{pick}

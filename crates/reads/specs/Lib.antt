@@ -1,3 +1,4 @@
 pub mod Begun
 pub mod ReadLaws
 pub mod PageLaws
+pub mod Taken

@@ -4,14 +4,10 @@ use mathlib.Core.Path.{_≡_, refl, ap, ap₂, sym, _∙_}
 use mathlib.Core.List.{List, [], _∷_, _++_}
 use Prim.Native.Nat.{ℕ, suc, _+_, _-_, _*_, _<_, _≤_, min, max}
 use native.Mathlib.Omega.{arith}
-use mathlib.Core.Bool.{true, false}
-use lib.Dec.{leb}
-use Rattle.lists.specs.Equal.{equal}
-use Rattle.digest.specs.Sha256.{sha256}
 use lib.ListN.{length, getD, take, length-append}
 use lib.Seq.{length-take-le}
-use borrow.Author.Tests.{le-leb, lt-leb, eq-eqb, ne-eqb}
-use Rattle.lists.specs.Pick.{pick, pick-true, pick-false}
+use borrow.Author.Tests.{le-leb, lt-leb}
+use Rattle.lists.specs.Pick.{pick-true, pick-false}
 use Rattle.lists.specs.PartLaws.{length-part, getD-part, take-overwrite}
 use Rattle.lists.specs.Parts.{part}
 use Rattle.lists.specs.Cells.{tab, tab-cong}
@@ -29,7 +25,7 @@ use Rattle.guard_state.specs.Waits.{waits, ends, restingState}
 use Rattle.outcomes.specs.declared.Outcome.{Outcome}
 use Rattle.outcomes.specs.declared.Outcome.the-variants.{Done, Ask}
 use Rattle.outcomes.specs.Values.{answerIn}
-use Rattle.outcomes.specs.Sent.{Fills, Sends}
+use Rattle.outcomes.specs.Sent.{Fills, Sends, asking-sends}
 use Rattle.reads.specs.Begun.{cursorTo}
 use Rattle.reads.specs.ReadLaws.{fetch-most}
 
@@ -43,19 +39,11 @@ module _ (c : Config) (s : State (digestStore c)) (k o p n i : ℕ) where
   pub next-sends : (d j : ℕ) (b x y m q q′ : List ℕ) (r : Outcome) → d ≡ openAt (s .skeleton .tables .opens) o .descriptor → j ≡ suc i → i * PAGE-BYTES + PAGE-BYTES < p + n → s .progress ≡ gatheredRead b
       → y ≡ pagePart x p n i → stateOf c m ≡ waits c s (reading k o p n j) (gatheredRead (b ++ y)) → q′ ≡ atFront (fetchRequest d j) q → r ≡ Ask (length (fetchRequest d j)) → storeLength ≤ length q
       → Sends c (readOn c (digestStore c) s k o p n i (digestStore c .gather (s .progress) p n i x)) r m q q′
-  unfolding answerIn requestBytes waits
   next-sends d j b x y m q q′ r u v h f g w z e l =
       let a = digestStore c .gather (s .progress) p n i x in
       let t : readOn c (digestStore c) s k o p n i a ≡ asking c (digestStore c) s (fetchRequest d j) (reading k o p n j) (gatheredRead (b ++ y)) =
       asks-next a h ∙ (λ t. asking c (digestStore c) s (fetchRequest (sym u t) (sym v t)) (reading k o p n (sym v t)) (record { bytes = f t .bytes ++ sym g t; digests = f t .digests })) in
-      record {
-        state = w ∙ ap (λ (d : Result (digestStore c)). d .state) (sym t);
-        answer = λ a.
-            ap (λ (n : Outcome). answerIn n a q′) e
-            ∙ ap ask (ap (take (length (fetchRequest d j))) z ∙ take-overwrite q 0 (fetchRequest d j) (length (fetchRequest d j)) (omega arith) (omega (arith, fetch-most d j, l)))
-            ∙ ap (λ (d : Result (digestStore c)). d .outcome .answer) (sym t);
-        request = z ∙ ap (λ (d : Result (digestStore c)). atFront (requestBytes (d .outcome .answer)) q) (sym t);
-      }
+      asking-sends c s _ (reading k o p n j) (fetchRequest d j) (gatheredRead (b ++ y)) m q q′ r t w z e (omega (arith, fetch-most d j, l))
 
 -- a cursor that was set, and nothing pending
 pub cursor-ends : (c : Config) (m x : List ℕ) (o e : ℕ) → o < numbersOf (memOf m .head) .opens → memOf x ≡ withOpens (setCursor (memOf m .opens) o e) (memOf m)

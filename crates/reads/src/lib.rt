@@ -1,8 +1,10 @@
 // A read by handle: begun, done at once or waiting for its first page; and a page that came, judged, staged or put into the answer buffer.
+ghost use mathlib.Core.Bool.{true};
 ghost use mathlib.Core.Path.{_≡_};
 ghost use mathlib.Core.List.{List, _++_};
 ghost use Prim.Native.Nat.{ℕ, _+_, _*_, _<_, _≤_};
 ghost use lib.ListN.{length, take};
+ghost use Rattle.digest.specs.Sha256.{sha256};
 ghost use Rattle.filesystem.specs.Tables.{NODES, PAGE-BYTES, FILE-BYTES, DATA-BYTES, nodeAt, openAt};
 ghost use Rattle.memory.specs.Layout.{memOf, memorySize, openRows};
 ghost use Rattle.rules.specs.Calls.{read};
@@ -11,12 +13,15 @@ ghost use Rattle.rules.specs.Requests.{reading, fetchRequest, storeLength};
 ghost use Rattle.rules.specs.Skeleton.{Config, atFront};
 ghost use Rattle.rules.specs.Rules.{filePlace};
 ghost use Rattle.machine.specs.Machine.{apply, readOn, guard as digestStore};
+ghost use Rattle.machine.specs.Consistent.{Consistent};
 ghost use Rattle.guard_state.specs.State.{numbersOf, stateOf, gatheredNone, gatheredRead, filePages};
 ghost use Rattle.guard_state.specs.Waits.{waits, ends};
 ghost use Rattle.outcomes.specs.declared.Outcome.the-variants.{Ask};
-ghost use Rattle.outcomes.specs.Sent.{Fills, Sends};
+ghost use Rattle.outcomes.specs.Sent.{Fills, Sends, Leaves};
 ghost use Rattle.outcomes.specs.Started.{startedBy};
+ghost use Rattle.outcomes.specs.Answered.{answered};
 ghost use Rattle.reads.specs.Begun.{readOf, leftOf, cursorTo};
+ghost use Rattle.reads.specs.Taken.{InRead};
 
 // The read waits for the page that its position lies in, and asks for it.
 fn fetch(
@@ -86,7 +91,7 @@ pub fn begin_read(m: &mut [u8], handle: u64, count: usize, request: &mut [u8]) -
 // ---- a page came
 
 // A page came and the read is not done: its bytes are staged behind those before, and the read waits for the next page.
-pub fn next_page(
+fn next_page(
     m: &mut [u8],
     node: usize,
     opened: usize,
@@ -129,7 +134,7 @@ fn end_read(m: &mut [u8], opened: usize, end: usize)
 }
 
 // The last page of a read came: its bytes go to the answer buffer behind those that are staged, and the read is done.
-pub fn last_page(
+fn last_page(
     m: &mut [u8],
     opened: usize,
     position: usize,
@@ -153,7 +158,7 @@ pub fn last_page(
 }
 
 // The bytes of a page that lie in the read.
-pub fn page_part(reply: &[u8], position: usize, count: usize, page: usize) -> &[u8]
+fn page_part(reply: &[u8], position: usize, count: usize, page: usize) -> &[u8]
     requires { ⌜ (length (now reply) ≡ PAGE-BYTES) × (position ≤ FILE-BYTES) × (count ≤ DATA-BYTES) × (page ≤ filePages) × (page * PAGE-BYTES < position + count) × (position < page * PAGE-BYTES + PAGE-BYTES) ⌝ }
     ensures { λ r. ⌜ (now r ≡ pagePart (now (reply .entry)) position count page) × (length (now r) ≤ count) ⌝ }
 {
@@ -161,4 +166,87 @@ pub fn page_part(reply: &[u8], position: usize, count: usize, page: usize) -> &[
     let start = numbers::excess(position, at);
     let end = numbers::smaller(position + count - at, limits::PAGE_BYTES);
     &reply[start..end]
+}
+
+// Does the page lie in the read, and the read in a file? Every consistent state's does.
+fn in_read(position: usize, count: usize, page: usize) -> bool
+    requires { ⌜ (position ≤ FILE-BYTES) × (count ≤ DATA-BYTES) × (page ≤ filePages) ⌝ }
+    ensures { λ r. ⌜ (r ≡ true → InRead position count page) × (InRead position count page → r ≡ true) ⌝ }
+{
+    let at = page * limits::PAGE_BYTES;
+    let end = position + count;
+    if end <= at {
+        return false;
+    }
+    if at + limits::PAGE_BYTES <= position {
+        return false;
+    }
+    end <= limits::FILE_BYTES
+}
+
+// The right page of the read came: the next one is asked for, or the read is done. No consistent state has staged more than a read gives.
+fn take_page(
+    m: &mut [u8],
+    node: usize,
+    opened: usize,
+    position: usize,
+    count: usize,
+    page: usize,
+    bytes: usize,
+    reply: &[u8],
+    answer: &mut [u8],
+    request: &mut [u8],
+) -> outcomes::Outcome
+    requires { ⌜ (opened < numbersOf (memOf (now m) .head) .opens) × (InRead position count page) × (length (now reply) ≡ PAGE-BYTES) × (bytes ≤ DATA-BYTES) × (node < NODES) × (opened < openRows) × (count ≤ DATA-BYTES) × (DATA-BYTES ≤ length (now answer)) × (memorySize ≤ length (now m)) × (storeLength ≤ length (now request)) ⌝ }
+    ensures { λ r. ⌜ ((c : Config) → bytes + length (pagePart (now (reply .entry)) position count page) ≤ DATA-BYTES → stateOf c (now (m .entry)) .progress ≡ gatheredRead (take bytes (memOf (now (m .entry)) .staged)) → Leaves c (readOn c (digestStore c) (stateOf c (now (m .entry))) node opened position count page (digestStore c .gather (stateOf c (now (m .entry)) .progress) position count page (now (reply .entry)))) r (now (m .exit)) (now (answer .entry)) (now (answer .exit)) (now (request .entry)) (now (request .exit))) ⌝ }
+    ensures { λ _. ⌜ length (now (m .exit)) ≡ length (now (m .entry)) ⌝ }
+{
+    let more = page_part(reply, position, count, page);
+    if limits::DATA_BYTES < bytes + more.len() {
+        return outcomes::Outcome::Stopped(5);
+    }
+    if page * limits::PAGE_BYTES + limits::PAGE_BYTES < position + count {
+        return next_page(m, node, opened, position, count, page, bytes, more, request);
+    }
+    last_page(m, opened, position, count, bytes, more, answer)
+}
+
+// A page of the read came: the guard stops, or the next page is asked for, or the read is done.
+pub fn accept_page(
+    m: &mut [u8],
+    reply: &[u8],
+    answer: &mut [u8],
+    request: &mut [u8],
+) -> outcomes::Outcome
+    requires { ⌜ (numbersOf (memOf (now m) .head) .call ≡ 8) × (DATA-BYTES ≤ length (now answer)) × (memorySize ≤ length (now m)) × (storeLength ≤ length (now request)) ⌝ }
+    ensures { λ r. ⌜ ((c : Config) → c .digest ≡ sha256 → Consistent c (stateOf c (now (m .entry))) → Leaves c (answered c (stateOf c (now (m .entry))) (now (reply .entry))) r (now (m .exit)) (now (answer .entry)) (now (answer .exit)) (now (request .entry)) (now (request .exit))) ⌝ }
+    ensures { λ _. ⌜ length (now (m .exit)) ≡ length (now (m .entry)) ⌝ }
+{
+    let g = guard_state::Guard::load(m);
+    let b = replies::judge_page(m, g.nodes, g.node, g.page, reply);
+    if b != 0 {
+        guard_state::stop(m);
+        return outcomes::Outcome::Stopped(b);
+    }
+    if reply.len() != limits::PAGE_BYTES {
+        return outcomes::Outcome::Stopped(1);
+    }
+    if g.opens <= g.opened {
+        return outcomes::Outcome::Stopped(5);
+    }
+    if !in_read(g.position, g.count, g.page) {
+        return outcomes::Outcome::Stopped(5);
+    }
+    take_page(
+        m,
+        g.node,
+        g.opened,
+        g.position,
+        g.count,
+        g.page,
+        g.bytes,
+        reply,
+        answer,
+        request,
+    )
 }

@@ -6,7 +6,7 @@ ghost use lib.IntN.{pos};
 ghost use mathlib.Core.Bool.{true};
 ghost use lib.ListN.{length, getD, take};
 ghost use Rattle.lists.specs.LittleEndian.{encode};
-ghost use Rattle.filesystem.specs.Tables.{NODES, PAGES, ID-BYTES, nodeAt, pagesFor, pageTotal};
+ghost use Rattle.filesystem.specs.Tables.{NODES, PAGES, PAGE-BYTES, ID-BYTES, nodeAt, pagesFor, pageTotal};
 ghost use Rattle.filesystem.specs.Image.{soundNodes, divide};
 ghost use Rattle.memory.specs.Layout.{memOf, memorySize, openRows};
 ghost use Rattle.tables.specs.View.{tablesIn};
@@ -104,6 +104,7 @@ pub fn judge_stat(m: &[u8], n: usize, k: usize, reply: &[u8]) -> u8
 pub fn judge_page(m: &[u8], n: usize, k: usize, i: usize, reply: &[u8]) -> u8
     requires { ⌜ (n ≤ NODES) × (memorySize ≤ length (now m)) ⌝ }
     ensures { λ r. ⌜ (k < n → i < pagesFor (nodeAt (memOf (now (m .entry)) .nodes) k .size) → pageTotal (take n (memOf (now (m .entry)) .nodes)) ≤ PAGES → r ≡ pageReason (getD (getD (divide (take n (memOf (now (m .entry)) .nodes)) (memOf (now (m .entry)) .digests)) k []) i []) (now (reply .entry))) ⌝ }
+    ensures { λ r. ⌜ (r ≡ 0 → length (now (reply .entry)) ≡ PAGE-BYTES) ⌝ }
 {
     if reply.len() != limits::PAGE_BYTES {
         return 1;

@@ -1,14 +1,15 @@
-// The reply to a call of one request taken: the guard stops, or the tables change and the call is done. Each function asks that its call is the pending
-// one; its promise takes as a premise what valid tables have.
+// The reply to a call of one request taken: the guard stops, or the call is done, and either the tables change or the reply is the answer. Each function
+// asks that its call is the pending one; its promise takes as a premise what valid tables have.
 ghost use mathlib.Core.Path.{_≡_};
 ghost use mathlib.Core.List.{List};
 ghost use Prim.Native.Nat.{ℕ, _<_, _≤_};
 ghost use lib.ListN.{length};
 ghost use Rattle.filesystem.specs.Tables.{NODES, PAGES, NAME-BYTES, ID-BYTES, pageTotal};
 ghost use Rattle.memory.specs.Layout.{memOf, memorySize, openRows};
-ghost use Rattle.rules.specs.Skeleton.{Config};
+ghost use Rattle.rules.specs.Skeleton.{Config, answerLength};
+ghost use Rattle.rules.specs.Valid.{ValidNodes};
 ghost use Rattle.guard_state.specs.State.{numbersOf, stateOf};
-ghost use Rattle.outcomes.specs.Sent.{Sends};
+ghost use Rattle.outcomes.specs.Sent.{Sends, Fills};
 ghost use Rattle.outcomes.specs.Answered.{answered};
 
 // close: the open file is taken out.
@@ -143,5 +144,60 @@ pub fn accept_create(m: &mut [u8], reply: &[u8]) -> outcomes::Outcome
     outcomes::Outcome::Done {
         number: id,
         length: 0,
+    }
+}
+
+// stat: done with the size, and the reply's bytes.
+pub fn accept_stat(m: &mut [u8], reply: &[u8], answer: &mut [u8]) -> outcomes::Outcome
+    requires { ⌜ (numbersOf (memOf (now m) .head) .call ≡ 7) × (memorySize ≤ length (now m)) ⌝ }
+    ensures { λ r. ⌜ ((c : Config) → c .width ≡ ID-BYTES → numbersOf (memOf (now (m .entry)) .head) .node < numbersOf (memOf (now (m .entry)) .head) .nodes → answerLength c ≤ length (now (answer .entry)) → Fills c (answered c (stateOf c (now (m .entry))) (now (reply .entry))) r (now (m .exit)) (now (answer .entry)) (now (answer .exit))) ⌝ }
+    ensures { λ _. ⌜ length (now (m .exit)) ≡ length (now (m .entry)) ⌝ }
+{
+    let g = guard_state::Guard::load(m);
+    let n = g.nodes;
+    let k = g.node;
+    if n <= k {
+        return outcomes::Outcome::Stopped(6);
+    }
+    let b = replies::judge_stat(m, n, k, reply);
+    if b != 0 {
+        guard_state::stop(m);
+        return outcomes::Outcome::Stopped(b);
+    }
+    if answer.len() < reply.len() {
+        return outcomes::Outcome::Stopped(6);
+    }
+    let size = memory::node_size(m, k);
+    buffers::put(answer, 0, reply);
+    guard_state::finish(m);
+    outcomes::Outcome::Done {
+        number: size as u64,
+        length: reply.len(),
+    }
+}
+
+// readdir: done with the number of entries, and the reply's bytes. A right listing is no longer than the answer buffer.
+pub fn accept_listing(m: &mut [u8], reply: &[u8], answer: &mut [u8]) -> outcomes::Outcome
+    requires { ⌜ (numbersOf (memOf (now m) .head) .call ≡ 6) × (memorySize ≤ length (now m)) ⌝ }
+    ensures { λ r. ⌜ ((c : Config) → c .width ≡ ID-BYTES → ValidNodes ID-BYTES (stateOf c (now (m .entry)) .skeleton .tables .nodes) → numbersOf (memOf (now (m .entry)) .head) .node < numbersOf (memOf (now (m .entry)) .head) .nodes → answerLength c ≤ length (now (answer .entry)) → Fills c (answered c (stateOf c (now (m .entry))) (now (reply .entry))) r (now (m .exit)) (now (answer .entry)) (now (answer .exit))) ⌝ }
+    ensures { λ _. ⌜ length (now (m .exit)) ≡ length (now (m .entry)) ⌝ }
+{
+    let g = guard_state::Guard::load(m);
+    let n = g.nodes;
+    let id = memory::node_id(m, g.node);
+    let b = replies::judge_listing(m, n, id, reply);
+    if b != 0 {
+        guard_state::stop(m);
+        return outcomes::Outcome::Stopped(b);
+    }
+    if answer.len() < reply.len() {
+        return outcomes::Outcome::Stopped(7);
+    }
+    let count = tables::count_children(m, n, id);
+    buffers::put(answer, 0, reply);
+    guard_state::finish(m);
+    outcomes::Outcome::Done {
+        number: count as u64,
+        length: reply.len(),
     }
 }

@@ -13,7 +13,9 @@ ghost use Rattle.requests.specs.PathRequests.{hasNumber, pathRequest};
 ghost use Rattle.requests.specs.StoredPages.{zeros};
 
 // A store: kind, descriptor, page, size, and the page's bytes.
-pub const STORE_LENGTH: usize = 13 + limits::PAGE_BYTES;
+pub const STORE_LENGTH: usize = STORE_FRONT + limits::PAGE_BYTES;
+
+pub const STORE_FRONT: usize = 13;
 
 // The kind of a request and the descriptor, with which all begin.
 fn put_head(out: &mut [u8], kind: u8, descriptor: u32)
@@ -174,7 +176,7 @@ pub fn write_store(
     ensures { λ r. ⌜ (now (out .exit) ≡ atFront (storeRequest descriptor i size (fill (writing position (now (bytes .entry))) i (now (page .entry)))) (now (out .entry))) × (r ≡ storeLength) ⌝ }
 {
     put_store(out, descriptor, i, size);
-    put_written(out, 13, page, position, bytes, i);
+    put_written(out, STORE_FRONT, page, position, bytes, i);
     STORE_LENGTH
 }
 
@@ -191,6 +193,6 @@ pub fn write_store_cut(
     ensures { λ r. ⌜ (now (out .exit) ≡ atFront (storeRequest descriptor i size (fill (shrinking to) i (now (page .entry)))) (now (out .entry))) × (r ≡ storeLength) ⌝ }
 {
     put_store(out, descriptor, i, size);
-    put_cut(out, 13, page, to, i);
+    put_cut(out, STORE_FRONT, page, to, i);
     STORE_LENGTH
 }

@@ -161,7 +161,7 @@ module _ (c : Config) (sk : Skeleton) (v : ValidTables (c .width) (sk .tables)) 
       }
 
   -- a change that begins
-  grow-fits : (h : ℕ) (d : List ℕ) → findHandle os h < length os → (length d ≡ 0 → ⊥) → ltb FILE-BYTES (opened t h .cursor + length d) ≡ false
+  pub grow-fits : (h : ℕ) (d : List ℕ) → findHandle os h < length os → (length d ≡ 0 → ⊥) → ltb FILE-BYTES (opened t h .cursor + length d) ≡ false
       → noRoom t (filePlace t h) (max (file t h .size) (opened t h .cursor + length d)) ≡ false → ChangeFits ns os (filePlace t h) (openPlace t h) (writing (opened t h .cursor) d)
   unfolding sizeAfter noRoom
   grow-fits h d l n a b =
@@ -171,7 +171,7 @@ module _ (c : Config) (sk : Skeleton) (v : ValidTables (c .width) (sk .tables)) 
       (λ x y. omega arith) in
       record { opened = o; fits = (cur, omega arith); most = omega arith; room = ltb-false _ _ b }
 
-  shrink-fits : (h n : ℕ) → findHandle os h < length os → (n ≡ file t h .size → ⊥) → ltb (file t h .size) n ≡ false
+  pub shrink-fits : (h n : ℕ) → findHandle os h < length os → (n ≡ file t h .size → ⊥) → ltb (file t h .size) n ≡ false
       → ChangeFits ns os (filePlace t h) (openPlace t h) (shrinking n)
   unfolding sizeAfter
   shrink-fits h n l d a =
@@ -205,11 +205,11 @@ module _ (c : Config) (sk : Skeleton) (v : ValidTables (c .width) (sk .tables)) 
       pick-ind (Fit e) (eqb n 0) (λ _. fFinish pl v refl)
       (λ x. let z : n ≡ 0 → ⊥ = eqb-false n 0 x in fSend {p = reading (filePlace t h) (openPlace t h) (opened t h .cursor) n (pageAt (opened t h .cursor))} (record { opened = o; within = omega arith; from = omega arith; to = omega arith }) refl (eqb-false 6 7 refl))
 
-  opening-fits : (r : ℕ) (p : Path) → Passed (walkChecks ns 0 p)
+  opening-fits : (r : ℕ) (p : Path) → r ≤ 3 → Passed (walkChecks ns 0 p)
       → Passed ((21, isDirectory (target t p)) ∷ (13, not (covers (target t p .mode) r)) ∷ (16, isOpen t (target t p)) ∷ (24, leb OPEN-FILES (length os)) ∷ [])
       → OpeningFits ns os (walk ns 0 p) r
-  opening-fits r p x (both dir (both _ (both o (both room _)))) =
-      record { known = reached p x; is-file = other-kind _ (reached p x) dir; closed = gone os _ o; room = leb-false _ _ room }
+  opening-fits r p l x (both dir (both _ (both o (both room _)))) =
+      record { known = reached p x; is-file = other-kind _ (reached p x) dir; closed = gone os _ o; rights-fit = l; room = leb-false _ _ room }
 
   rmdir-fits : (p : Path) → Passed (walkChecks ns 0 p)
       → Passed ((16, eqb (walk ns 0 p) 0) ∷ (20, not (isDirectory (target t p))) ∷ (13, not (hasBit 2 (holder t p))) ∷ (39, ltb 0 (length (children ns (target t p .id)))) ∷ [])
@@ -232,7 +232,7 @@ module _ (c : Config) (sk : Skeleton) (v : ValidTables (c .width) (sk .tables)) 
   unfolding callChecks callAction callBytes kindOf closeRequest
   call-fits e pl (create m p) (h, f) a = fSend (new-fits p 1 m f (inl refl) h a) tt (eqb-false 1 7 refl)
   call-fits e pl (mkdir m p) (h, f) a = fSend (new-fits p 2 m f (inr refl) h a) tt (eqb-false 2 7 refl)
-  call-fits e pl (openAs r p) f a = let (x, y) = reach-walk p _ a in fSend (opening-fits r p x y) tt (eqb-false 3 7 refl)
+  call-fits e pl (openAs r p) ((_, l), f) a = let (x, y) = reach-walk p _ a in fSend (opening-fits r p l x y) tt (eqb-false 3 7 refl)
   call-fits e pl (close h) f (both o _) = fSend (there os _ o) tt (eqb-false 4 7 refl)
   call-fits e pl (seek h n) f a =
       let (o, l) = seek-exactly t h n .0 a in

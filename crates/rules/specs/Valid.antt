@@ -66,6 +66,7 @@ module _ (ns : List Node) (os : List OpenFile) where
     pub known : k < length ns
     pub is-file : isFile (nodeAt ns k) ≡ true
     pub closed : length os ≤ findHandle os (nodeAt ns k .id)
+    pub rights-fit : rights ≤ 3
     pub room : length os < OPEN-FILES
 
   -- neither the root nor a directory with children, nor open

@@ -1,6 +1,9 @@
 // Decimal numbers.
 ghost use mathlib.Core.Path.{_≡_};
+ghost use Prim.Native.Nat.{_≤_};
+ghost use lib.ListN.{length, drop};
 ghost use Rattle.text.specs.Decimal.{readDecimal};
+ghost use Rattle.text.specs.Digits.{decimalOf};
 
 // A number below a thousand millions, or bad text.
 pub enum Decimal {
@@ -38,4 +41,21 @@ pub fn read(text: &[u8]) -> Decimal
         i += 1;
     }
     Decimal::Value(n)
+}
+
+// Writes the digits of n to the end of `out`, and answers where they begin.
+pub fn write(n: u64, out: &mut [u8]) -> usize
+    requires { ⌜ 20 ≤ length (now out) ⌝ }
+    ensures { λ r. ⌜ (r ≤ length (now (out .exit))) × (drop r (now (out .exit)) ≡ decimalOf n) ⌝ }
+{
+    let mut i = out.len() - 1;
+    let mut rest = n;
+    // the digits behind i are n's last, rest has the others
+    while 10 <= rest {
+        out[i] = 48 + (rest % 10) as u8;
+        i -= 1;
+        rest /= 10;
+    }
+    out[i] = 48 + (rest % 10) as u8;
+    i
 }

@@ -10,7 +10,8 @@ use Rattle.rules.specs.Calls.{read}
 use Rattle.handle_calls.specs.Judged.{handledFor}
 use Rattle.guard_state.specs.declared.Guard.{Guard}
 use Rattle.guard_state.specs.State.{stateOf}
-use Rattle.reads.specs.ReadLaws.{nodes-fit, opens-fit, tables-loaded, read-place, read-file, refused-sends, read-sends}
+use Rattle.guard_state.specs.LoadedLaws.{counts-fit, tables-loaded}
+use Rattle.reads.specs.ReadLaws.{read-place, read-file, refused-sends, read-sends}
 use borrow.Author.Needs.{needs}
 use Rattle.reads.proofs.begin_read.Statement.{statement}
 use Rattle.reads.proofs.begin_read.Tie as tie
@@ -19,7 +20,7 @@ judge-read-requires : tie.Need-judge-read-requires
 judge-read-requires c κs =
     let l = c .before in
     let a = l .before .before .before .before .args in
-    (nodes-fit (a .m .now) _ (l .load .ensures), opens-fit (a .m .now) _ (l .load .ensures), omega arith)
+    (counts-fit (a .m .now) _ (l .load .ensures) .0, counts-fit (a .m .now) _ (l .load .ensures) .1, omega arith)
 
 read-at-requires : tie.Need-read-at-requires
 unfolding tablesIn
@@ -28,12 +29,12 @@ read-at-requires c κs =
     let j = v .before .before in
     let l = j .before .before in
     let a = l .before .before .before .before .args in
-    let o = opens-fit (a .m .now) _ (l .load .ensures) in
+    let o = counts-fit (a .m .now) _ (l .load .ensures) .1 in
     let p = read-place (tablesIn (l .load .result .nodes) (l .load .result .opens) (memOf (a .m .now))) (a .handle) (a .count) _ (j .judge-read .ensures (a .count)) _ _ (v .j .given .1) in
     let n = count-opens (a .m .now) (l .load .result .opens) o in (
       ap (λ (x : Guard). x .nodes) (l .load .ensures),
       omega (arith, p, n, ap (λ (x : Guard). x .opens) (l .load .ensures)),
-      nodes-fit (a .m .now) _ (l .load .ensures),
+      counts-fit (a .m .now) _ (l .load .ensures) .0,
       omega (arith, p, n, o),
       omega arith,
       omega arith,

@@ -8,10 +8,19 @@ use Rattle.replies.proofs.judge_page.Statement.{statement}
 use Rattle.replies.proofs.judge_page.Tie as tie
 
 returns : tie.Need-returns
-returns c h f g = page-short _ (c .before .before .before .args .reply .now) (c .if1 .taken)
+returns c = (λ h f g. page-short _ (c .before .before .before .args .reply .now) (c .if1 .taken), λ e. absurd (omega arith))
+
+returns-2 : tie.Need-returns-2
+returns-2 c = (λ h f g. absurd (omega (arith, c .if2 .taken)), λ e. absurd (omega arith))
 
 returns-3 : tie.Need-returns-3
-returns-3 c h f g = absurd (omega (arith, c .if3 .taken, f, c .before .pages-for .ensures .0 ∙ ap pagesFor (c .before .before .node-size .ensures)))
+returns-3 c = (
+  λ h f g. absurd (omega (arith, c .if3 .taken, f, c .before .pages-for .ensures .0 ∙ ap pagesFor (c .before .before .node-size .ensures))),
+  λ e. absurd (omega arith),
+)
+
+returns-4 : tie.Need-returns-4
+returns-4 c = (λ h f g. absurd (omega (arith, c .if4 .taken, g, c .before .first-page .ensures .0)), λ e. absurd (omega arith))
 
 is-page-requires : tie.Need-is-page-requires
 is-page-requires c κs =
@@ -24,16 +33,16 @@ is-page-requires c κs =
     )
 
 returns-5 : tie.Need-returns-5
-returns-5 c h f g =
+returns-5 c =
     let i = c .before .before .before .before .before .before .before .before in
     let a = i .before .before .before .args in
-    page-right _ (a .reply .now) (i .if1 .left) (sym (c .before .is-page .ensures) ∙ c .if5 .taken)
+    (λ h f g. page-right _ (a .reply .now) (i .if1 .left) (sym (c .before .is-page .ensures) ∙ c .if5 .taken), λ e. i .if1 .left)
 
 returns-6 : tie.Need-returns-6
-returns-6 c h f g =
+returns-6 c =
     let i = c .before .before .before .before .before .before .before .before in
     let a = i .before .before .before .args in
-    page-wrong _ (a .reply .now) (i .if1 .left) (sym (c .before .is-page .ensures) ∙ c .if5 .left)
+    (λ h f g. page-wrong _ (a .reply .now) (i .if1 .left) (sym (c .before .is-page .ensures) ∙ c .if5 .left), λ e. absurd (omega arith))
 
 pub judge-page-spec : {M : Type 1} → statement M
-judge-page-spec = tie.close (tie.spec returns (λ c. search needs) (λ c κs. search needs) (λ c κs. search needs) returns-3 (λ c κs. search needs) (λ c. search needs) is-page-requires returns-5 returns-6)
+judge-page-spec = tie.close (tie.spec returns returns-2 (λ c κs. search needs) (λ c κs. search needs) returns-3 (λ c κs. search needs) returns-4 is-page-requires returns-5 returns-6)

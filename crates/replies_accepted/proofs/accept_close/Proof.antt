@@ -9,7 +9,9 @@ use Rattle.replies.specs.JudgedLaws.{closing-reason}
 use Rattle.guard_state.specs.State.{numbersOf, stateOf}
 use Rattle.guard_state.specs.Waits.{restingState}
 use Rattle.guard_state.specs.LoadedLaws.{counts-fit}
-use Rattle.replies_accepted.specs.AnsweredLaws.{answer-stops, answer-finishes, close-pending, close-ends}
+use Rattle.guard_state.specs.PendingLaws.{close-pending}
+use Rattle.replies.specs.TakenLaws.{answer-stops, answer-finishes}
+use Rattle.replies_accepted.specs.AnsweredLaws.{close-ends}
 use borrow.Author.Needs.{needs}
 use Rattle.replies_accepted.proofs.accept_close.Statement.{statement}
 use Rattle.replies_accepted.proofs.accept_close.Tie as tie

@@ -18,7 +18,9 @@ use Rattle.guard_state.specs.declared.Guard.{Guard}
 use Rattle.guard_state.specs.State.{numbersOf, stateOf}
 use Rattle.guard_state.specs.Waits.{ends, restingState}
 use Rattle.guard_state.specs.LoadedLaws.{counts-fit, tables-loaded}
-use Rattle.replies_accepted.specs.AnsweredLaws.{answer-stops, answer-adds, creating-long, create-pending, create-ends}
+use Rattle.guard_state.specs.PendingLaws.{create-pending}
+use Rattle.replies.specs.TakenLaws.{answer-stops, answer-adds, creating-long}
+use Rattle.replies_accepted.specs.AnsweredLaws.{create-ends}
 use borrow.Author.Needs.{needs}
 use Rattle.replies_accepted.proofs.accept_create.Statement.{statement}
 use Rattle.replies_accepted.proofs.accept_create.Tie as tie

@@ -19,7 +19,9 @@ use Rattle.guard_state.specs.declared.Guard.{Guard}
 use Rattle.guard_state.specs.State.{numbersOf, stateOf}
 use Rattle.guard_state.specs.Waits.{ends, restingState}
 use Rattle.guard_state.specs.LoadedLaws.{counts-fit, tables-loaded}
-use Rattle.replies_accepted.specs.AnsweredLaws.{answer-stops, answer-finishes, opening-long, open-pending, open-ends}
+use Rattle.guard_state.specs.PendingLaws.{open-pending}
+use Rattle.replies.specs.TakenLaws.{answer-stops, answer-finishes, opening-long}
+use Rattle.replies_accepted.specs.AnsweredLaws.{open-ends}
 use borrow.Author.Needs.{needs}
 use Rattle.replies_accepted.proofs.accept_open.Statement.{statement}
 use Rattle.replies_accepted.proofs.accept_open.Tie as tie

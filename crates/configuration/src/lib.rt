@@ -1,0 +1,1 @@
+// The configuration that is delivered: definitions only (specs/Delivered.antt).

@@ -1,0 +1,5 @@
+pub mod Lines
+pub mod LineLaws
+pub mod Spelled
+pub mod Printing
+pub mod Examples

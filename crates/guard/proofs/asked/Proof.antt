@@ -1,0 +1,17 @@
+-- `guard::asked` meets its contract. Assumes nothing.
+use mathlib.Core.Path.{ap, sym}
+use Rattle.outcomes.specs.Values.{kindOf, valueOf, lengthOf}
+use Rattle.guard.specs.Promise.{shownAs}
+use borrow.Author.Needs.{needs}
+use Rattle.guard.proofs.asked.Statement.{statement}
+use Rattle.guard.proofs.asked.Tie as tie
+
+returns : tie.Need-returns
+returns c = c .ended .ensures
+
+returns-2 : tie.Need-returns-2
+unfolding shownAs kindOf valueOf lengthOf
+returns-2 c = sym (ap shownAs (c .before .o .given .1))
+
+pub asked-spec : {M : Type 1} → statement M
+asked-spec = tie.close (tie.spec (λ c. search needs) (λ c κs. search needs) returns returns-2)

@@ -1,0 +1,66 @@
+-- `truncations::begin_truncate` meets its contract. Assumes nothing.
+use native.Mathlib.Omega.{arith}
+use mathlib.Core.Path.{refl, ap, _∙_}
+use Rattle.filesystem.specs.Tables.{Tables}
+use Rattle.memory.specs.Layout.{memOf}
+use Rattle.tables.specs.View.{tablesIn}
+use Rattle.tables.specs.RowsInUse.{count-opens}
+use Rattle.rules.specs.Calls.{truncate}
+use Rattle.handle_calls.specs.Judged.{handledFor}
+use Rattle.guard_state.specs.State.{stateOf}
+use Rattle.guard_state.specs.LoadedLaws.{counts-fit, tables-loaded}
+use Rattle.changes.specs.BegunLaws.{call-refused, call-passed}
+use Rattle.truncations.specs.TruncateLaws.{truncate-place}
+use borrow.Author.Needs.{needs}
+use Rattle.truncations.proofs.begin_truncate.Statement.{statement}
+use Rattle.truncations.proofs.begin_truncate.Tie as tie
+
+judge-truncate-requires : tie.Need-judge-truncate-requires
+judge-truncate-requires c κs =
+    let l = c .before in
+    let a = l .before .before .before .before .args in
+    (counts-fit (a .m .now) _ (l .load .ensures) .0, counts-fit (a .m .now) _ (l .load .ensures) .1, omega arith)
+
+truncate-at-requires : tie.Need-truncate-at-requires
+unfolding tablesIn
+truncate-at-requires c κs =
+    let v = c .before .before .before in
+    let j = v .before .before in
+    let l = j .before .before in
+    let b = l .before .before .before .before in
+    let a = b .args in
+    let o = counts-fit (a .m .now) _ (l .load .ensures) .1 in
+    let p = truncate-place (tablesIn (l .load .result .nodes) (l .load .result .opens) (memOf (a .m .now))) (a .handle) (a .size) _ (j .judge-truncate .ensures) _ _ (v .j .given .1) in
+    (omega (arith, p, o, count-opens (a .m .now) (l .load .result .opens) o), omega arith, omega (arith, b .pre .1))
+
+returns : tie.Need-returns
+returns c =
+    let s = c .before .before .before .before in
+    let v = s .before .before .before .before in
+    let j = v .before .before in
+    let l = j .before .before in
+    let a = l .before .before .before .before .args in (
+      λ d h.
+          call-passed d (stateOf d (a .m .now)) (a .handle) (truncate (a .handle) (a .size)) _
+          (j .judge-truncate .ensures ∙ ap (λ (x : Tables). handledFor x (a .handle) (truncate (a .handle) (a .size))) (tables-loaded (a .m .now) _ (l .load .ensures) d))
+          _ _ (v .j .given .1) _ _ (a .request .now) _ (s .truncate-at .ensures .0 d h (a .handle)),
+      omega arith,
+    )
+
+returns-2 : tie.Need-returns-2
+returns-2 c =
+    let v = c .before in
+    let j = v .before .before in
+    let l = j .before .before in
+    let a = l .before .before .before .before .args in (
+      λ d h.
+          call-refused d (stateOf d (a .m .now)) (a .handle) (truncate (a .handle) (a .size)) _
+          (j .judge-truncate .ensures ∙ ap (λ (x : Tables). handledFor x (a .handle) (truncate (a .handle) (a .size))) (tables-loaded (a .m .now) _ (l .load .ensures) d))
+          _ (a .m .now) (a .request .now) (v .j2 .given .1) refl,
+      refl,
+    )
+
+pub begin-truncate-spec : {M : Type 1} → statement M
+begin-truncate-spec =
+    tie.close
+    (tie.spec (λ c κs. search needs) judge-truncate-requires (λ c. search needs) truncate-at-requires (λ c. search needs) (λ c. search needs) (λ c. search needs) returns (λ c. search needs) returns-2)

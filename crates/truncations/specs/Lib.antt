@@ -1,0 +1,4 @@
+pub mod Shrinking
+pub mod CutLaws
+pub mod RepliedLaws
+pub mod TruncateLaws

@@ -1,0 +1,67 @@
+-- `writes::begin_write` meets its contract. Assumes nothing.
+use native.Mathlib.Omega.{arith}
+use mathlib.Core.Path.{refl, ap, _∙_}
+use Rattle.filesystem.specs.Tables.{Tables}
+use Rattle.memory.specs.Layout.{memOf}
+use Rattle.tables.specs.View.{tablesIn}
+use Rattle.tables.specs.RowsInUse.{count-opens}
+use Rattle.rules.specs.Calls.{write}
+use Rattle.handle_calls.specs.Judged.{handledFor}
+use Rattle.guard_state.specs.State.{stateOf}
+use Rattle.guard_state.specs.LoadedLaws.{counts-fit, tables-loaded}
+use Rattle.changes.specs.BegunLaws.{call-refused, call-passed}
+use Rattle.writes.specs.WriteLaws.{write-place}
+use borrow.Author.Needs.{needs}
+use Rattle.writes.proofs.begin_write.Statement.{statement}
+use Rattle.writes.proofs.begin_write.Tie as tie
+
+judge-write-requires : tie.Need-judge-write-requires
+judge-write-requires c κs =
+    let l = c .before in
+    let a = l .before .before .before .before .before .args in
+    (counts-fit (a .m .now) _ (l .load .ensures) .0, counts-fit (a .m .now) _ (l .load .ensures) .1, omega arith)
+
+write-at-requires : tie.Need-write-at-requires
+unfolding tablesIn
+write-at-requires c κs =
+    let v = c .before .before .before in
+    let j = v .before .before in
+    let l = j .before .before in
+    let b = l .before .before .before .before .before in
+    let a = b .args in
+    let o = counts-fit (a .m .now) _ (l .load .ensures) .1 in
+    let p = write-place (tablesIn (l .load .result .nodes) (l .load .result .opens) (memOf (a .m .now))) (a .handle) (a .bytes .now) _ (j .judge-write .ensures) _ _ (v .j .given .1) in
+    (omega (arith, p, o, count-opens (a .m .now) (l .load .result .opens) o), b .pre .0, omega arith, omega (arith, b .pre .2))
+
+returns : tie.Need-returns
+returns c =
+    let s = c .before .before .before .before in
+    let v = s .before .before .before .before in
+    let j = v .before .before in
+    let l = j .before .before in
+    let a = l .before .before .before .before .before .args in (
+      λ d u h.
+          call-passed d (stateOf d (a .m .now)) (a .handle) (write (a .handle) (a .bytes .now)) _
+          (j .judge-write .ensures ∙ ap (λ (x : Tables). handledFor x (a .handle) (write (a .handle) (a .bytes .now))) (tables-loaded (a .m .now) _ (l .load .ensures) d))
+          _ _ (v .j .given .1) _ _ (a .request .now) _ (s .write-at .ensures .0 d u h (a .handle)),
+      omega arith,
+    )
+
+returns-2 : tie.Need-returns-2
+returns-2 c =
+    let v = c .before in
+    let j = v .before .before in
+    let l = j .before .before in
+    let a = l .before .before .before .before .before .args in (
+      λ d u h.
+          call-refused d (stateOf d (a .m .now)) (a .handle) (write (a .handle) (a .bytes .now)) _
+          (j .judge-write .ensures ∙ ap (λ (x : Tables). handledFor x (a .handle) (write (a .handle) (a .bytes .now))) (tables-loaded (a .m .now) _ (l .load .ensures) d))
+          _ (a .m .now) (a .request .now) (v .j2 .given .1) refl,
+      refl,
+    )
+
+pub begin-write-spec : {M : Type 1} → statement M
+begin-write-spec =
+    tie.close
+    (tie.spec (λ c κs. search needs) judge-write-requires (λ c. search needs) write-at-requires (λ c. search needs) (λ c. search needs) (λ c. search needs)
+    returns (λ c. search needs) returns-2)

@@ -1,0 +1,6 @@
+pub mod Writing
+pub mod FetchLaws
+pub mod StoreLaws
+pub mod PageLaws
+pub mod RepliedLaws
+pub mod WriteLaws
