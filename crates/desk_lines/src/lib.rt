@@ -122,7 +122,7 @@ fn put_counted(out: &mut [u8], word: &[u8], number: u64) -> usize
 }
 
 // The first n bytes, or all where there are fewer.
-fn first(bytes: &[u8], n: usize) -> &[u8]
+pub fn first(bytes: &[u8], n: usize) -> &[u8]
     ensures { λ r. ⌜ (now r ≡ take n (now (bytes .entry))) × (length (now r) ≤ length (now (bytes .entry))) ⌝ }
 {
     if bytes.len() < n {
