@@ -1,12 +1,13 @@
 -- What the guard's entries promise: each one's memory, outcome and buffers are those of the machine's step.
 -- Assumes nothing.
 use mathlib.Core.Path.{_≡_}
-use mathlib.Core.List.{List}
+use mathlib.Core.List.{List, []}
 use Prim.Native.Nat.{ℕ, _<_, _≤_}
 use lib.IntN.{pos}
 use lib.ListN.{length}
 use Rattle.memory.specs.Layout.{memorySize}
-use Rattle.rules.specs.Skeleton.{Event, EventBytes, Buffers, buffersAfter}
+use Rattle.filesystem.specs.Tables.{DIGEST-BYTES}
+use Rattle.rules.specs.Skeleton.{Event, save, load, EventBytes, Buffers, buffersAfter, atFront, imageAfter}
 use Rattle.configuration.specs.Delivered.{delivered}
 use Rattle.machine.specs.Machine.{State, Result, step, fresh, guard as digestStore}
 use Rattle.machine.specs.Consistent.{Consistent}
@@ -47,6 +48,24 @@ pub record Promise (m : List ℕ) (e : Event) (r : Outcome) (m′ : List ℕ) (b
 pub record FreshPromise (m : List ℕ) (r : Outcome) (m′ : List ℕ) : Type 0 where
   pub same-length : length m′ ≡ length m
   pub state : memorySize ≤ length m → held m′ ≡ fresh delivered (digestStore delivered)
+  pub short : length m < memorySize → (r ≡ Refused 34) × (m′ ≡ m)
+
+-- Of a save: the memory, the image buffer and the digest's 32 bytes, before m, i, d, afterwards m′, i′, d′. A refused save leaves all three alone.
+pub record SavePromise (m : List ℕ) (r : Outcome) (m′ i i′ d d′ : List ℕ) : Type 0 where
+  pub same-length : length m′ ≡ length m
+  pub room : length d ≡ DIGEST-BYTES
+  pub state : Kept m → held m′ ≡ stepped m (save (length i)) .state
+  pub answer : Kept m → answerIn r i′ [] ≡ stepped m (save (length i)) .outcome .answer
+  pub image : Kept m → i′ ≡ imageAfter (stepped m (save (length i)) .outcome .answer) i
+  pub digest : Kept m → d′ ≡ atFront (stepped m (save (length i)) .outcome .digest) d
+  pub short : length m < memorySize → (r ≡ Refused 34) × (m′ ≡ m) × (i′ ≡ i) × (d′ ≡ d)
+
+-- Of a load of image i with digest d.
+pub record LoadPromise (m i d : List ℕ) (r : Outcome) (m′ : List ℕ) : Type 0 where
+  pub bytes : EventBytes (load i d)
+  pub same-length : length m′ ≡ length m
+  pub state : Kept m → held m′ ≡ stepped m (load i d) .state
+  pub answer : Kept m → answerIn r [] [] ≡ stepped m (load i d) .outcome .answer
   pub short : length m < memorySize → (r ≡ Refused 34) × (m′ ≡ m)
 
 -- What C sees of an outcome.
