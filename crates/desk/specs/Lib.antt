@@ -1,2 +1,4 @@
 pub mod Answered
 pub mod AnsweredLaws
+pub mod Session
+pub mod SessionLaws

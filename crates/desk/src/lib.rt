@@ -1,9 +1,11 @@
-// One line of the desk: read, handed in to the guard, its answer's line written (document 01, 'Marked trials').
+// The desk: lines read, handed in to the guard, their answers' lines written (document 01, 'Marked trials').
 ghost use mathlib.Core.Path.{_≡_};
-ghost use Prim.Native.Nat.{_+_, _*_, _≤_};
+ghost use Prim.Native.Nat.{_+_, _-_, _*_, _≤_};
 ghost use lib.ListN.{length};
+ghost use Rattle.lists.specs.Parts.{part};
 ghost use Rattle.desk_lines.specs.Lines.{mostBytes, lineOf, callLine, replyLine};
 ghost use Rattle.desk.specs.Answered.{Answers};
+ghost use Rattle.desk.specs.Session.{AnswersAt, AnswersLines};
 
 // A call, from its bytes.
 fn answer_call(memory: &mut [u8], bytes: &[u8], out: &mut [u8]) -> usize
@@ -39,4 +41,45 @@ pub fn answer_line(memory: &mut [u8], line: &[u8], out: &mut [u8]) -> usize
         desk_lines::Line::Reply(n) => answer_reply(memory, desk_lines::first(&bytes, n), out),
         desk_lines::Line::Bad => desk_lines::write_bad(out),
     }
+}
+
+// ---- lines one after another
+
+// How far the lines that were answered reach in the text, and how much of out their answers fill.
+pub struct Answered {
+    pub at: usize,
+    pub filled: usize,
+}
+
+// The line from `at` to `end`, its answer written from `filled` on: where that ends.
+fn answer_part(
+    memory: &mut [u8],
+    text: &[u8],
+    at: usize,
+    end: usize,
+    out: &mut [u8],
+    filled: usize,
+) -> usize
+    requires { ⌜ (at ≤ end) × (end ≤ length (now text)) × (filled + (29 + 2 * mostBytes) ≤ length (now out)) ⌝ }
+    ensures { λ r. ⌜ AnswersAt (now (memory .entry)) (lineOf (part at (end - at) (now (text .entry)))) filled r (now (memory .exit)) (now (out .entry)) (now (out .exit)) ⌝ }
+{
+    filled + answer_line(memory, &text[at..end], &mut out[filled..])
+}
+
+// The lines that end in the text, as long as out has room for any answer.
+pub fn answer_lines(memory: &mut [u8], text: &[u8], out: &mut [u8]) -> Answered
+    ensures { λ r. ⌜ AnswersLines (now (memory .entry)) (now (text .entry)) (r .at) (r .filled) (now (memory .exit)) (now (out .entry)) (now (out .exit)) ⌝ }
+{
+    let mut at = 0;
+    let mut filled = 0;
+    // the lines before `at` are answered, in the first `filled` bytes of out
+    while desk_lines::LINE_WRITTEN <= out.len() - filled {
+        let end = text::line::end(text, at);
+        if end == text.len() {
+            return Answered { at, filled };
+        }
+        filled = answer_part(memory, text, at, end, out, filled);
+        at = end + 1;
+    }
+    Answered { at, filled }
 }

@@ -4,13 +4,13 @@
 use mathlib.Core.Path.{_≡_, refl, sym, ap, _∙_}
 use mathlib.Core.Bool.{true}
 use mathlib.Core.List.{List, _++_}
-use Prim.Native.Nat.{ℕ, _≤_}
+use Prim.Native.Nat.{ℕ, _+_, _*_, _≤_, _<_}
 use native.Mathlib.Omega.{arith}
-use lib.ListN.{length, drop}
+use lib.ListN.{length, drop, length-append}
 use Rattle.lists.specs.All as all
 use Rattle.lists.specs.Pick.{pick, pick-ind}
 use Rattle.text.specs.Ascii.{ascii}
-use Rattle.text.specs.Hex.{hexOf, bytesOf, decodeOf, length-bytesOf}
+use Rattle.text.specs.Hex.{hexOf, length-hexOf, bytesOf, decodeOf, length-bytesOf}
 use Rattle.text.specs.HexLaws.{bytesOf-hexOf, hexOf-bytesOf, bytesOf-bytes, decodes, decode-hexOf}
 use Rattle.text.specs.Line.{begins, begins-is}
 use Rattle.text.specs.declared.hex.Decoded.{Decoded}
@@ -77,3 +77,20 @@ module _ (b : List ℕ) (bytes : all.Bytes b) (most : length b ≤ mostBytes) wh
   pub reply-spelled : lineOf (ascii "r " ++ hexOf b) ≡ replyLine b
   unfolding ascii begins pick
   reply-spelled = line-reply (ascii "r " ++ hexOf b) refl refl ∙ hex-spelled replyLine
+
+-- so a line that is longer than any good one is bad, whatever its bytes
+pub long-bad : (s : List ℕ) → 2 + 2 * mostBytes < length s → lineOf s ≡ badLine
+long-bad s h = go (lineOf s) (line-is s)
+  where
+    spelled-short : (word b : List ℕ) → length word ≡ 2 → Spells word b s → ⊥
+    spelled-short word b two p =
+        let e = ap length (p .line) in
+        let n = length-append word (hexOf b) in
+        let k = length-hexOf b in
+        let most = p .most in
+        absurd (omega arith)
+
+    go : (x : DeskLine) → LineIs x s → x ≡ badLine
+    go (callLine b) p = absurd (unfold ascii in spelled-short (ascii "c ") b refl p)
+    go (replyLine b) p = absurd (unfold ascii in spelled-short (ascii "r ") b refl p)
+    go badLine p = refl
