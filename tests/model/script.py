@@ -29,15 +29,22 @@ class Unrandom(Random):
 class Script(Recording):
     def __init__(self):
         super().__init__(Unrandom())
+        self.shown = {}
 
-    def expect(self, answer, event):
-        """Sends an event, or a call's bytes, and holds the outcome against an answer's first words."""
+    def expect(self, answer, event, shown=None):
+        """Sends an event, or a call's bytes, and holds the outcome against an answer's first words; a trial shows it in words."""
         self.check(answer, self.send(Call(event) if isinstance(event, bytes) else event), event)
+        self.show(shown)
 
-    def expect_end(self, answer, call):
+    def expect_end(self, answer, call, shown=None):
         """The same for a call's last outcome, after true replies."""
         self.expect("ask", call)
         self.check(answer, self.finish(), call)
+        self.show(shown)
+
+    def show(self, words):
+        if words:
+            self.shown[len(self.steps) - 1] = words
 
     def check(self, answer, outcome, event):
         if not f"{outcome} ".startswith(f"{answer} "):

@@ -1,6 +1,7 @@
 """Lists of events with their answers as a file, for a program that replays them.
 
-    python3 -m model.transcripts > FILE      the same file each time: every script, every dishonest reply, fixed seeds
+    python3 -m model.transcripts > FILE          the same file each time: every script, every dishonest reply, fixed seeds
+    python3 -m model.transcripts trials > FILE   document 01's trials alone, each with its words
 
 One line is one thing; its first character says which. Fields stand one blank apart, numbers are decimal, bytes are
 lower-case hexadecimal, and no bytes are no digits (`c `, `l  `). No line has more than 90,000 characters.
@@ -13,9 +14,12 @@ lower-case hexadecimal, and no bytes are no digits (`c `, `l  `). No line has mo
     l IMAGE DIGEST      a load
     = ANSWER            below each c, r, s and l: what comes back, in deskrun's words; for a save that is done
                         `done LENGTH IMAGE DIGEST`
+    p WORDS             the answer above is printed behind these words
 
 A later kind of event or setting takes a letter of its own, so stored lines stay as they are.
 """
+
+import sys
 
 from . import dishonest, numbers, pages, trials
 from .events import Call, Load, Reply, Save
@@ -38,16 +42,18 @@ def recordings():
         yield f"seed {seed}", generate(seed)
 
 
-def write_list(name, steps):
+def write_list(name, steps, shown={}):
     """The lines of one list."""
     yield f"f {name}"
     buffers = ANSWER, REQUEST
-    for event, outcome in steps:
+    for i, (event, outcome) in enumerate(steps):
         if isinstance(event, (Call, Reply)) and buffers != (event.answer_len, event.request_len):
             buffers = event.answer_len, event.request_len
             yield "b {} {}".format(*buffers)
         yield event_line(event)
         yield f"= {outcome}"
+        if i in shown:
+            yield f"p {shown[i]}"
 
 
 def event_line(event):
@@ -89,8 +95,16 @@ def all_lines():
         yield from write_list(name, recording.steps)
 
 
+def trial_lines():
+    """The trials, their answers shown."""
+    for trial in trials.TRIALS:
+        recording = Script()
+        trial(recording)
+        yield from write_list(trial.__name__, recording.steps, recording.shown)
+
+
 def main():
-    for line in all_lines():
+    for line in trial_lines() if sys.argv[1:] == ["trials"] else all_lines():
         print(line)
 
 

@@ -27,54 +27,54 @@ refused 5
 
 
 def create_modes(s):
-    s.expect("refused 22", calls.create(8, b"/a"))
-    s.expect("ask 01072f61", calls.create(7, b"/a"))
+    s.expect("refused 22", calls.create(8, b"/a"), "create with mode 8")
+    s.expect("ask 01072f61", calls.create(7, b"/a"), "create with mode 7")
 
 
 def create_paths(s):
-    s.expect("refused 17", calls.create(7, b"/"))
-    s.expect("refused 22", calls.create(7, b""))
+    s.expect("refused 17", calls.create(7, b"/"), "create of /")
+    s.expect("refused 22", calls.create(7, b""), "create of an empty path")
 
 
 def names(s):
-    s.expect("refused 36", calls.create(7, b"/" + b"n" * 33))
-    s.expect("ask", calls.create(7, b"/" + b"n" * 32))
+    s.expect("refused 36", calls.create(7, b"/" + b"n" * 33), "a name of 33")
+    s.expect_end("done", calls.create(7, b"/" + b"n" * 32), "a name of 32")
 
 
 def seek_to_the_size(s):
     handle = s.file(b"/a", b"12345")
-    s.expect("refused 22", calls.seek(handle, 6))
-    s.expect("done 5", calls.seek(handle, 5))
+    s.expect("refused 22", calls.seek(handle, 6), "seek beyond the size")
+    s.expect("done 5", calls.seek(handle, 5), "seek to the size")
 
 
 def read_counts(s):
     handle = s.file(b"/a", bytes(4097))
     s.expect("done 0", calls.seek(handle, 0))
-    s.expect("refused 22", calls.read(handle, 4097))
-    s.expect_end("done 4096", calls.read(handle, 4096))
+    s.expect("refused 22", calls.read(handle, 4097), "read of 4,097")
+    s.expect_end("done 4096", calls.read(handle, 4096), "read of 4,096")
 
 
 def largest_file(s):
     handle = s.file(b"/a", bytes(65_535))
-    s.expect_end("done 1", calls.write(handle, b"x"))
-    s.expect("refused 27", calls.write(handle, b"x"))
+    s.expect_end("done 1", calls.write(handle, b"x"), "write of the byte at 65,535")
+    s.expect("refused 27", calls.write(handle, b"x"), "write of the next byte")
 
 
 def create_answered_1(s):
     s.expect("ask", calls.create(7, b"/a"))
-    s.expect("stopped 3", Reply(put(1, 4)))
+    s.expect("stopped 3", Reply(put(1, 4)), "create answered with id 1")
 
 
 def descriptor_1023(s):
     s.do(calls.create(7, b"/a"))
     s.expect("ask", calls.open_(1, b"/a"))
-    s.expect("done", Reply(put(1023, 4)))
+    s.expect("done", Reply(put(1023, 4)), "open answered with descriptor 1,023")
 
 
 def descriptor_1024(s):
     s.do(calls.create(7, b"/a"))
     s.expect("ask", calls.open_(1, b"/a"))
-    s.expect("stopped 4", Reply(put(1024, 4)))
+    s.expect("stopped 4", Reply(put(1024, 4)), "open answered with descriptor 1,024")
 
 
 def two_children(s):
@@ -88,22 +88,22 @@ def two_children(s):
 
 def listed_either_way(s):
     a, b = two_children(s)
-    for listing in (a + b, b + a):
+    for listing, way in ((a + b, "in order"), (b + a, "the other way round")):
         s.expect("ask", calls.readdir(b"/"))
-        s.expect(f"done 2 {listing.hex()}", Reply(listing))
+        s.expect(f"done 2 {listing.hex()}", Reply(listing), f"two children listed {way}")
 
 
 def listed_twice(s):
     a, _ = two_children(s)
     s.expect("ask", calls.readdir(b"/"))
-    s.expect("stopped 7", Reply(a + a))
+    s.expect("stopped 7", Reply(a + a), "one child listed twice")
 
 
 def page_of_1023(s):
     handle = s.file(b"/a", b"12345")
     s.do(calls.seek(handle, 0))
     s.expect("ask", calls.read(handle, 5))
-    s.expect("stopped 1", Reply(b"12345".ljust(PAGE - 1, b"\0")))
+    s.expect("stopped 1", Reply(b"12345".ljust(PAGE - 1, b"\0")), "a page of 1,023 bytes")
 
 
 def opens(s):
@@ -111,14 +111,16 @@ def opens(s):
         s.do(calls.create(7, b"/%d" % i))
     for i in range(32):
         s.expect_end("done", calls.open_(1, b"/%d" % i))
-    s.expect("refused 24", calls.open_(1, b"/32"))
+    s.show("32nd open")
+    s.expect("refused 24", calls.open_(1, b"/32"), "33rd open")
 
 
 def nodes(s):
     for i in range(255):
         s.expect_end("done", calls.create(7, b"/%d" % i))
-    s.expect("refused 28", calls.create(7, b"/255"))
-    s.expect("refused 28", calls.mkdir(7, b"/255"))
+    s.show("256th node")
+    s.expect("refused 28", calls.create(7, b"/255"), "257th node, a file")
+    s.expect("refused 28", calls.mkdir(7, b"/255"), "257th node, a directory")
 
 
 TRIALS = [

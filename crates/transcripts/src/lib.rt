@@ -1,0 +1,188 @@
+// Lists of events written as lines, each with a letter: what a line does to a guard, and the line of its answer. tests/model/transcripts.py
+// writes such lists.
+//
+//     f NAME              a fresh guard, and buffers of 9,690 and 1,037 bytes; a list of this name begins
+//     b ANSWER REQUEST    the lengths of both buffers for the calls and replies that follow
+//     c CALL              a call, in hexadecimal digits
+//     r REPLY             a reply
+//     = ANSWER            the answer to the event above, in deskrun's words
+//     p WORDS             these words are printed, with the answer above
+ghost use mathlib.Core.Path.{_≡_};
+ghost use Prim.Native.Nat.{_≤_};
+ghost use lib.ListN.{length};
+use outcomes::Outcome;
+use text::decimal::Decimal;
+use text::hex::Decoded;
+
+pub mod file;
+
+// The most bytes of an event, and the room for any answer's line.
+pub const EVENT_BYTES: usize = 49152;
+
+pub const ANSWER_LINE: usize = 98304;
+
+// The lengths of both buffers, and that of the last answer's line, with its line feed.
+pub struct Settings {
+    pub answer: usize,
+    pub request: usize,
+    pub said: usize,
+}
+
+pub fn fresh(memory: &mut [u8]) -> Settings {
+    guard::on_fresh(memory);
+    Settings {
+        answer: guard::ANSWER_LENGTH,
+        request: guard::REQUEST_LENGTH,
+        said: 0,
+    }
+}
+
+// What stands behind a letter and its blank.
+pub fn field(line: &[u8]) -> &[u8] {
+    if line.len() < 2 {
+        return line;
+    }
+    &line[2..]
+}
+
+// A number, at most `most`; 0 where there is none.
+fn number(text: &[u8], most: usize) -> usize
+    ensures { λ r. ⌜ r ≤ most ⌝ }
+{
+    match text::decimal::read(text) {
+        Decimal::Value(n) => line_input::at_most(n, most),
+        Decimal::Bad => 0,
+    }
+}
+
+// Where the first field ends: at its blank, or at the end.
+fn field_end(text: &[u8]) -> usize
+    ensures { λ r. ⌜ r ≤ length (now (text .entry)) ⌝ }
+{
+    let mut i = 0;
+    while i < text.len() {
+        if text[i] == b' ' {
+            return i;
+        }
+        i += 1;
+    }
+    i
+}
+
+// Two fields with a blank between them: the first, and the second.
+fn former(text: &[u8]) -> &[u8] {
+    line_input::front(text, field_end(text))
+}
+
+fn latter(text: &[u8]) -> &[u8] {
+    let end = field_end(text);
+    if end == text.len() {
+        return &text[end..];
+    }
+    &text[end + 1..]
+}
+
+fn lengths(text: &[u8]) -> Settings {
+    Settings {
+        answer: number(former(text), guard::ANSWER_LENGTH),
+        request: number(latter(text), guard::REQUEST_LENGTH),
+        said: 0,
+    }
+}
+
+// A call or a reply with the front of both buffers, as long as is set.
+fn event(
+    memory: &mut [u8],
+    bytes: &[u8],
+    answer: &mut [u8],
+    request: &mut [u8],
+    s: Settings,
+    is_reply: bool,
+) -> Outcome {
+    let a = line_input::at_most(s.answer, answer.len());
+    let q = line_input::at_most(s.request, request.len());
+    if is_reply {
+        return guard::on_reply(memory, bytes, &mut answer[..a], &mut request[..q]);
+    }
+    guard::on_call(memory, bytes, &mut answer[..a], &mut request[..q])
+}
+
+// Digits handed in as a call or a reply: the line of the answer at the front of `said`, and its length.
+fn answer_event(
+    memory: &mut [u8],
+    digits: &[u8],
+    said: &mut [u8],
+    s: Settings,
+    is_reply: bool,
+) -> usize
+    requires { ⌜ 98304 ≤ length (now said) ⌝ }
+    ensures { λ r. ⌜ r ≤ length (now (said .exit)) ⌝ }
+{
+    let mut bytes = [0u8; EVENT_BYTES];
+    let Decoded::Bytes(n) = text::hex::decode(digits, &mut bytes) else {
+        return desk_lines::write_bad(said);
+    };
+    let mut answer = [0u8; guard::ANSWER_LENGTH];
+    let mut request = [0u8; guard::REQUEST_LENGTH];
+    let o = event(
+        memory,
+        desk_lines::first(&bytes, n),
+        &mut answer,
+        &mut request,
+        s,
+        is_reply,
+    );
+    desk_lines::write_outcome(o, &answer, &request, said)
+}
+
+fn answered(s: Settings, said: usize) -> Settings {
+    Settings {
+        answer: s.answer,
+        request: s.request,
+        said,
+    }
+}
+
+// A line that is no answer: what it does to the guard and to the settings.
+pub fn feed(memory: &mut [u8], line: &[u8], said: &mut [u8], s: Settings) -> Settings
+    requires { ⌜ 98304 ≤ length (now said) ⌝ }
+{
+    if text::line::starts(line, b"c ") {
+        return answered(s, answer_event(memory, field(line), said, s, false));
+    }
+    if text::line::starts(line, b"r ") {
+        return answered(s, answer_event(memory, field(line), said, s, true));
+    }
+    if text::line::starts(line, b"b ") {
+        return lengths(field(line));
+    }
+    if text::line::starts(line, b"f ") {
+        return fresh(memory);
+    }
+    s
+}
+
+// The last answer's line, without its line feed.
+pub fn last_answer(said: &[u8], s: Settings) -> &[u8] {
+    let n = s.said;
+    if n == 0 {
+        return desk_lines::first(said, 0);
+    }
+    desk_lines::first(said, n - 1)
+}
+
+// Whether a line is the last answer's, behind `= `.
+pub fn is_answer(line: &[u8], said: &[u8], s: Settings) -> bool {
+    buffers::same(field(line), last_answer(said, s))
+}
+
+// Where the second field ends, and all that stands before it.
+pub fn first_words(text: &[u8]) -> &[u8] {
+    let end = field_end(text);
+    if end == text.len() {
+        return text;
+    }
+    let next = end + 1;
+    let behind = field_end(&text[next..]);
+    line_input::front(text, next + behind)
+}
