@@ -183,7 +183,7 @@ module _ (c : Config) (fit : Fit c) where
     )
 
     loads-as-run : (ds : List (List ℕ)) (xs : List Seen) → OfFresh c xs → LoadsSeen ds xs → LoadsOfSaves c ds from (events xs)
-    loads-as-run ds xs q lo = loads-shown c ds from (events xs) (subst (LoadsSeen ds) (as-run xs q) lo)
+    loads-as-run ds xs q lo = subst (λ L. L) (loads-shown c ds from (events xs)) (subst (LoadsSeen ds) (as-run xs q) lo)
 
     -- the digests that the tree keeps after a life are those that were given
     given-kept : (t : State (tree c)) (xs : List Seen) → OfFresh c xs → Simulated c fit M N from (restarted c t) (events xs)
@@ -264,7 +264,7 @@ module _ (c : Config) (fit : Fit c) where
           )
 
   honest-as-run : (t : State (tree c)) (xs : List Seen) → OfFresh c xs → HonestSeen c t xs → Honest c from t (events xs)
-  honest-as-run t xs q ho = honest-shown c from t (events xs) (subst (HonestSeen c t) (shown-is c (guard c) from xs q) ho)
+  honest-as-run t xs q ho = subst (λ H. H) (honest-shown c from t (events xs)) (subst (HonestSeen c t) (shown-is c (guard c) from xs q) ho)
 
   quiet-as-run : (xs : List Seen) → OfFresh c xs → All NoStop (outcomes c (guard c) from (events xs)) → Quiet xs
   quiet-as-run xs q n = subst (All NoStop) (sym q) n

@@ -2,7 +2,6 @@
 -- and that only a save gives a digest.
 -- Assumes nothing.
 use mathlib.Core.Path.{_≡_, refl, ap, ap₂, subst}
-use mathlib.Core.Bool.{true}
 use mathlib.Core.List.{List, [], _∷_, _++_}
 use Prim.Native.Nat.{ℕ, suc, _+_, _*_}
 use lib.Dec.{eqb, ltb, leb}
@@ -22,7 +21,7 @@ use Rattle.rules.specs.FitLaws.{judge-fits}
 use Rattle.machine.specs.Machine.{Store, State, Result, contentAt, sizeAt, imageOf, readOn, finishChange, pagesStored, askStore, onPage, pagesFrom, cleared, apply, step, outcomes, guard}
 use Rattle.machine.specs.Tree.{tree}
 use Rattle.machine.specs.History.{awaitsPage, pageIn, pageOut, imageIn, imageOut, pages, images}
-use Rattle.machine.specs.Claim.{LoadsOfSaves, HonestAt, Honest, given}
+use Rattle.machine.specs.Claim.{LoadOf, LoadsOfSaves, HonestAt, Honest, given}
 use Rattle.machine.specs.StateProperties.{Holds, step-holds}
 use Rattle.machine.specs.Seen.{Seen, events, answers, shown, standing, pageReplied, pagesAfter, imagesSeen, LoadsSeen, HonestIn, HonestSeen}
 
@@ -40,6 +39,11 @@ unfolding shown outcomes
 shown-answers c S s [] = refl
 shown-answers c S s (e ∷ es) = ap (λ os. step c S s e .outcome ∷ os) (shown-answers c S (step c S s e .state) es)
 
+pub shown-events : (c : Config) (S : Store) (s : State S) (es : List Event) → events (shown c S s es) ≡ es
+unfolding shown
+shown-events c S s [] = refl
+shown-events c S s (e ∷ es) = ap (λ l. e ∷ l) (shown-events c S (step c S s e .state) es)
+
 module _ (c : Config) where
   pub images-shown : (g : State (guard c)) (es : List Event) → imagesSeen (shown c (guard c) g es) ≡ images c (guard c) g es
   unfolding shown imagesSeen images
@@ -47,22 +51,24 @@ module _ (c : Config) where
   images-shown g (e ∷ es) =
       ap (λ l. (imageIn e ++ imageOut e (step c (guard c) g e .outcome)) ++ l) (images-shown (step c (guard c) g e .state) es)
 
-  pub loads-shown : (ds : List (List ℕ)) (g : State (guard c)) (es : List Event) → LoadsSeen ds (shown c (guard c) g es) → LoadsOfSaves c ds g es
+  pub loads-shown : (ds : List (List ℕ)) (g : State (guard c)) (es : List Event) → LoadsSeen ds (shown c (guard c) g es) ≡ LoadsOfSaves c ds g es
   unfolding shown LoadsSeen LoadsOfSaves
-  loads-shown ds g [] h = tt
-  loads-shown ds g (e ∷ es) (h, hs) = (h, loads-shown (given e (step c (guard c) g e .outcome) ++ ds) (step c (guard c) g e .state) es hs)
+  loads-shown ds g [] = refl
+  loads-shown ds g (e ∷ es) =
+      let o = step c (guard c) g e .outcome in
+      ap (λ L. LoadOf ds e o × L) (loads-shown (given e o ++ ds) (step c (guard c) g e .state) es)
 
-  honest-in : (g : State (guard c)) (t : State (tree c)) (e : Event) → HonestIn c t e (step c (guard c) g e .outcome) → HonestAt c g t e
+  honest-same : (g : State (guard c)) (t : State (tree c)) (e : Event) → HonestIn c t e (step c (guard c) g e .outcome) ≡ HonestAt c g t e
   unfolding HonestIn HonestAt
-  honest-in g t (call s a q) h = h
-  honest-in g t (reply r a q) h = h
-  honest-in g t (save n) h = h
-  honest-in g t (load i d) h = h
+  honest-same g t (call s a q) = refl
+  honest-same g t (reply r a q) = refl
+  honest-same g t (save n) = refl
+  honest-same g t (load i d) = refl
 
-  pub honest-shown : (g : State (guard c)) (t : State (tree c)) (es : List Event) → HonestSeen c t (shown c (guard c) g es) → Honest c g t es
+  pub honest-shown : (g : State (guard c)) (t : State (tree c)) (es : List Event) → HonestSeen c t (shown c (guard c) g es) ≡ Honest c g t es
   unfolding shown HonestSeen Honest
-  honest-shown g t [] h = tt
-  honest-shown g t (e ∷ es) (h, hs) = (honest-in g t e h, honest-shown (step c (guard c) g e .state) (step c (tree c) t e .state) es hs)
+  honest-shown g t [] = refl
+  honest-shown g t (e ∷ es) = ap₂ (λ A B. A × B) (honest-same g t e) (honest-shown (step c (guard c) g e .state) (step c (tree c) t e .state) es)
 
 -- Where a page is awaited, a fetch stands.
 module _ (c : Config) where
