@@ -18,15 +18,15 @@ use Rattle.machine.specs.Claim.{Fit, HonestAt, Honest, Agrees, SecondHalf}
 use Rattle.machine.specs.HonestRun.{second-half}
 use Rattle.claim_examples.specs.Computed.{cheap, constant, written, honest, honestAnswers, image, guardThen, treeThen, forged, answersOf, lastAnswer, computed}
 
-cheap-fit : Fit cheap
+pub cheap-fit : Fit cheap
 unfolding cheap
 cheap-fit = record { long = λ s. length-tab 32 _; bytes = λ s. all-tab 32 _ (λ i h. omega arith); wide = omega arith }
 
 -- An honest list: what is handed in is bytes,
-are-bytes : (s : List ℕ) → every (λ b. ltb b 256) s ≡ true → Bytes s
+pub are-bytes : (s : List ℕ) → every (λ b. ltb b 256) s ≡ true → Bytes s
 are-bytes s e = all-map (λ b h. ltb-true b 256 h) (every-all (λ b. ltb b 256) s e)
 
-written-bytes : All EventBytes written
+pub written-bytes : All EventBytes written
 unfolding EventBytes every
 written-bytes =
     both (are-bytes _ refl) (both (are-bytes _ refl) (both (are-bytes _ refl) (both (are-bytes _ refl) (both (are-bytes _ refl) (both (are-bytes _ refl)
@@ -37,7 +37,7 @@ unfolding EventBytes
 honest-bytes = all-append written-bytes (both tt (both (are-bytes image (computed .image-bytes), cheap-fit .bytes image) all-none))
 
 -- and the load is of the save just done, the tree unchanged since.
-saved-image : image ≡ imageOf cheap (tree cheap) treeThen
+pub saved-image : image ≡ imageOf cheap (tree cheap) treeThen
 unfolding guardOf Agrees SecondHalf
 saved-image =
     let e : guardThen ≡ guardOf cheap treeThen = second-half cheap cheap-fit written written-bytes (computed .replies-right) .1 .1 in
@@ -48,7 +48,7 @@ save-load : (c : Config) (g : State (guard c)) (t : State (tree c)) (n : ℕ) (i
 unfolding Honest HonestAt step apply
 save-load c g t n image e q = (tt, ((λ d. rw e (record { latest = record { digest = c .digest (imageOf c (tree c) t); files = files c (tree c) t }; earlier = t .saves; saves = refl; image = q; digest = ap (c .digest) q; unchanged = refl })), tt))
 
-honest-then : (c : Config) (es fs : List Event) (g : State (guard c)) (t : State (tree c)) → Honest c g t es → Honest c (final c (guard c) g es) (final c (tree c) t es) fs → Honest c g t (es ++ fs)
+pub honest-then : (c : Config) (es fs : List Event) (g : State (guard c)) (t : State (tree c)) → Honest c g t es → Honest c (final c (guard c) g es) (final c (tree c) t es) fs → Honest c g t (es ++ fs)
 unfolding Honest final
 honest-then c [] fs g t h k = k
 honest-then c (e ∷ es) fs g t (h, hs) k = (h, honest-then c es fs _ _ hs k)

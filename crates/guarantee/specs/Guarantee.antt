@@ -6,6 +6,8 @@ use Rattle.digest.specs.Laws.{length-sha256, bytes-sha256}
 use Rattle.machine.specs.Claim.{Fit, FirstHalf, SecondHalf}
 use Rattle.machine.specs.Run.{first-half}
 use Rattle.machine.specs.HonestRun.{second-half}
+use Rattle.machine.specs.Restart.{FirstHalfOfLives, SecondHalfOfLives}
+use Rattle.machine.specs.RestartRun.{first-half-of-lives, second-half-of-lives}
 
 pub delivered-fit : Fit delivered
 unfolding delivered
@@ -18,3 +20,10 @@ agreement = first-half delivered delivered-fit
 -- under an honest host nothing stops, and they agree
 pub no-stop : SecondHalf delivered
 no-stop = second-half delivered delivered-fit
+
+-- the same for a box that was switched off and on, any number of times
+pub agreement-of-lives : FirstHalfOfLives delivered
+agreement-of-lives = first-half-of-lives delivered delivered-fit
+
+pub no-stop-of-lives : SecondHalfOfLives delivered
+no-stop-of-lives = second-half-of-lives delivered delivered-fit

@@ -134,7 +134,8 @@ module _ (c : Config) (fit : Fit c) where
   sure t v (fSaving he w z) ho mq = tt
   sure t v {e = e} (fLoading {i = i} {image = image} {d = d} he z hd hp) ho mq = sure-load t v i image d hp ((rw he at ho) (rw (rw he at mq) tt))
 
-  quiet : (es : List Event) (g : State (guard c)) (t : State (tree c)) → g ≡ guardOf c t → Holds c fit Any Any t → All EventBytes es → Honest c g t es
+  -- from any tree on that is as it has to be
+  pub quiet : (es : List Event) (g : State (guard c)) (t : State (tree c)) → g ≡ guardOf c t → Holds c fit Any Any t → All EventBytes es → Honest c g t es
       → All NoStop (outcomes c (guard c) g es)
       × ((outcomes c (guard c) g es ≡ outcomes c (tree c) t es) × (final c (guard c) g es ≡ guardOf c (final c (tree c) t es)))
   unfolding outcomes final Honest step resultOf

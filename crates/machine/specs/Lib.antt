@@ -19,3 +19,7 @@ pub mod Run
 pub mod HonestRun
 pub mod TreeProperties
 pub mod Truthful
+pub mod Seen
+pub mod SeenLaws
+pub mod Restart
+pub mod RestartRun

@@ -30,6 +30,7 @@ use Rattle.machine.specs.ValidLaws.{keeps-valid}
 use Rattle.machine.specs.Tree.{Saved, lookup, goBack, digestsOf, tree, progressOf, guardOf}
 use Rattle.machine.specs.History.{awaitsPage, pageIn, pageOut, imageIn, imageOut, pages, images, Collision}
 use Rattle.machine.specs.Claim.{Fit, isDone, given, givenIf, LoadOf, LoadsOfSaves, Agrees, FirstHalf}
+use Rattle.machine.specs.Seen.{givenAfter, shown}
 use Rattle.machine.specs.DigestLaws.{length-digests}
 use Rattle.machine.specs.Simulation.{resultOf, filesOf, SamePage, Agree, Aligned, page-in, commute}
 use Rattle.machine.specs.Invariant.{Good, imageOfFiles, GoodSave, Kept, known-blank, known-at, lookup-good, keeps}
@@ -232,12 +233,20 @@ module _ (c : Config) (fit : Fit c) (M N : List ℕ → Type 0) where
         remembers t f,
       )
 
+  -- a run of the guard beside a run of the tree: the outcomes are the same, the guard that is left is the tree's, the tree is still as it has to be, and
+  -- it keeps the digests that were given
+  pub record Simulated (g : State (guard c)) (t : State (tree c)) (es : List Event) : Type 0 where
+    pub same : outcomes c (guard c) g es ≡ outcomes c (tree c) t es
+    pub left : final c (guard c) g es ≡ guardOf c (final c (tree c) t es)
+    pub holds : Holds (final c (tree c) t es)
+    pub saved : digestsKept (final c (tree c) t es .saves) ≡ givenAfter (digestsKept (t .saves)) (shown c (guard c) g es)
+
   pub simulate : (es : List Event) (g : State (guard c)) (t : State (tree c)) → g ≡ guardOf c t → Holds t → All EventBytes es
       → LoadsOfSaves c (digestsKept (t .saves)) g es
       → ((p : List ℕ) → List·Memᴰ p (pages c (guard c) g es) → M p) → ((p : List ℕ) → List·Memᴰ p (images c (guard c) g es) → N p)
-      → Or Bad ((outcomes c (guard c) g es ≡ outcomes c (tree c) t es) × (final c (guard c) g es ≡ guardOf c (final c (tree c) t es)))
-  unfolding outcomes final LoadsOfSaves pages images resultOf guardOf step
-  simulate [] g t q h bs lo np ni = ok (refl, q)
+      → Or Bad (Simulated g t es)
+  unfolding outcomes final LoadsOfSaves pages images resultOf guardOf step givenAfter shown
+  simulate [] g t q h bs lo np ni = ok (record { same = refl; left = q; holds = h; saved = refl })
   simulate (e ∷ es) g t q h bs lo np ni = do
     let ad : Adds g e = ((λ p m. np p (Memᴰ·append-left _ m)), (λ p m. ni p (Memᴰ·append-left _ m)))
     let ad₂ : Adds (guardOf c t) e = subst (λ s. Adds s e) q ad
@@ -246,11 +255,18 @@ module _ (c : Config) (fit : Fit c) (M N : List ℕ → Type 0) where
     let (x, h₂, k) = advance t h e (all-head bs) ad₂ ag
     let y : step c (guard c) g e ≡ resultOf c (step c (tree c) t e) = ap (λ s. step c (guard c) s e) q ∙ x
     let yo : step c (guard c) g e .outcome ≡ step c (tree c) t e .outcome = ap (λ r. r .outcome) y
-    let l₂ = subst (λ ds. LoadsOfSaves c ds (step c (guard c) g e .state) es) (ap (λ o. given e o ++ digestsKept (t .saves)) yo ∙ sym k) (lo .1)
-    (eos, ef) ← simulate es (step c (guard c) g e .state) (step c (tree c) t e .state) (ap (λ r. r .state) y) h₂ (all-tail bs) l₂
+    let ds : given e (step c (guard c) g e .outcome) ++ digestsKept (t .saves) ≡ digestsKept (step c (tree c) t e .state .saves) =
+        ap (λ o. given e o ++ digestsKept (t .saves)) yo ∙ sym k
+    s ← simulate es (step c (guard c) g e .state) (step c (tree c) t e .state) (ap (λ r. r .state) y) h₂ (all-tail bs)
+        (subst (λ l. LoadsOfSaves c l (step c (guard c) g e .state) es) ds (lo .1))
         (λ p m. np p (Memᴰ·append-right (pageIn (g .skeleton .pending) e ++ pageOut (step c (guard c) g e .outcome .answer)) m))
         (λ p m. ni p (Memᴰ·append-right (imageIn e ++ imageOut e (step c (guard c) g e .outcome)) m))
-    ok ((λ j. yo j ∷ eos j), ef)
+    ok (record {
+      same = λ j. yo j ∷ s .same j;
+      left = s .left;
+      holds = s .holds;
+      saved = s .saved ∙ ap (λ l. givenAfter l (shown c (guard c) (step c (guard c) g e .state) es)) (sym ds);
+    })
 
 module _ (c : Config) (fit : Fit c) where
   pub fresh-holds : (M N : List ℕ → Type 0) → Holds c fit M N (fresh c (tree c))
@@ -265,6 +281,7 @@ module _ (c : Config) (fit : Fit c) where
 
   pub first-half : FirstHalf c
   unfolding FirstHalf Agrees Collision
-  first-half es bs lo =
-      simulate c fit (λ p. List·Memᴰ p (pages c (guard c) (fresh c (guard c)) es)) (λ p. List·Memᴰ p (images c (guard c) (fresh c (guard c)) es)) es
-      (fresh c (guard c)) (fresh c (tree c)) fresh-guard (fresh-holds _ _) bs lo (λ p m. m) (λ p m. m)
+  first-half es bs lo = do
+    s ← simulate c fit (λ p. List·Memᴰ p (pages c (guard c) (fresh c (guard c)) es)) (λ p. List·Memᴰ p (images c (guard c) (fresh c (guard c)) es)) es
+        (fresh c (guard c)) (fresh c (tree c)) fresh-guard (fresh-holds _ _) bs lo (λ p m. m) (λ p m. m)
+    ok (s .same, s .left)

@@ -31,7 +31,7 @@ module _ (c : Config) (fit : Fit c) where
         kept = keeps c Any Any t (h .kept) (h .valid .tables .nodes-valid) f (λ p m. tt) (λ p m. tt);
       }
 
-  run-holds : (t : State (tree c)) (es : List Event) → All EventBytes es → Holds c fit Any Any t → Holds c fit Any Any (final c (tree c) t es)
+  pub run-holds : (t : State (tree c)) (es : List Event) → All EventBytes es → Holds c fit Any Any t → Holds c fit Any Any (final c (tree c) t es)
   unfolding final
   run-holds t [] a h = h
   run-holds t (e ∷ es) (both b a) h = run-holds (step c (tree c) t e .state) es a (step-holds t h e b)

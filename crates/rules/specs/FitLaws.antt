@@ -29,10 +29,10 @@ use Rattle.filesystem.specs.SoundLaws.{root-parent-length, file-children}
 use Rattle.rules.specs.Calls.{Call, create, mkdir, openAs, close, seek, read, write, truncate, remove, rmdir, chmod, readdir, stat, callBytes, readCall}
 use Rattle.rules.specs.CallLaws.{PathFits, CallFits, call-was-written}
 use Rattle.rules.specs.Pages.{pageAt, writing, shrinking, sizeAfter}
-use Rattle.rules.specs.Requests.{asked, closeRequest, fetchRequest, Pending, idle, creating, opening, closing, removing, changing, listing, stating, reading, fetching, storing, cutting}
+use Rattle.rules.specs.Requests.{asked, closeRequest, fetchRequest, isFetch, Pending, idle, creating, opening, closing, removing, changing, listing, stating, reading, fetching, storing, cutting}
 use Rattle.rules.specs.Skeleton.{Config, Event, call, reply, save, load, EventBytes, Skeleton}
 use Rattle.rules.specs.Rules.{Move, refuse, halt, loading, target, holder, isOpen, openPlace, filePlace, opened, file, noRoom, newChecks, callChecks, readAction, callAction, signedOf, isDescriptor, replyChecks, replyAction, isIdle, callOr, imageOr, isNone, eventChecks, eventAction, judge}
-use Rattle.rules.specs.Valid.{ValidOpen, ValidTables, Valid, CreatingFits, OpeningFits, RemovingFits, Opened, ChangeFits, PendingFits, kindOf, sizes, Plain, Fits, fRefuse, fHalt, fSend, fFinish, fAdd, fDelete, fReadPage, fBegin, fFillPage, fStored, fCutDone, fSaving, fLoading}
+use Rattle.rules.specs.Valid.{ValidOpen, ValidTables, Valid, CreatingFits, OpeningFits, RemovingFits, Opened, ChangeFits, PendingFits, sizes, Plain, Fits, fRefuse, fHalt, fSend, fFinish, fAdd, fDelete, fReadPage, fBegin, fFillPage, fStored, fCutDone, fSaving, fLoading}
 use Rattle.rules.specs.Positions.{seek-exactly}
 use Rattle.rules.specs.TableLaws.{cursor-valid, open-valid, close-valid, mode-valid, add-valid, delete-valid}
 
@@ -199,11 +199,11 @@ module _ (c : Config) (sk : Skeleton) (v : ValidTables (c .width) (sk .tables)) 
   reach-walk p more a = (all-tail (all-left ((36, tooLong p) ∷ walkChecks ns 0 p) more a), all-right ((36, tooLong p) ∷ walkChecks ns 0 p) more a)
 
   read-fits : (e : Event) → Plain e → (h n : ℕ) → findHandle os h < length os → n ≤ file t h .size - opened t h .cursor → Fit e (readAction t w h n)
-  unfolding readAction kindOf fetchRequest pageAt
+  unfolding readAction isFetch fetchRequest pageAt
   read-fits e pl h n l m =
       let (o, cur) = handle-opened h l in
       pick-ind (Fit e) (eqb n 0) (λ _. fFinish pl v refl)
-      (λ x. let z : n ≡ 0 → ⊥ = eqb-false n 0 x in fSend {p = reading (filePlace t h) (openPlace t h) (opened t h .cursor) n (pageAt (opened t h .cursor))} (record { opened = o; within = omega arith; from = omega arith; to = omega arith }) refl (eqb-false 6 7 refl))
+      (λ x. let z : n ≡ 0 → ⊥ = eqb-false n 0 x in fSend {p = reading (filePlace t h) (openPlace t h) (opened t h .cursor) n (pageAt (opened t h .cursor))} (record { opened = o; within = omega arith; from = omega arith; to = omega arith }) refl refl)
 
   opening-fits : (r : ℕ) (p : Path) → r ≤ 3 → Passed (walkChecks ns 0 p)
       → Passed ((21, isDirectory (target t p)) ∷ (13, not (covers (target t p .mode) r)) ∷ (16, isOpen t (target t p)) ∷ (24, leb OPEN-FILES (length os)) ∷ [])
@@ -229,11 +229,11 @@ module _ (c : Config) (sk : Skeleton) (v : ValidTables (c .width) (sk .tables)) 
   remove-fits p x (both dir (both _ (both o _))) = removing-fits p x dir o
 
   call-fits : (e : Event) → Plain e → (q : Call) → CallFits w q → Passed (callChecks t q) → Fit e (callAction t w q)
-  unfolding callChecks callAction callBytes kindOf closeRequest
-  call-fits e pl (create m p) (h, f) a = fSend (new-fits p 1 m f (inl refl) h a) tt (eqb-false 1 7 refl)
-  call-fits e pl (mkdir m p) (h, f) a = fSend (new-fits p 2 m f (inr refl) h a) tt (eqb-false 2 7 refl)
-  call-fits e pl (openAs r p) ((_, l), f) a = let (x, y) = reach-walk p _ a in fSend (opening-fits r p l x y) tt (eqb-false 3 7 refl)
-  call-fits e pl (close h) f (both o _) = fSend (there os _ o) tt (eqb-false 4 7 refl)
+  unfolding callChecks callAction callBytes isFetch closeRequest
+  call-fits e pl (create m p) (h, f) a = fSend (new-fits p 1 m f (inl refl) h a) tt refl
+  call-fits e pl (mkdir m p) (h, f) a = fSend (new-fits p 2 m f (inr refl) h a) tt refl
+  call-fits e pl (openAs r p) ((_, l), f) a = let (x, y) = reach-walk p _ a in fSend (opening-fits r p l x y) tt refl
+  call-fits e pl (close h) f (both o _) = fSend (there os _ o) tt refl
   call-fits e pl (seek h n) f a =
       let (o, l) = seek-exactly t h n .0 a in
       fFinish pl (cursor-valid w t (filePlace t h) (openPlace t h) n v (handle-opened h o .0) l) refl
@@ -242,12 +242,12 @@ module _ (c : Config) (sk : Skeleton) (v : ValidTables (c .width) (sk .tables)) 
       pick-ind (Fit e) (eqb (length d) 0) (λ _. fFinish pl v refl) (λ x. fBegin pl (grow-fits h d (there os _ (or-fst _ _ o)) (eqb-false _ _ x) big room))
   call-fits e pl (truncate h n) f (both o (both s _)) =
       pick-ind (Fit e) (eqb n (file t h .size)) (λ _. fFinish pl v refl) (λ x. fBegin pl (shrink-fits h n (there os _ (or-fst _ _ o)) (eqb-false _ _ x) s))
-  call-fits e pl (remove p) f a = let (x, y) = reach-walk p _ a in fSend (remove-fits p x y) tt (eqb-false 9 7 refl)
-  call-fits e pl (rmdir p) f a = let (x, y) = reach-walk p _ a in fSend (rmdir-fits p x y) tt (eqb-false 10 7 refl)
+  call-fits e pl (remove p) f a = let (x, y) = reach-walk p _ a in fSend (remove-fits p x y) tt refl
+  call-fits e pl (rmdir p) f a = let (x, y) = reach-walk p _ a in fSend (rmdir-fits p x y) tt refl
   call-fits e pl (chmod m p) (h, f) (both _ a) =
-      fSend {p = asked (changing (walk ns 0 p) m)} (record { known = reached p a; modes = h }) tt (eqb-false 11 7 refl)
-  call-fits e pl (readdir p) f a = let (x, y) = reach-walk p _ a in fSend (reached p x) tt (eqb-false 12 7 refl)
-  call-fits e pl (stat p) f (both _ a) = fSend (reached p a) tt (eqb-false 13 7 refl)
+      fSend {p = asked (changing (walk ns 0 p) m)} (record { known = reached p a; modes = h }) tt refl
+  call-fits e pl (readdir p) f a = let (x, y) = reach-walk p _ a in fSend (reached p x) tt refl
+  call-fits e pl (stat p) f (both _ a) = fSend (reached p a) tt refl
 
   -- Each reply.
   reply-fits : (r : List ℕ) (a b : ℕ) → Bytes r → (p : Pending) → sk .pending ≡ p → isIdle p ≡ false → PendingFits ns os p → Passed (replyChecks w t r p)

@@ -1,7 +1,9 @@
 -- Host requests and what a pending call waits for (document 01, 'Requests and replies').
 -- Assumes nothing.
-use mathlib.Core.List.{List, _∷_, _++_}
+use mathlib.Core.Bool.{Bool, false}
+use mathlib.Core.List.{List, [], _∷_, _++_}
 use Prim.Native.Nat.{ℕ, _+_}
+use lib.Dec.{eqb}
 use Rattle.lists.specs.LittleEndian.{encode}
 use Rattle.filesystem.specs.Tables.{PAGE-BYTES}
 use Rattle.rules.specs.Pages.{Change}
@@ -12,6 +14,10 @@ closeRequest d = 4 ∷ encode 4 d
 
 unfoldable pub fetchRequest : (descriptor page : ℕ) → List ℕ
 fetchRequest d i = 6 ∷ (encode 4 d ++ encode 4 i)
+
+unfoldable pub isFetch : List ℕ → Bool
+isFetch [] = false
+isFetch (kind ∷ s) = eqb kind 6
 
 unfoldable pub storeRequest : (descriptor page size : ℕ) → List ℕ → List ℕ
 storeRequest d i size bytes = 7 ∷ (encode 4 d ++ (encode 4 i ++ (encode 4 size ++ bytes)))

@@ -3,7 +3,7 @@
 -- Assumes nothing.
 use mathlib.Core.Path.{_≡_}
 use mathlib.Core.Logic.{_⊎_}
-use mathlib.Core.Bool.{Bool, true}
+use mathlib.Core.Bool.{Bool, true, false}
 use mathlib.Core.List.{List, [], _∷_, _++_, map}
 use mathlib.Core.Option.{some}
 use Prim.Native.Nat.{ℕ, suc, _+_, _*_, _≤_, _<_}
@@ -16,7 +16,7 @@ use Rattle.filesystem.specs.Tables.{NODES, OPEN-FILES, PAGES, PAGE-BYTES, FILE-
 use Rattle.filesystem.specs.Paths.{componentForm}
 use Rattle.filesystem.specs.Image.{Image, soundNodes, pathLength, parse}
 use Rattle.rules.specs.Pages.{pageAt, Change, first, last, sizeAfter, FitsSize}
-use Rattle.rules.specs.Requests.{asked, Pending, idle, creating, opening, closing, removing, changing, listing, stating, reading, fetching, storing, cutting}
+use Rattle.rules.specs.Requests.{isFetch, asked, Pending, idle, creating, opening, closing, removing, changing, listing, stating, reading, fetching, storing, cutting}
 use Rattle.rules.specs.Skeleton.{Config, Event, call, reply, save, load, Skeleton}
 use Rattle.rules.specs.Rules.{Move, refuse, halt, send, finish, add, delete, readPage, begin, fillPage, stored, cutDone, saving, loading, replyChecks}
 
@@ -136,10 +136,14 @@ Starts (fetching k o q i) = ⊥
 Starts (storing k o q i) = ⊥
 Starts (cutting k o q) = ⊥
 
--- the kind byte of a request
-unfoldable pub kindOf : List ℕ → ℕ
-kindOf [] = 0
-kindOf (k ∷ s) = k
+-- the request that starts a call is a fetch where a page is awaited, and no fetch where none is
+abbrev pub Asks : Pending → List ℕ → Type 0
+Asks idle s = ⊥
+Asks (asked x) s = isFetch s ≡ false
+Asks (reading k o p n i) s = isFetch s ≡ true
+Asks (fetching k o q i) s = ⊥
+Asks (storing k o q i) s = ⊥
+Asks (cutting k o q) s = ⊥
 
 abbrev pub sizes : List Node → List ℕ
 sizes ns = map (λ n. n .size) ns
@@ -155,7 +159,7 @@ Plain (load i d) = ⊥
 pub data Fits (c : Config) (sk : Skeleton) (e : Event) : Move → Type 0 where
   fRefuse : {n : ℕ} → Fits c sk e (refuse n)
   fHalt : {n : ℕ} {r : List ℕ} {a q : ℕ} → e ≡ reply r a q → First n (replyChecks (c .width) (sk .tables) r (sk .pending)) → Fits c sk e (halt n)
-  fSend : {p : Pending} {q : List ℕ} → PendingFits (sk .tables .nodes) (sk .tables .opens) p → Starts p → (kindOf q ≡ 7 → ⊥) → Fits c sk e (send p q)
+  fSend : {p : Pending} {q : List ℕ} → PendingFits (sk .tables .nodes) (sk .tables .opens) p → Starts p → Asks p q → Fits c sk e (send p q)
   fFinish : {t : Tables} {n : ℕ} {b : List ℕ} → Plain e → ValidTables (c .width) t → sizes (t .nodes) ≡ sizes (sk .tables .nodes) → Fits c sk e (finish t n b)
   fAdd : {n : Node} → Plain e → n .size ≡ 0
       → ValidTables (c .width) (record { nodes = sk .tables .nodes ++ (n ∷ []); opens = sk .tables .opens }) → Fits c sk e (add n)

@@ -1,0 +1,109 @@
+-- Where code and theorem meet. The guard's entries promise something of one hand-in each (crate guard, specs/Promise.antt). Here is what follows for a
+-- whole run, as types: a memory that was made fresh, then any entries in any order, whatever the host replies. The claims speak of what C hands in, of
+-- what it gets back and finds in its buffers, and of the last memory; the history is made of these too. Proofs stand in specs/ChainLaws.antt.
+-- Assumes nothing.
+use mathlib.Core.Path.{_≡_}
+use mathlib.Core.Logic.{_⊎_}
+use mathlib.Core.List.{List, [], _∷_, map}
+use Prim.Native.Nat.{ℕ, zero, suc, _≤_}
+use lib.IntN.{ℤ, pos, negsuc}
+use lib.ListN.{length, take}
+use Rattle.lists.specs.All.{All}
+use Rattle.lists.specs.Or.{Or}
+use Rattle.digest.specs.Sha256.{sha256}
+use Rattle.rules.specs.Skeleton.{Event, call, reply, save, load, Answer, done, ask, refused, stopped, plain}
+use Rattle.configuration.specs.Delivered.{delivered}
+use Rattle.machine.specs.Machine.{State, outcomes, final, fresh}
+use Rattle.machine.specs.Tree.{tree, guardOf}
+use Rattle.machine.specs.History.{Collision}
+use Rattle.machine.specs.Seen.{Seen, events, answers, pagesSeen, imagesSeen, LoadsSeen, HonestSeen}
+use Rattle.machine.specs.Restart.{Restarts, pagesOfLives, imagesOfLives, LoadsOfLives, HonestLives, Quiet, restarted, treeAfter}
+use Rattle.memory.specs.Layout.{memorySize}
+use Rattle.guard.specs.declared.GuardOutcome.{GuardOutcome}
+use Rattle.guard.specs.Promise.{held, buffers, Promise, FreshPromise, SavePromise, LoadPromise, Shown}
+
+-- What C reads: kind 0 is done, 1 a request, 2 refused, 3 stopped; so many bytes stand at the front of the answer or the request buffer.
+unfoldable pub readAs : (kind : ℤ) (number length : ℕ) (answer request : List ℕ) → Answer
+readAs (pos zero) n l a q = done n (take l a)
+readAs (pos (suc zero)) n l a q = ask (take l q)
+readAs (pos (suc (suc zero))) n l a q = refused n
+readAs (pos (suc (suc (suc k)))) n l a q = stopped n
+readAs (negsuc k) n l a q = stopped n
+
+unfoldable pub answerRead : GuardOutcome → (answer request : List ℕ) → Answer
+answerRead r a q = readAs (r .kind) (r .number) (r .length) a q
+
+-- a hand-in whose answer comes without a digest
+abbrev pub seenAs : Event → Answer → Seen
+seenAs e a = record { event = e; outcome = plain a }
+
+-- the digest's 32 bytes are read only after a save that is done
+unfoldable pub digestSeen : Answer → List ℕ → List ℕ
+digestSeen (done n b) d = d
+digestSeen (ask q) d = []
+digestSeen (refused n) d = []
+digestSeen (stopped n) d = []
+
+-- One entry: the memory before and afterwards, and what is seen. Each premise is the contract of an entry for C, with its buffers before and afterwards.
+pub data Link (m m′ : List ℕ) : Seen → Type 0 where
+  called : (s a q a′ q′ : List ℕ) (r : GuardOutcome) → Shown (λ o. Promise m (call s (length a) (length q)) o m′ (buffers a q) (buffers a′ q′)) r
+      → Link m m′ (seenAs (call s (length a) (length q)) (answerRead r a′ q′))
+  replied : (s a q a′ q′ : List ℕ) (r : GuardOutcome) → Shown (λ o. Promise m (reply s (length a) (length q)) o m′ (buffers a q) (buffers a′ q′)) r
+      → Link m m′ (seenAs (reply s (length a) (length q)) (answerRead r a′ q′))
+  saved : (i i′ d d′ : List ℕ) (r : GuardOutcome) → Shown (λ o. SavePromise m o m′ i i′ d d′) r
+      → Link m m′ (record { event = save (length i); outcome = record { answer = answerRead r i′ []; digest = digestSeen (answerRead r i′ []) d′ } })
+  loaded : (i d : List ℕ) (r : GuardOutcome) → Shown (λ o. LoadPromise m i d o m′) r → Link m m′ (seenAs (load i d) (answerRead r [] []))
+
+-- One entry after the other, nobody else writing the memory meanwhile.
+pub data Chain : List ℕ → List Seen → List ℕ → Type 0 where
+  end : {m : List ℕ} → Chain m [] m
+  next : {m m′ m″ : List ℕ} {x : Seen} {xs : List Seen} → Link m m′ x → Chain m′ xs m″ → Chain m (x ∷ xs) m″
+
+-- What happens between two power-ups: a memory that is long enough is made fresh, and a chain leads from there to the last memory.
+pub record Life : Type 0 where
+  pub lent : List ℕ
+  pub long : memorySize ≤ length lent
+  pub outcome : GuardOutcome
+  pub first : List ℕ
+  pub made : Shown (λ o. FreshPromise lent o first) outcome
+  pub seen : List Seen
+  pub last : List ℕ
+  pub chain : Chain first seen last
+
+abbrev pub Tree : Type 0
+Tree = State (tree delivered)
+
+abbrev pub freshTree : Tree
+freshTree = fresh delivered (tree delivered)
+
+-- what was seen is what the plain tree answers, and the last memory holds the tree's state, digests for bytes
+pub record Agrees (l : Life) : Type 0 where
+  pub same : answers (l .seen) ≡ outcomes delivered (tree delivered) freshTree (events (l .seen))
+  pub left : held (l .last) ≡ guardOf delivered (final delivered (tree delivered) freshTree (events (l .seen)))
+
+-- First half, whatever the host replies: each load that was done carried a digest that an earlier save gave.
+unfoldable pub FirstHalf : Type 0
+FirstHalf = (l : Life) → LoadsSeen [] (l .seen) → Or (Collision sha256 (pagesSeen (l .seen)) ⊎ Collision sha256 (imagesSeen (l .seen))) (Agrees l)
+
+-- Second half, under an honest host: nothing stops, and no collision is spoken of.
+unfoldable pub SecondHalf : Type 0
+SecondHalf = (l : Life) → HonestSeen delivered freshTree (l .seen) → Quiet (l .seen) × Agrees l
+
+-- The same over several lives of one box, each but the first beginning with a load that is done (crate machine, specs/Restart.antt).
+abbrev pub allSeen : List Life → List (List Seen)
+allSeen ls = map (λ l. l .seen) ls
+
+unfoldable pub AgreeLives : Tree → List Life → Type 0
+AgreeLives t [] = Unit {0}
+AgreeLives t (l ∷ ls) =
+    (answers (l .seen) ≡ outcomes delivered (tree delivered) (restarted delivered t) (events (l .seen)))
+    × (held (l .last) ≡ guardOf delivered (treeAfter delivered t (l .seen)))
+    × AgreeLives (treeAfter delivered t (l .seen)) ls
+
+unfoldable pub FirstHalfOfLives : Type 0
+FirstHalfOfLives =
+    (ls : List Life) → Restarts (allSeen ls) → LoadsOfLives [] (allSeen ls)
+    → Or (Collision sha256 (pagesOfLives (allSeen ls)) ⊎ Collision sha256 (imagesOfLives (allSeen ls))) (AgreeLives freshTree ls)
+
+unfoldable pub SecondHalfOfLives : Type 0
+SecondHalfOfLives = (ls : List Life) → Restarts (allSeen ls) → HonestLives delivered freshTree (allSeen ls) → All Quiet (allSeen ls) × AgreeLives freshTree ls

@@ -1,0 +1,182 @@
+-- What a run of the guard shows, in the words of specs/Seen.antt: the same history, the same loads, the same honest host as in specs/Claim.antt;
+-- and that only a save gives a digest.
+-- Assumes nothing.
+use mathlib.Core.Path.{_≡_, refl, ap, ap₂, subst}
+use mathlib.Core.List.{List, [], _∷_, _++_}
+use Prim.Native.Nat.{ℕ, suc, _+_, _*_}
+use lib.Dec.{eqb, ltb, leb}
+use lib.ListN.{length, getD}
+use Rattle.lists.specs.Pick.{pick, pick-ind}
+use Rattle.lists.specs.Equal.{equal}
+use Rattle.lists.specs.All.{All, all-head, all-tail}
+use Rattle.lists.specs.Checks.{decide-ind}
+use Rattle.filesystem.specs.Tables.{PAGE-BYTES}
+use Rattle.filesystem.specs.ImageLaws.{Digest}
+use Rattle.rules.specs.Pages.{Change, first, last, fetches, cuts}
+use Rattle.rules.specs.Requests.{isFetch, fetchRequest, storeRequest, cutRequest, asked, Pending, idle, reading, fetching, storing, cutting}
+use Rattle.rules.specs.Skeleton.{Config, Event, call, reply, save, load, EventBytes, Outcome, done, refused, plain}
+use Rattle.rules.specs.Rules.{Move, refuse, eventChecks, eventAction, judge}
+use Rattle.rules.specs.Valid.{Valid, Asks, Starts, Fits, fRefuse, fHalt, fSend, fFinish, fAdd, fDelete, fReadPage, fBegin, fFillPage, fStored, fCutDone, fSaving, fLoading}
+use Rattle.rules.specs.FitLaws.{judge-fits}
+use Rattle.machine.specs.Machine.{Store, State, Result, contentAt, sizeAt, imageOf, readOn, finishChange, pagesStored, askStore, onPage, pagesFrom, cleared, apply, step, outcomes, guard}
+use Rattle.machine.specs.Tree.{tree}
+use Rattle.machine.specs.History.{awaitsPage, pageIn, pageOut, imageIn, imageOut, pages, images}
+use Rattle.machine.specs.Claim.{LoadOf, LoadsOfSaves, HonestAt, Honest, given}
+use Rattle.machine.specs.StateProperties.{Holds, step-holds}
+use Rattle.machine.specs.Seen.{Seen, events, answers, shown, standing, pageReplied, pagesAfter, imagesSeen, LoadsSeen, HonestIn, HonestSeen}
+
+-- what was handed in, with the outcomes of a run, is what the run shows
+pub shown-is : (c : Config) (S : Store) (s : State S) (xs : List Seen) → answers xs ≡ outcomes c S s (events xs) → xs ≡ shown c S s (events xs)
+unfolding shown outcomes
+shown-is c S s [] q = refl
+shown-is c S s (x ∷ xs) q =
+    let here : x .outcome ≡ step c S s (x .event) .outcome = cc in
+    let rest : answers xs ≡ outcomes c S (step c S s (x .event) .state) (events xs) = cc in
+    λ i. record { event = x .event; outcome = here i } ∷ shown-is c S (step c S s (x .event) .state) xs rest i
+
+pub shown-answers : (c : Config) (S : Store) (s : State S) (es : List Event) → answers (shown c S s es) ≡ outcomes c S s es
+unfolding shown outcomes
+shown-answers c S s [] = refl
+shown-answers c S s (e ∷ es) = ap (λ os. step c S s e .outcome ∷ os) (shown-answers c S (step c S s e .state) es)
+
+pub shown-events : (c : Config) (S : Store) (s : State S) (es : List Event) → events (shown c S s es) ≡ es
+unfolding shown
+shown-events c S s [] = refl
+shown-events c S s (e ∷ es) = ap (λ l. e ∷ l) (shown-events c S (step c S s e .state) es)
+
+module _ (c : Config) where
+  pub images-shown : (g : State (guard c)) (es : List Event) → imagesSeen (shown c (guard c) g es) ≡ images c (guard c) g es
+  unfolding shown imagesSeen images
+  images-shown g [] = refl
+  images-shown g (e ∷ es) =
+      ap (λ l. (imageIn e ++ imageOut e (step c (guard c) g e .outcome)) ++ l) (images-shown (step c (guard c) g e .state) es)
+
+  pub loads-shown : (ds : List (List ℕ)) (g : State (guard c)) (es : List Event) → LoadsSeen ds (shown c (guard c) g es) ≡ LoadsOfSaves c ds g es
+  unfolding shown LoadsSeen LoadsOfSaves
+  loads-shown ds g [] = refl
+  loads-shown ds g (e ∷ es) =
+      let o = step c (guard c) g e .outcome in
+      ap (λ L. LoadOf ds e o × L) (loads-shown (given e o ++ ds) (step c (guard c) g e .state) es)
+
+  honest-same : (g : State (guard c)) (t : State (tree c)) (e : Event) → HonestIn c t e (step c (guard c) g e .outcome) ≡ HonestAt c g t e
+  unfolding HonestIn HonestAt
+  honest-same g t (call s a q) = refl
+  honest-same g t (reply r a q) = refl
+  honest-same g t (save n) = refl
+  honest-same g t (load i d) = refl
+
+  pub honest-shown : (g : State (guard c)) (t : State (tree c)) (es : List Event) → HonestSeen c t (shown c (guard c) g es) ≡ Honest c g t es
+  unfolding shown HonestSeen Honest
+  honest-shown g t [] = refl
+  honest-shown g t (e ∷ es) = ap₂ (λ A B. A × B) (honest-same g t e) (honest-shown (step c (guard c) g e .state) (step c (tree c) t e .state) es)
+
+-- Where a page is awaited, a fetch stands.
+module _ (c : Config) where
+  abbrev pub Stands : List ℕ → State (guard c) → Type 0
+  Stands q g = isFetch q ≡ awaitsPage (g .skeleton .pending)
+
+  abbrev StandsAfter : List ℕ → Result (guard c) → Type 0
+  StandsAfter q r = Stands (standing q (r .outcome .answer)) (r .state)
+
+  starts-stands : (p : Pending) (q : List ℕ) → Starts p → Asks p q → isFetch q ≡ awaitsPage p
+  unfolding awaitsPage
+  starts-stands idle q s a = absurd s
+  starts-stands (asked x) q s a = a
+  starts-stands (reading k o p n i) q s a = a
+  starts-stands (fetching k o x i) q s a = absurd s
+  starts-stands (storing k o x i) q s a = absurd s
+  starts-stands (cutting k o x) q s a = absurd s
+
+  pages-stand : (q : List ℕ) (g : State (guard c)) (k o : ℕ) (x : Change) (i : ℕ) → StandsAfter q (pagesFrom c (guard c) g k o x i)
+  unfolding pagesFrom onPage askStore pagesStored finishChange standing isFetch awaitsPage fetchRequest storeRequest cutRequest
+  pages-stand q g k o x i =
+      pick-ind (StandsAfter q) (ltb i (last x))
+      (λ _. pick-ind (StandsAfter q) (fetches x (sizeAt c (guard c) g k) i) (λ _. refl) (λ _. refl))
+      (λ _. pick-ind (StandsAfter q) (cuts x) (λ _. refl) (λ _. refl))
+
+  move-stands : (q : List ℕ) (g : State (guard c)) → Stands q g → {m : Move} {e : Event} → Fits c (g .skeleton) e m → StandsAfter q (apply c (guard c) g m)
+  unfolding apply readOn askStore finishChange standing isFetch awaitsPage fetchRequest storeRequest
+  move-stands q g h fRefuse = h
+  move-stands q g h (fHalt he f) = refl
+  move-stands q g h (fSend {p = p} {q = r} x s a) = starts-stands p r s a
+  move-stands q g h (fFinish pl v z) = refl
+  move-stands q g h (fAdd pl z v) = refl
+  move-stands q g h (fDelete pl v) = refl
+  move-stands q g h (fReadPage {k = k} {p = p} {n = n} {i = i} {r = r} he w l x) =
+      pick-ind (StandsAfter q) (equal (c .digest r) (getD (getD (g .contents) k []) i []))
+      (λ _. pick-ind (StandsAfter q) (leb (p + n) (i * 1024 + 1024)) (λ _. refl) (λ _. refl))
+      (λ _. refl)
+  move-stands q g h (fBegin {k = k} {o = o} {q = x} pl z) = pages-stand q (cleared c (guard c) g) k o x (first x)
+  move-stands q g h (fFillPage {k = k} {i = i} {r = r} he w l x) =
+      pick-ind (StandsAfter q) (equal (c .digest r) (getD (getD (g .contents) k []) i [])) (λ _. refl) (λ _. refl)
+  move-stands q g h (fStored {k = k} {o = o} {q = x} {i = i} pl w z) = pages-stand q g k o x (suc i)
+  move-stands q g h (fCutDone pl w z) = refl
+  move-stands q g h (fSaving he w z) = refl
+  move-stands q g h (fLoading he z hd hp) = refl
+
+  page-replied : (q : List ℕ) (p : Pending) (e : Event) → isFetch q ≡ awaitsPage p → pageReplied q e ≡ pageIn p e
+  unfolding pageReplied pageIn
+  page-replied q p (call s a b) h = refl
+  page-replied q p (reply r a b) h = ap (λ w. pick w (pick (eqb (length r) PAGE-BYTES) (r ∷ []) []) []) h
+  page-replied q p (save n) h = refl
+  page-replied q p (load i d) h = refl
+
+  module _ (digest-fits : (s : List ℕ) → Digest (c .digest s)) where
+    pub pages-shown : (q : List ℕ) (g : State (guard c)) (es : List Event) → Stands q g → Holds c g → All EventBytes es
+        → pagesAfter q (shown c (guard c) g es) ≡ pages c (guard c) g es
+    unfolding shown pagesAfter pages step
+    pages-shown q g [] h v bs = refl
+    pages-shown q g (e ∷ es) h v bs =
+        let r = step c (guard c) g e in
+        ap₂ (λ a b. (a ++ pageOut (r .outcome .answer)) ++ b) (page-replied q (g .skeleton .pending) e h)
+        (pages-shown (standing q (r .outcome .answer)) (r .state) es
+        (move-stands q g h (judge-fits c (g .skeleton) (v .valid) e (all-head bs))) (step-holds c digest-fits g e (all-head bs) v) (all-tail bs))
+
+-- A digest comes with a save that is done, and with nothing else.
+abbrev pub NoSave : Event → Type 0
+NoSave (call s a q) = Unit {0}
+NoSave (reply r a q) = Unit {0}
+NoSave (save n) = ⊥
+NoSave (load i d) = Unit {0}
+
+module _ (c : Config) (S : Store) where
+  abbrev Bare : Result S → Type 0
+  Bare r = r .outcome .digest ≡ []
+
+  pages-bare : (s : State S) (k o : ℕ) (x : Change) (i : ℕ) → Bare (pagesFrom c S s k o x i)
+  unfolding pagesFrom onPage askStore pagesStored finishChange
+  pages-bare s k o x i =
+      pick-ind Bare (ltb i (last x)) (λ _. pick-ind Bare (fetches x (sizeAt c S s k) i) (λ _. refl) (λ _. refl))
+      (λ _. pick-ind Bare (cuts x) (λ _. refl) (λ _. refl))
+
+  move-bare : (s : State S) {m : Move} {e : Event} → NoSave e → Fits c (s .skeleton) e m → Bare (apply c S s m)
+  unfolding apply readOn askStore finishChange
+  move-bare s ns fRefuse = refl
+  move-bare s ns (fHalt he f) = refl
+  move-bare s ns (fSend x st a) = refl
+  move-bare s ns (fFinish pl v z) = refl
+  move-bare s ns (fAdd pl z v) = refl
+  move-bare s ns (fDelete pl v) = refl
+  move-bare s ns (fReadPage {k = k} {p = p} {n = n} {i = i} {r = r} he w l x) =
+      pick-ind Bare (S .isPage (contentAt c S s k) i r) (λ _. pick-ind Bare (leb (p + n) (i * 1024 + 1024)) (λ _. refl) (λ _. refl)) (λ _. refl)
+  move-bare s ns (fBegin {k = k} {o = o} {q = x} pl z) = pages-bare (cleared c S s) k o x (first x)
+  move-bare s ns (fFillPage {k = k} {i = i} {r = r} he w l x) = pick-ind Bare (S .isPage (contentAt c S s k) i r) (λ _. refl) (λ _. refl)
+  move-bare s ns (fStored {k = k} {o = o} {q = x} {i = i} pl w z) = pages-bare s k o x (suc i)
+  move-bare s ns (fCutDone pl w z) = refl
+  move-bare s ns (fSaving he w z) = absurd (subst NoSave he ns)
+  move-bare s ns (fLoading he z hd hp) = refl
+
+  pub no-save-bare : (s : State S) → Valid (c .width) (s .skeleton) → (e : Event) → EventBytes e → NoSave e
+      → step c S s e .outcome ≡ plain (step c S s e .outcome .answer)
+  unfolding step
+  no-save-bare s v e b ns =
+      λ i. record { answer = step c S s e .outcome .answer; digest = move-bare s ns (judge-fits c (s .skeleton) v e b) i }
+
+  -- what is true of a done save and of a refused one
+  pub save-ind : (F : Outcome → Type 0) (s : State S) (n : ℕ) → ((k : ℕ) → F (plain (refused k)))
+      → ((image : List ℕ) → F (record { answer = done (length image) image; digest = c .digest image }))
+      → F (step c S s (save n) .outcome)
+  unfolding step judge eventChecks eventAction apply
+  save-ind F s n r d =
+      decide-ind refuse (λ m. F (apply c S s m .outcome)) (eventChecks c (s .skeleton) (save n)) (eventAction c (s .skeleton) (save n))
+      (λ k _. r k) (λ _. d (imageOf c S s))
