@@ -97,14 +97,18 @@ module _ (c : Config) (m : List ℕ) (g : Guard) (e : g ≡ numbersOf (memOf m .
     save-goes h = check-passes refuse 16 _ _ _ (none-open closed) ∙ check-last refuse 34 _ _ (le-ltb n (imageLength (c .width) (here .skeleton .tables .nodes)) (omega (arith, length-held wide)))
 
 -- a refusal leaves everything alone
-pub save-refused : (c : Config) (m i d : List ℕ) (n : ℕ) → saveMove c (stateOf c m) (length i) ≡ refuse n → Saves c (savedInto c (stateOf c m) (length i)) (Refused n) m i i d d
-unfolding savedInto apply answerIn imageAfter answerBytes overwrite
-save-refused c m i d n z = record {
-  state = ap (λ v. apply c (digestStore c) (stateOf c m) v .state) (sym z);
-  answer = ap (λ v. apply c (digestStore c) (stateOf c m) v .outcome .answer) (sym z);
-  image = ap (λ v. imageAfter (apply c (digestStore c) (stateOf c m) v .outcome .answer) i) (sym z);
-  digest = ap (λ v. atFront (apply c (digestStore c) (stateOf c m) v .outcome .digest) d) (sym z);
+pub refusal-saves : (c : Config) (m i d : List ℕ) (v : Move) (n : ℕ) → v ≡ refuse n → Saves c (apply c (digestStore c) (stateOf c m) v) (Refused n) m i i d d
+unfolding apply answerIn imageAfter answerBytes overwrite
+refusal-saves c m i d v n z = record {
+  state = ap (λ w. apply c (digestStore c) (stateOf c m) w .state) (sym z);
+  answer = ap (λ w. apply c (digestStore c) (stateOf c m) w .outcome .answer) (sym z);
+  image = ap (λ w. imageAfter (apply c (digestStore c) (stateOf c m) w .outcome .answer) i) (sym z);
+  digest = ap (λ w. atFront (apply c (digestStore c) (stateOf c m) w .outcome .digest) d) (sym z);
 }
+
+pub save-refused : (c : Config) (m i d : List ℕ) (n : ℕ) → saveMove c (stateOf c m) (length i) ≡ refuse n → Saves c (savedInto c (stateOf c m) (length i)) (Refused n) m i i d d
+unfolding savedInto
+save-refused c m i d n z = refusal-saves c m i d _ n z
 
 -- the image x, the state's own, is at the front of the buffer, its digest beside it
 pub save-done : (c : Config) (m i d m′ i′ d′ x : List ℕ) (l : ℕ) → c .digest ≡ sha256 → saveMove c (stateOf c m) (length i) ≡ saving
