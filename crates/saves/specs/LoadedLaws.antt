@@ -2,11 +2,11 @@
 -- Assumes nothing.
 use mathlib.Core.Path.{_≡_, refl, ap, ap₂, sym, _∙_}
 use mathlib.Core.Bool.{Bool, true, false, not}
-use mathlib.Core.List.{List, [], _∷_}
+use mathlib.Core.List.{List, []}
 use mathlib.Core.Option.{Option, some, none}
 use Prim.Native.Nat.{ℕ, _≤_, _<_}
 use native.Mathlib.Omega.{arith}
-use lib.ListN.{length, take}
+use lib.ListN.{take}
 use lib.Seq.{take-take}
 use Rattle.lists.specs.Checks.{check-last, check-stops, check-passes}
 use Rattle.lists.specs.Equal.{equal}
@@ -17,8 +17,8 @@ use Rattle.memory.specs.Layout.{memOf}
 use Rattle.tables.specs.View.{viewOf}
 use Rattle.tables.specs.ContentLaws.{divide-same}
 use Rattle.rules.specs.Skeleton.{Config, done}
-use Rattle.rules.specs.Rules.{Move, refuse, loading, isNone, imageOr}
-use Rattle.machine.specs.Machine.{State, Result, ending, loaded, apply, guard as digestStore}
+use Rattle.rules.specs.Rules.{refuse, loading, isNone, imageOr}
+use Rattle.machine.specs.Machine.{State, ending, apply, guard as digestStore}
 use Rattle.guard_state.specs.declared.Guard.{Guard}
 use Rattle.guard_state.specs.State.{numbersOf, stateIn, stateOf}
 use Rattle.guard_state.specs.Waits.{ends, restingState}
@@ -59,13 +59,14 @@ module _ (c : Config) (m : List ℕ) (g : Guard) (e : g ≡ numbersOf (memOf m .
       pub load-unsound : good ≡ false → loadMove c here i d ≡ refuse 84
       unfolding loadMove
       load-unsound h =
-          check-passes refuse 16 _ _ _ (none-open c m g e closed) ∙ check-passes refuse 74 _ _ _ (sealed ∙ ap not known) ∙ check-stops refuse 84 _ _ _ (parsed ∙ ap not h)
+          check-passes refuse 16 _ _ _ (none-open c m g e closed) ∙ check-passes refuse 74 _ _ _ (sealed ∙ ap not known)
+          ∙ check-stops refuse 84 _ _ _ (parsed ∙ ap not h)
 
       pub load-goes : good ≡ true → loadMove c here i d ≡ loading (imageOr (parse ID-BYTES i)) d
       unfolding loadMove
       load-goes h =
-          check-passes refuse 16 _ _ _ (none-open c m g e closed) ∙ check-passes refuse 74 _ _ _ (sealed ∙ ap not known) ∙ check-last refuse 84 _ _ (parsed ∙ ap not h)
-          ∙ ap (λ (w : ℕ). loading (imageOr (parse w i)) d) wide
+          check-passes refuse 16 _ _ _ (none-open c m g e closed) ∙ check-passes refuse 74 _ _ _ (sealed ∙ ap not known)
+          ∙ check-last refuse 84 _ _ (parsed ∙ ap not h) ∙ ap (λ (w : ℕ). loading (imageOr (parse w i)) d) wide
 
   pub load-refused : (n : ℕ) → loadMove c here i d ≡ refuse n → Sends c (loadedFrom c here i d) (Refused n) m [] []
   unfolding loadedFrom
@@ -87,16 +88,18 @@ module _ (c : Config) (m : List ℕ) (g : Guard) (e : g ≡ numbersOf (memOf m .
     abbrev contents : List (List (List ℕ))
     contents = divide (nodesIn n after) (imageIn n after .1)
 
-    move-loads : loadMove c here i d ≡ loading (imageOr (parse ID-BYTES i)) d → apply c (digestStore c) here (loadMove c here i d) ≡ ending c (digestStore c) here (done 0 []) tables contents
+    move-loads : loadMove c here i d ≡ loading (imageOr (parse ID-BYTES i)) d
+        → apply c (digestStore c) here (loadMove c here i d) ≡ ending c (digestStore c) here (done 0 []) tables contents
     unfolding apply imageOr
     move-loads z = ap (apply c (digestStore c) here) (z ∙ ap (λ (y : Option Image). loading (imageOr y) d) (l .tables))
 
     same-contents : divide (nodesIn n after) (memOf after .digests) ≡ contents
-    same-contents = divide-same (nodesIn n after) _ _ (sym (take-take (pageTotal (nodesIn n after)) (pageTotal (nodesIn n after)) (memOf after .digests) (omega arith)))
+    same-contents = let p = pageTotal (nodesIn n after) in divide-same (nodesIn n after) _ _ (sym (take-take p p (memOf after .digests) (omega arith)))
 
     rests-loaded : restingState c (viewOf n 0 (memOf after)) ≡ ends c here tables contents
     unfolding restingState ends viewOf
-    rests-loaded = ap₂ (λ (o : List OpenFile) (x : List (List (List ℕ))). ends c here (record { nodes = nodesIn n after; opens = o }) x) (sym (no-opens closed)) same-contents
+    rests-loaded =
+        ap₂ (λ (o : List OpenFile) (x : List (List (List ℕ))). ends c here (record { nodes = nodesIn n after; opens = o }) x) (sym (no-opens closed)) same-contents
 
     pub load-done : (m′ : List ℕ) → loadMove c here i d ≡ loading (imageOr (parse ID-BYTES i)) d → stateOf c m′ ≡ restingState c (viewOf n 0 (memOf after))
         → Sends c (loadedFrom c here i d) (Done 0 0) m′ [] []

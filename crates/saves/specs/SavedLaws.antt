@@ -1,8 +1,8 @@
 -- What a save leaves, by what its tests found.
 -- Assumes nothing.
-use mathlib.Core.Path.{_≡_, refl, ap, ap₂, sym, _∙_}
+use mathlib.Core.Path.{_≡_, ap, ap₂, sym, _∙_}
 use mathlib.Core.Bool.{true, false}
-use mathlib.Core.List.{List, [], _∷_, map, map-id}
+use mathlib.Core.List.{List, map, map-id}
 use Prim.Native.Nat.{ℕ, _+_, _≤_, _<_}
 use native.Mathlib.Omega.{arith}
 use lib.Dec.{ltb}
@@ -14,7 +14,7 @@ use Rattle.lists.specs.Parts.{overwrite}
 use Rattle.lists.specs.PartLaws.{take-overwrite, overwrite-front}
 use Rattle.digest.specs.Sha256.{sha256}
 use Rattle.filesystem.specs.Tables.{ID-BYTES, PAGES, Node, pageTotal}
-use Rattle.filesystem.specs.Image.{Image, flatten, divide, print, imageLength}
+use Rattle.filesystem.specs.Image.{flatten, divide, print, imageLength}
 use Rattle.filesystem.specs.ImageLaws.{flatten-divide}
 use Rattle.memory.specs.Layout.{memOf}
 use Rattle.memory.specs.MemLaws.{length-digests}
@@ -90,14 +90,19 @@ module _ (c : Config) (m : List ℕ) (g : Guard) (e : g ≡ numbersOf (memOf m .
   module _ (closed : g .opens ≤ 0) (wide : c .width ≡ ID-BYTES) (n l : ℕ) (measured : l ≡ imageLength ID-BYTES (nodesIn (g .nodes) m)) where
     pub save-short : n < l → saveMove c here n ≡ refuse 34
     unfolding saveMove
-    save-short h = check-passes refuse 16 _ _ _ (none-open closed) ∙ check-stops refuse 34 _ _ _ (lt-ltb n (imageLength (c .width) (here .skeleton .tables .nodes)) (omega (arith, length-held wide)))
+    save-short h =
+        check-passes refuse 16 _ _ _ (none-open closed)
+        ∙ check-stops refuse 34 _ _ _ (lt-ltb n (imageLength (c .width) (here .skeleton .tables .nodes)) (omega (arith, length-held wide)))
 
     pub save-goes : l ≤ n → saveMove c here n ≡ saving
     unfolding saveMove
-    save-goes h = check-passes refuse 16 _ _ _ (none-open closed) ∙ check-last refuse 34 _ _ (le-ltb n (imageLength (c .width) (here .skeleton .tables .nodes)) (omega (arith, length-held wide)))
+    save-goes h =
+        check-passes refuse 16 _ _ _ (none-open closed)
+        ∙ check-last refuse 34 _ _ (le-ltb n (imageLength (c .width) (here .skeleton .tables .nodes)) (omega (arith, length-held wide)))
 
 -- a refusal leaves everything alone
-pub refusal-saves : (c : Config) (m i d : List ℕ) (v : Move) (n : ℕ) → v ≡ refuse n → Saves c (apply c (digestStore c) (stateOf c m) v) (Refused n) m i i d d
+pub refusal-saves : (c : Config) (m i d : List ℕ) (v : Move) (n : ℕ) → v ≡ refuse n
+    → Saves c (apply c (digestStore c) (stateOf c m) v) (Refused n) m i i d d
 unfolding apply answerIn imageAfter answerBytes overwrite
 refusal-saves c m i d v n z = record {
   state = ap (λ w. apply c (digestStore c) (stateOf c m) w .state) (sym z);
@@ -106,7 +111,8 @@ refusal-saves c m i d v n z = record {
   digest = ap (λ w. atFront (apply c (digestStore c) (stateOf c m) w .outcome .digest) d) (sym z);
 }
 
-pub save-refused : (c : Config) (m i d : List ℕ) (n : ℕ) → saveMove c (stateOf c m) (length i) ≡ refuse n → Saves c (savedInto c (stateOf c m) (length i)) (Refused n) m i i d d
+pub save-refused : (c : Config) (m i d : List ℕ) (n : ℕ) → saveMove c (stateOf c m) (length i) ≡ refuse n
+    → Saves c (savedInto c (stateOf c m) (length i)) (Refused n) m i i d d
 unfolding savedInto
 save-refused c m i d n z = refusal-saves c m i d _ n z
 

@@ -4,8 +4,10 @@ use mathlib.Core.Path.{sym, _∙_}
 use lib.ListN.{length}
 use Rattle.lists.specs.EqualLaws.{bytes-of}
 use Rattle.configuration.specs.Delivered.{delivered}
-use Rattle.guard.specs.EventLaws.{long-enough}
-use Rattle.guard.specs.EntryLaws.{digest-delivered, width-delivered, call-turned, call-34, call-begun}
+use Rattle.outcomes.specs.Sent.{sends-leaves}
+use Rattle.guard.specs.EventLaws.{long-enough, call-short, call-read}
+use Rattle.guard.specs.Promise.{held}
+use Rattle.guard.specs.EntryLaws.{digest-delivered, width-delivered, call-enters, turned, refused-as, taken-as}
 use borrow.Author.Needs.{needs}
 use Rattle.guard.proofs.on_call.Statement.{statement}
 use Rattle.guard.proofs.on_call.Tie as tie
@@ -15,7 +17,9 @@ returns c =
     let f = c .before in
     let s = f .before .before .before .before in
     let a = s .before .before .args in
-    call-turned (a .memory .now) (a .bytes .now) (bytes-of (a .bytes .now) (λ k. omega (arith, s .shared-slice-known .given k))) (a .answer .now) (a .request .now) _ (f .first-number .ensures) (c .if1 .taken)
+    let e = call-enters (a .memory .now) (a .bytes .now) (length (a .answer .now)) (length (a .request .now))
+    (bytes-of (a .bytes .now) (λ k. omega (arith, s .shared-slice-known .given k))) in
+    turned (a .memory .now) (a .answer .now) (a .request .now) e (f .first-number .ensures) (c .if1 .taken)
 
 returns-2 : tie.Need-returns-2
 returns-2 c =
@@ -23,8 +27,10 @@ returns-2 c =
     let f = x .before .before in
     let s = f .before .before .before .before in
     let a = s .before .before .args in
-    call-34 (a .memory .now) (a .bytes .now) (bytes-of (a .bytes .now) (λ k. omega (arith, s .shared-slice-known .given k))) (a .answer .now) (a .request .now) _ (f .first-number .ensures)
-    (x .before .if1 .left) _ (x .is-short .ensures) (c .if2 .taken)
+    let e = call-enters (a .memory .now) (a .bytes .now) (length (a .answer .now)) (length (a .request .now))
+    (bytes-of (a .bytes .now) (λ k. omega (arith, s .shared-slice-known .given k))) in
+    refused-as (a .memory .now) (a .answer .now) (a .request .now) e (f .first-number .ensures) (x .before .if1 .left) 34
+    (call-short delivered (held (a .memory .now)) (a .bytes .now) _ _ (sym (x .is-short .ensures) ∙ c .if2 .taken))
 
 begin-call-requires : tie.Need-begin-call-requires
 begin-call-requires c κs =
@@ -43,10 +49,14 @@ returns-3 c =
     let f = x .before .before in
     let s = f .before .before .before .before in
     let a = s .before .before .args in
-    call-begun (a .memory .now) (a .bytes .now) (bytes-of (a .bytes .now) (λ k. omega (arith, s .shared-slice-known .given k))) (a .answer .now) (a .request .now) _ (f .first-number .ensures)
-    (x .before .if1 .left) _ (x .is-short .ensures) (j .if2 .left) _ _ _ (omega arith) (λ h. v .begin-call .ensures .0 delivered digest-delivered width-delivered h)
+    let e = call-enters (a .memory .now) (a .bytes .now) (length (a .answer .now)) (length (a .request .now))
+    (bytes-of (a .bytes .now) (λ k. omega (arith, s .shared-slice-known .given k))) in
+    taken-as (a .memory .now) (a .answer .now) (a .request .now) e (f .first-number .ensures) (x .before .if1 .left)
+    (call-read delivered (held (a .memory .now)) (a .bytes .now) _ _ (sym (x .is-short .ensures) ∙ j .if2 .left)) _ _ _ _ (omega arith)
+    (λ h. sends-leaves delivered _ _ _ _ _ (v .begin-call .ensures .0 delivered digest-delivered width-delivered h) _)
 
 pub on-call-spec : {M : Type 1} → statement M
 on-call-spec =
     tie.close
-    (tie.spec (λ c κs. search needs) (λ c. search needs) returns (λ c κs. search needs) (λ c. search needs) returns-2 begin-call-requires (λ c. search needs) (λ c. search needs) returns-3)
+    (tie.spec (λ c κs. search needs) (λ c. search needs) returns (λ c κs. search needs) (λ c. search needs) returns-2
+    begin-call-requires (λ c. search needs) (λ c. search needs) returns-3)

@@ -13,7 +13,7 @@ returns c =
     let d = f .before .before in
     let a = d .before .before .before .args in
     load-turned (a .memory .now) (a .image .now) (a .digest .now) (bytes-of (a .image .now) (λ k. omega (arith, d .before .shared-slice-known .given k)))
-    (bytes-of (a .digest .now) (λ k. omega (arith, d .shared-slice-known2 .given k))) _ (f .first-number .ensures) (c .if1 .taken)
+    (bytes-of (a .digest .now) (λ k. omega (arith, d .shared-slice-known2 .given k))) (f .first-number .ensures) (c .if1 .taken)
 
 load-requires : tie.Need-load-requires
 load-requires c κs = c .before .before .first-number .ensures .goes (c .before .if1 .left)
@@ -26,7 +26,7 @@ returns-2 c =
     let d = f .before .before in
     let a = d .before .before .before .args in
     load-taken (a .memory .now) (a .image .now) (a .digest .now) (bytes-of (a .image .now) (λ k. omega (arith, d .before .shared-slice-known .given k)))
-    (bytes-of (a .digest .now) (λ k. omega (arith, d .shared-slice-known2 .given k))) _ (f .first-number .ensures) (j .if1 .left) _ _ (omega arith)
+    (bytes-of (a .digest .now) (λ k. omega (arith, d .shared-slice-known2 .given k))) (f .first-number .ensures) (j .if1 .left) _ _ (omega arith)
     (v .load .ensures .0 delivered digest-delivered width-delivered)
 
 pub on-load-spec : {M : Type 1} → statement M

@@ -5,8 +5,9 @@ use lib.ListN.{length}
 use Rattle.lists.specs.EqualLaws.{bytes-of}
 use Rattle.configuration.specs.Delivered.{delivered}
 use Rattle.guard.specs.Tested.{pending-number}
-use Rattle.guard.specs.EventLaws.{long-enough, answer-room}
-use Rattle.guard.specs.EntryLaws.{digest-delivered, width-delivered, reply-turned, reply-34, reply-taken}
+use Rattle.guard.specs.EventLaws.{long-enough, answer-room, reply-short, reply-read}
+use Rattle.guard.specs.Promise.{held}
+use Rattle.guard.specs.EntryLaws.{digest-delivered, width-delivered, reply-enters, turned, refused-as, taken-as}
 use borrow.Author.Needs.{needs}
 use Rattle.guard.proofs.on_reply.Statement.{statement}
 use Rattle.guard.proofs.on_reply.Tie as tie
@@ -16,7 +17,9 @@ returns c =
     let f = c .before in
     let s = f .before .before .before .before in
     let a = s .before .before .args in
-    reply-turned (a .memory .now) (a .bytes .now) (bytes-of (a .bytes .now) (λ k. omega (arith, s .shared-slice-known .given k))) (a .answer .now) (a .request .now) _ (f .first-number .ensures) (c .if1 .taken)
+    let e = reply-enters (a .memory .now) (a .bytes .now) (length (a .answer .now)) (length (a .request .now))
+    (bytes-of (a .bytes .now) (λ k. omega (arith, s .shared-slice-known .given k))) in
+    turned (a .memory .now) (a .answer .now) (a .request .now) e (f .first-number .ensures) (c .if1 .taken)
 
 returns-2 : tie.Need-returns-2
 returns-2 c =
@@ -24,8 +27,10 @@ returns-2 c =
     let f = x .before .before in
     let s = f .before .before .before .before in
     let a = s .before .before .args in
-    reply-34 (a .memory .now) (a .bytes .now) (bytes-of (a .bytes .now) (λ k. omega (arith, s .shared-slice-known .given k))) (a .answer .now) (a .request .now) _ (f .first-number .ensures)
-    (x .before .if1 .left) _ (x .is-short .ensures) (c .if2 .taken)
+    let e = reply-enters (a .memory .now) (a .bytes .now) (length (a .answer .now)) (length (a .request .now))
+    (bytes-of (a .bytes .now) (λ k. omega (arith, s .shared-slice-known .given k))) in
+    refused-as (a .memory .now) (a .answer .now) (a .request .now) e (f .first-number .ensures) (x .before .if1 .left) 34
+    (reply-short delivered (held (a .memory .now)) (a .bytes .now) _ _ (sym (x .is-short .ensures) ∙ c .if2 .taken))
 
 accept-reply-requires : tie.Need-accept-reply-requires
 accept-reply-requires c κs =
@@ -47,10 +52,14 @@ returns-3 c =
     let a = s .before .before .args in
     let n = pending-number (a .memory .now) _ (f .first-number .ensures) (x .before .if1 .left) in
     let z = long-enough (length (a .answer .now)) (length (a .request .now)) (sym (x .is-short .ensures) ∙ j .if2 .left) in
-    reply-taken (a .memory .now) (a .bytes .now) (bytes-of (a .bytes .now) (λ k. omega (arith, s .shared-slice-known .given k))) (a .answer .now) (a .request .now) _ (f .first-number .ensures)
-    (x .before .if1 .left) _ (x .is-short .ensures) (j .if2 .left) _ _ _ _ (omega arith) (λ h. v .accept-reply .ensures .0 delivered digest-delivered width-delivered h (n .0) (n .1) (z .0))
+    let e = reply-enters (a .memory .now) (a .bytes .now) (length (a .answer .now)) (length (a .request .now))
+    (bytes-of (a .bytes .now) (λ k. omega (arith, s .shared-slice-known .given k))) in
+    taken-as (a .memory .now) (a .answer .now) (a .request .now) e (f .first-number .ensures) (x .before .if1 .left)
+    (reply-read delivered (held (a .memory .now)) (a .bytes .now) _ _ (sym (x .is-short .ensures) ∙ j .if2 .left)) _ _ _ _ (omega arith)
+    (λ h. v .accept-reply .ensures .0 delivered digest-delivered width-delivered h (n .0) (n .1) (z .0))
 
 pub on-reply-spec : {M : Type 1} → statement M
 on-reply-spec =
     tie.close
-    (tie.spec (λ c κs. search needs) (λ c. search needs) returns (λ c κs. search needs) (λ c. search needs) returns-2 accept-reply-requires (λ c. search needs) (λ c. search needs) (λ c. search needs) returns-3)
+    (tie.spec (λ c κs. search needs) (λ c. search needs) returns (λ c κs. search needs) (λ c. search needs) returns-2
+    accept-reply-requires (λ c. search needs) (λ c. search needs) (λ c. search needs) returns-3)

@@ -11,7 +11,7 @@ returns c =
     let f = c .before in
     let b = f .before .before .before .before .before in
     let a = b .args in
-    save-turned (a .memory .now) (a .image .now) (a .digest .now) (b .pre) _ (f .first-number .ensures) (c .if1 .taken)
+    save-turned (a .memory .now) (a .image .now) (a .digest .now) (b .pre) (f .first-number .ensures) (c .if1 .taken)
 
 save-requires : tie.Need-save-requires
 save-requires c κs =
@@ -26,7 +26,7 @@ returns-2 c =
     let f = j .before in
     let b = f .before .before .before .before .before in
     let a = b .args in
-    save-taken (a .memory .now) (a .image .now) (a .digest .now) (b .pre) _ (f .first-number .ensures) (j .if1 .left) _ _ _ _ (omega arith)
+    save-taken (a .memory .now) (a .image .now) (a .digest .now) (b .pre) (f .first-number .ensures) (j .if1 .left) _ _ _ _ (omega arith)
     (λ h. v .save .ensures .0 delivered digest-delivered width-delivered h)
 
 pub save-into-spec : {M : Type 1} → statement M
