@@ -9,14 +9,16 @@
 #include <ucontext.h>
 
 typedef struct { int32_t kind; uint64_t number; size_t length; } outcome;
-outcome guard_fresh(uint8_t *memory, size_t n);
-outcome guard_call(uint8_t *memory, size_t n, const uint8_t *call, size_t l, uint8_t *answer, size_t a, uint8_t *request, size_t q);
-outcome guard_reply(uint8_t *memory, size_t n, const uint8_t *reply, size_t l, uint8_t *answer, size_t a, uint8_t *request, size_t q);
+outcome guard_entry_fresh(uint8_t *memory, size_t n);
+outcome guard_entry_call(uint8_t *memory, size_t n, const uint8_t *call, size_t l, uint8_t *answer, size_t a, uint8_t *request, size_t q);
+outcome guard_entry_reply(uint8_t *memory, size_t n, const uint8_t *reply, size_t l, uint8_t *answer, size_t a, uint8_t *request, size_t q);
+outcome guard_entry_save(uint8_t *memory, size_t n, uint8_t *image, size_t l, uint8_t *digest);
+outcome guard_entry_load(uint8_t *memory, size_t n, const uint8_t *image, size_t l, const uint8_t *digest, size_t d);
 
-static uint8_t memory[52672], answer[9690], request[1037], pages[4][1024];
+static uint8_t memory[52672], answer[9690], request[1037], pages[4][1024], image[44776], digest[32];
 
-static outcome call(const void *b, size_t n) { return guard_call(memory, sizeof memory, b, n, answer, sizeof answer, request, sizeof request); }
-static outcome reply(const void *b, size_t n) { return guard_reply(memory, sizeof memory, b, n, answer, sizeof answer, request, sizeof request); }
+static outcome call(const void *b, size_t n) { return guard_entry_call(memory, sizeof memory, b, n, answer, sizeof answer, request, sizeof request); }
+static outcome reply(const void *b, size_t n) { return guard_entry_reply(memory, sizeof memory, b, n, answer, sizeof answer, request, sizeof request); }
 
 static void expect(outcome o, int32_t kind, uint64_t number)
 {
@@ -66,7 +68,7 @@ static void set_up(void)
         write_call[5 + i] = (uint8_t)(i * 7 + i / 251);
     for (int i = 0; i < 4; i++)
         memcpy(pages[i], write_call + 5 + 1024 * i, 1024);
-    guard_fresh(memory, sizeof memory);
+    guard_entry_fresh(memory, sizeof memory);
     call("\1\7/a", 4);
     expect(reply("\2\0\0\0", 4), 0, 2);
     call("\3\3/a", 4);
@@ -88,6 +90,10 @@ static void every_case(void)
     expect(reply("\2\0\0\0\1\1a", 7), 0, 1);
     call("\x0d/a", 3);
     expect(reply("\2\0\0\0\1\7\0\20\0\0", 10), 0, 4096);
+    call("\4\2\0\0\0", 5);
+    expect(reply("\0\0\0\0", 4), 0, 0);
+    expect(guard_entry_save(memory, sizeof memory, image, sizeof image, digest), 0, 167);
+    expect(guard_entry_load(memory, sizeof memory, image, 167, digest, sizeof digest), 0, 0);
 }
 
 static ucontext_t here, there;

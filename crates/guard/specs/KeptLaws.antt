@@ -1,6 +1,6 @@
 -- The memory of a guard stays one: a fresh guard's is, and so is the memory that an entry leaves.
 -- Assumes nothing.
-use mathlib.Core.Path.{sym, subst}
+use mathlib.Core.Path.{_≡_, sym, subst}
 use mathlib.Core.List.{List}
 use Prim.Native.Nat.{ℕ, _≤_}
 use native.Mathlib.Omega.{arith}
@@ -8,11 +8,11 @@ use lib.ListN.{length}
 use Rattle.filesystem.specs.ImageLaws.{Digest}
 use Rattle.memory.specs.Layout.{memorySize}
 use Rattle.digest.specs.Laws.{length-sha256, bytes-sha256}
-use Rattle.rules.specs.Skeleton.{Event, Buffers}
+use Rattle.rules.specs.Skeleton.{Event, save, load, EventBytes, Buffers}
 use Rattle.configuration.specs.Delivered.{delivered}
 use Rattle.machine.specs.Consistent.{Consistent, step-consistent, fresh-consistent}
 use Rattle.outcomes.specs.declared.Outcome.{Outcome}
-use Rattle.guard.specs.Promise.{Kept, held, Promise, FreshPromise}
+use Rattle.guard.specs.Promise.{Kept, held, stepped, Promise, FreshPromise, SavePromise, LoadPromise}
 
 digest-fits : (s : List ℕ) → Digest (delivered .digest s)
 unfolding delivered
@@ -25,8 +25,19 @@ fresh-kept m r m′ h p = record {
   consistent = subst (Consistent delivered) (sym (p .state h)) (fresh-consistent delivered (omega arith));
 }
 
-pub promise-kept : (m : List ℕ) (e : Event) (r : Outcome) (m′ : List ℕ) (b b′ : Buffers) → Kept m → Promise m e r m′ b b′ → Kept m′
-promise-kept m e r m′ b b′ k p = record {
-  long = omega (arith, p .same-length, k .long);
-  consistent = subst (Consistent delivered) (sym (p .state k)) (step-consistent delivered digest-fits (held m) e (p .bytes) (k .consistent));
+-- what a step leaves
+step-kept : (m m′ : List ℕ) (e : Event) → EventBytes e → Kept m → length m′ ≡ length m → held m′ ≡ stepped m e .state → Kept m′
+step-kept m m′ e b k n s = record {
+  long = omega (arith, n, k .long);
+  consistent = subst (Consistent delivered) (sym s) (step-consistent delivered digest-fits (held m) e b (k .consistent));
 }
+
+pub promise-kept : (m : List ℕ) (e : Event) (r : Outcome) (m′ : List ℕ) (b b′ : Buffers) → Kept m → Promise m e r m′ b b′ → Kept m′
+promise-kept m e r m′ b b′ k p = step-kept m m′ e (p .bytes) k (p .same-length) (p .state k)
+
+pub save-kept : (m : List ℕ) (r : Outcome) (m′ i i′ d d′ : List ℕ) → Kept m → SavePromise m r m′ i i′ d d′ → Kept m′
+unfolding EventBytes
+save-kept m r m′ i i′ d d′ k p = step-kept m m′ (save (length i)) tt k (p .same-length) (p .state k)
+
+pub load-kept : (m i d : List ℕ) (r : Outcome) (m′ : List ℕ) → Kept m → LoadPromise m i d r m′ → Kept m′
+load-kept m i d r m′ k p = step-kept m m′ (load i d) (p .bytes) k (p .same-length) (p .state k)

@@ -24,7 +24,7 @@ held m = stateOf delivered m
 abbrev pub stepped : List ℕ → Event → Result (digestStore delivered)
 stepped m e = step delivered (digestStore delivered) (held m) e
 
--- The one premise: the memory of a guard. `guard_fresh` makes it so, and every entry keeps it (specs/KeptLaws.antt).
+-- The one premise: the memory of a guard. `on_fresh` makes it so, and every entry keeps it (specs/KeptLaws.antt).
 pub record Kept (m : List ℕ) : Type 0 where
   pub long : memorySize ≤ length m
   pub consistent : Consistent delivered (held m)

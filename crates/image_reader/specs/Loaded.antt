@@ -17,7 +17,7 @@ use Rattle.lists.specs.Parts.{overwrite}
 use Rattle.lists.specs.PartLaws.{overwrite-snoc, take-overwrite}
 use Rattle.lists.specs.RowLaws.{length-rows}
 use Rattle.lists.specs.Form.{bind}
-use Rattle.filesystem.specs.Tables.{ID-BYTES, PAGES, Node, noNode, nodeAt, newNode, withSize, pageTotal}
+use Rattle.filesystem.specs.Tables.{ID-BYTES, NODES, PAGES, Node, noNode, nodeAt, newNode, withSize, pageTotal}
 use Rattle.filesystem.specs.Image.{soundNodes, sound, parse}
 use Rattle.filesystem.specs.Sound.{to-sound, name-short}
 use Rattle.memory.specs.Layout.{Mem, memOf, withNodes, withDigests}
@@ -29,6 +29,7 @@ use Rattle.image_reader.specs.ParseLaws.{Formed, to-formed, parsed-forme
 -- before and after are the memory's bytes, n is the number of nodes
 pub record Loaded (image before after : List ℕ) (n : ℕ) : Type 0 where
   pub tables : parse ID-BYTES image ≡ some (imageIn n after)
+  pub few : n ≤ NODES
   pub rest : memOf after ≡ withDigests (memOf after .digests) (withNodes (memOf after .nodes) (memOf before))
 
 -- what a sound image says
@@ -101,6 +102,7 @@ both-loaded s before middle after n i q a b =
     let d : take (pageTotal (take n (memOf after .nodes))) (memOf after .digests) ≡ ds =
     ap₂ (λ (u : List Node) (M : Mem). take (pageTotal u) (M .digests)) e m ∙ front (memOf before .digests) ds (pageTotal ns) (sym (i .count) ∙ sym (length-rows 32 (digestCount ID-BYTES s) _)) in
     record {
+      few = let z = i .form .count in omega arith;
       tables = i .is ∙ ap₂ (λ (u : List Node) (v : List (List ℕ)). some (u, v)) (sym e) (sym d);
       rest = m ∙ ap (λ (M : Mem). withDigests (M .digests) (withNodes (M .nodes) (memOf before))) (sym m);
     }

@@ -1,0 +1,40 @@
+-- A save and a load as the machine takes them once the guard is known to be running and idle: the numbers that are left, or what is done.
+-- Assumes nothing.
+use mathlib.Core.Path.{_≡_}
+use mathlib.Core.Bool.{not}
+use mathlib.Core.List.{List, [], _∷_}
+use Prim.Native.Nat.{ℕ}
+use lib.Dec.{ltb}
+use Rattle.lists.specs.Checks.{decide}
+use Rattle.lists.specs.Equal.{equal}
+use Rattle.filesystem.specs.Image.{imageLength, parse}
+use Rattle.rules.specs.Skeleton.{Config, atFront, imageAfter}
+use Rattle.rules.specs.Rules.{Move, refuse, saving, loading, inUseCheck, isNone, imageOr}
+use Rattle.machine.specs.Machine.{State, Result, apply, guard as digestStore}
+use Rattle.guard_state.specs.State.{stateOf}
+use Rattle.outcomes.specs.declared.Outcome.{Outcome}
+use Rattle.outcomes.specs.Values.{answerIn}
+
+module _ (c : Config) (s : State (digestStore c)) where
+  -- 'Save: 5, 114, 16, 34', into a buffer of n bytes
+  unfoldable pub saveMove : ℕ → Move
+  saveMove n = decide refuse (inUseCheck c (s .skeleton) ∷ (34, ltb n (imageLength (c .width) (s .skeleton .tables .nodes))) ∷ []) saving
+
+  unfoldable pub savedInto : ℕ → Result (digestStore c)
+  savedInto n = apply c (digestStore c) s (saveMove n)
+
+  -- 'Load: 5, 114, 16, 74, 84', of image i with digest d
+  unfoldable pub loadMove : (i d : List ℕ) → Move
+  loadMove i d =
+      decide refuse (inUseCheck c (s .skeleton) ∷ (74, not (equal (c .digest i) d)) ∷ (84, isNone (parse (c .width) i)) ∷ [])
+      (loading (imageOr (parse (c .width) i)) d)
+
+  unfoldable pub loadedFrom : (i d : List ℕ) → Result (digestStore c)
+  loadedFrom i d = apply c (digestStore c) s (loadMove i d)
+
+-- What a save leaves: the outcome r, the memory m, the image buffer, before i and now i′, and the digest, before d and now d′, are those of x.
+pub record Saves (c : Config) (x : Result (digestStore c)) (r : Outcome) (m i i′ d d′ : List ℕ) : Type 0 where
+  pub state : stateOf c m ≡ x .state
+  pub answer : answerIn r i′ [] ≡ x .outcome .answer
+  pub image : i′ ≡ imageAfter (x .outcome .answer) i
+  pub digest : d′ ≡ atFront (x .outcome .digest) d
