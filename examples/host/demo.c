@@ -30,8 +30,8 @@ typedef struct {
 
 static const char *const call_words[] = {"", "create", "mkdir", "open", "close", "seek", "fetch", "store", "cut", "remove", "rmdir", "chmod", "readdir", "stat"};
 
-static const char *const reasons[] = {"", "a reply of the wrong length", "a wrong status", "an id that is taken", "a descriptor that is taken",
-                                      "not the page that was stored", "not the stat that is kept", "not the listing that is kept"};
+static const char *const reasons[] = {"", "wrong length", "wrong status", "an id that is taken", "a descriptor that is taken",
+                                      "not the page that was stored", "not the node's stat", "not what the directory holds"};
 
 /* Listens between guard and host. */
 static size_t ask(void *to, const uint8_t *request, size_t length, uint8_t reply[HOST_REPLY_LENGTH])
@@ -39,14 +39,14 @@ static size_t ask(void *to, const uint8_t *request, size_t length, uint8_t reply
     stage *s = to;
     size_t n = strlen(s->asked);
     int paged = request[0] == GUARD_FETCH || request[0] == GUARD_STORE;
-    snprintf(s->asked + n, sizeof s->asked - n, paged ? "%s%s %d" : "%s%s", n ? ", " : "", call_words[request[0]], paged ? request[5] : 0);
+    snprintf(s->asked + n, sizeof s->asked - n, paged ? "%s%s %d" : "%s%s", n ? " " : "", call_words[request[0]], paged ? request[5] : 0);
     n = host_reply(s->host, request, length, reply);
     if (s->same && request[0] == GUARD_OPEN)
         memset(reply, 0, n);
     return n;
 }
 
-enum { SHOWN = 13 };
+enum { SHOWN = 10 };
 
 /* The first bytes in hexadecimal. */
 static const char *digits(const uint8_t *bytes, size_t length)
@@ -63,8 +63,8 @@ static const char *digits(const uint8_t *bytes, size_t length)
 static void row(stage *s, guard_outcome o, int kind, uint64_t number, const char *words)
 {
     static const char *const kinds[] = {"done", "ask", "refused", "stopped"};
-    printf("  %-35s %-*s", words, 2 * SHOWN, digits(s->client.call, s->client.call_length));
-    printf("  %-34s  %s %u", s->asked[0] ? s->asked : "-", kinds[o.kind], (unsigned)o.number);
+    printf("  %-33s  %-*s", words, 2 * SHOWN, digits(s->client.call, s->client.call_length));
+    printf("  %-31s  %s %u", s->asked[0] ? s->asked : "-", kinds[o.kind], (unsigned)o.number);
     if (o.kind != GUARD_DONE)
         printf(": %s", o.kind == GUARD_STOPPED ? reasons[o.number] : strerror((int)o.number));
     if (o.kind != kind || o.number != number) {

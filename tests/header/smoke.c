@@ -43,6 +43,9 @@ static void make_file(guard *g)
 
 static void refusals(guard *g)
 {
+    expect(guard_call(g, NULL, 0, answer, sizeof answer - 1, request, sizeof request), GUARD_REFUSED, GUARD_SHORT_BUFFER, 0);
+    expect(guard_call(g, NULL, 0, answer, sizeof answer, request, sizeof request - 1), GUARD_REFUSED, GUARD_SHORT_BUFFER, 0);
+    expect(guard_entry_fresh(g->memory, GUARD_MEMORY_LENGTH - 1), GUARD_REFUSED, GUARD_SHORT_BUFFER, 0);
     expect(guard_call(g, NULL, 0, answer, sizeof answer, request, sizeof request), GUARD_REFUSED, GUARD_MALFORMED, 0);
     expect(guard_call(g, NULL, 0, NULL, 0, request, sizeof request), GUARD_REFUSED, GUARD_SHORT_BUFFER, 0);
     expect(guard_save(g, image, sizeof image, digest), GUARD_REFUSED, GUARD_IN_USE, 0);
