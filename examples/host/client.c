@@ -2,11 +2,11 @@
 
 #include <string.h>
 
-void client_begin(client *c, client_host *ask, void *host)
+void client_begin(client *c, client_host *ask, void *with)
 {
     memset(c, 0, sizeof *c);
     c->ask = ask;
-    c->host = host;
+    c->host = with;
     guard_fresh(&c->guard);
 }
 

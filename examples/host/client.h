@@ -24,7 +24,7 @@ typedef struct {
 } client;
 
 /* A client with a fresh guard. */
-void client_begin(client *c, client_host *ask, void *host);
+void client_begin(client *c, client_host *ask, void *with);
 
 /* The host of host.h, as a client_host. */
 size_t client_ask_host(void *host, const uint8_t *request, size_t length, uint8_t reply[HOST_REPLY_LENGTH]);

@@ -291,7 +291,7 @@ static void forget_removed(host *h)
             table_remove(&h->table, h->table.rows[i].path);
 }
 
-host *host_open(const char *tree, const char *table)
+host *host_open(const char *tree, const char *table_file)
 {
     host *h = malloc(sizeof *h);
     if (!h)
@@ -302,7 +302,7 @@ host *host_open(const char *tree, const char *table)
         free(h);
         return NULL;
     }
-    if (table_read(&h->table, table)) {
+    if (table_read(&h->table, table_file)) {
         close(h->tree);
         free(h);
         return NULL;

@@ -15,8 +15,8 @@ enum { HOST_REPLY_LENGTH = GUARD_ANSWER_LENGTH };
 
 typedef struct host host;
 
-/* A host over the directory `tree`, which is made where it is not there, and the file `table`, whose name must stay where it is. Null and errno where it cannot be. */
-host *host_open(const char *tree, const char *table);
+/* A host over the directory `tree`, which is made where it is not there, and the file `table_file`, whose name must stay where it is. Null and errno where it cannot be. */
+host *host_open(const char *tree, const char *table_file);
 
 void host_close(host *h);
 

@@ -110,7 +110,7 @@ class Beside(Recording):
         answer = driver.send(f"l {self.saved.data.hex()} {self.saved.digest.hex()}")
         if answer != ["done", "0"]:
             raise Different(f"the load gives {' '.join(answer)}")
-        self.guard.__init__(self.guard.store)
+        self.guard.__init__(self.guard.store)  # fresh, and still the one that the generator looks at
         self.host.open_files = {}
         super().send(Load(self.saved.data, self.saved.digest))
 
