@@ -1,6 +1,7 @@
 /* A client, the guard and a host over a directory of this machine; then someone tampers with the disk, and the guard stops. Ends with status 1 where anything comes
  * back that is not what is told here. */
 #define _XOPEN_SOURCE 700 /* mkdtemp */
+#include <signal.h>
 #include <stdio.h>
 #include <stdlib.h>
 #include <string.h>
@@ -270,6 +271,7 @@ int main(void)
     const char *base = getenv("TMPDIR");
     char place[4096];
     int wrong = 0;
+    signal(SIGPIPE, SIG_IGN); /* the directory goes away even if only the beginning is read */
     snprintf(place, sizeof place, "%s/guard-demo.XXXXXX", base ? base : "/tmp");
     if (!mkdtemp(place) || chdir(place) || mkdir("host", 0700) || mkdir("box", 0700)) {
         perror(place);
