@@ -54,8 +54,7 @@ fn turn(memory: &mut [u8], text: &mut [u8], kept: usize) -> Rest
     requires { ⌜ kept ≤ length (now text) ⌝ }
     ensures { λ r. ⌜ r .kept ≤ 3 + 2 * mostBytes ⌝ }
 {
-    let got = line_input::read_at(STDIN_FILENO, text, kept);
-    let n = line_input::came(got, text, kept);
+    let n = line_input::read_on(STDIN_FILENO, text, kept);
     if n == 0 {
         answer_last(memory, line_input::front(text, kept));
         return Rest {

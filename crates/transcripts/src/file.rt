@@ -116,8 +116,7 @@ fn turn(fd: i32, memory: &mut [u8], text: &mut [u8], said: &mut [u8], r: Rest) -
 {
     let kept = r.kept;
     let p = r.progress;
-    let got = line_input::read_at(fd, text, kept);
-    let n = line_input::came(got, text, kept);
+    let n = line_input::read_on(fd, text, kept);
     if n == 0 {
         return Rest {
             kept: 0,

@@ -19,20 +19,20 @@ use text::hex::Decoded;
 pub mod file;
 
 // The most bytes of an event, the longest buffer of a save, and the room for any answer's line.
-pub const EVENT_BYTES: usize = 49152;
+const EVENT_BYTES: usize = 49152;
 
-pub const IMAGE_BUFFER: usize = 60000;
+const IMAGE_BUFFER: usize = 60000;
 
-pub const ANSWER_LINE: usize = 131072;
+const ANSWER_LINE: usize = 131072;
 
 // The lengths of both buffers, and that of the last answer's line, with its line feed.
-pub struct Settings {
-    pub answer: usize,
-    pub request: usize,
-    pub said: usize,
+struct Settings {
+    answer: usize,
+    request: usize,
+    said: usize,
 }
 
-pub fn fresh(memory: &mut [u8]) -> Settings {
+fn fresh(memory: &mut [u8]) -> Settings {
     guard::on_fresh(memory);
     Settings {
         answer: guard::ANSWER_LENGTH,
@@ -42,7 +42,7 @@ pub fn fresh(memory: &mut [u8]) -> Settings {
 }
 
 // What stands behind a letter and its blank.
-pub fn field(line: &[u8]) -> &[u8] {
+fn field(line: &[u8]) -> &[u8] {
     if line.len() < 2 {
         return line;
     }
@@ -233,7 +233,7 @@ fn answered(s: Settings, said: usize) -> Settings {
 }
 
 // A line that is no answer: what it does to the guard and to the settings.
-pub fn feed(memory: &mut [u8], line: &[u8], said: &mut [u8], s: Settings) -> Settings
+fn feed(memory: &mut [u8], line: &[u8], said: &mut [u8], s: Settings) -> Settings
     requires { ⌜ 131072 ≤ length (now said) ⌝ }
 {
     if text::line::starts(line, b"c ") {
@@ -258,7 +258,7 @@ pub fn feed(memory: &mut [u8], line: &[u8], said: &mut [u8], s: Settings) -> Set
 }
 
 // The last answer's line, without its line feed.
-pub fn last_answer(said: &[u8], s: Settings) -> &[u8] {
+fn last_answer(said: &[u8], s: Settings) -> &[u8] {
     let n = s.said;
     if n == 0 {
         return desk_lines::first(said, 0);
@@ -267,12 +267,12 @@ pub fn last_answer(said: &[u8], s: Settings) -> &[u8] {
 }
 
 // Whether a line is the last answer's, behind `= `.
-pub fn is_answer(line: &[u8], said: &[u8], s: Settings) -> bool {
+fn is_answer(line: &[u8], said: &[u8], s: Settings) -> bool {
     buffers::same(field(line), last_answer(said, s))
 }
 
 // Where the second field ends, and all that stands before it.
-pub fn first_words(text: &[u8]) -> &[u8] {
+fn first_words(text: &[u8]) -> &[u8] {
     let end = field_end(text);
     if end == text.len() {
         return text;
