@@ -22,14 +22,14 @@ use Rattle.rules.specs.Requests.{asked, Pending, idle, creating, opening
 use Rattle.rules.specs.Skeleton.{Config, Event, call, reply, save, load, stopped, answerLength, requestLength, Skeleton}
 use Rattle.rules.specs.Rules.{Move, refuse, halt, send, finish, add, delete, readPage, begin, fillPage, stored, cutDone, saving, loading, callChecks, readAction, callAction, replyChecks, replyAction, isIdle, callOr, isNone, eventChecks, eventAction, judge}
 
--- 'Numbers the panel shows'
+-- SPECIFICATION 7.1
 abbrev pub numbers : List ℕ
 numbers = 5 ∷ 114 ∷ 61 ∷ 34 ∷ 22 ∷ 36 ∷ 20 ∷ 13 ∷ 2 ∷ 17 ∷ 21 ∷ 16 ∷ 39 ∷ 24 ∷ 9 ∷ 27 ∷ 28 ∷ 74 ∷ 84 ∷ []
 
 unfoldable pub known : ℕ → Bool
 known n = any (eqb n) numbers
 
--- 'Stop reasons: 1 length, then 2 status, .. 7 listing'
+-- SPECIFICATION 5.10
 unfoldable pub isReason : ℕ → Bool
 isReason n = leb 1 n && leb n 7
 
