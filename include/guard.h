@@ -19,7 +19,9 @@
  *   be copied or moved. Nothing else is kept: two guards know nothing of each other, and two threads may use two guards.
  * - Buffers may not overlap each other or the guard. A null pointer with length 0 is an empty one. What lies behind the bytes that are given out is
  *   not touched, and neither is the buffer that nothing is given out in.
- * - Link with -lguard (pkg-config guard). The archive is for x86-64 and asks memcpy and memset of the C library, nothing else. */
+ * - Link with -lguard (pkg-config guard). The archive is for x86-64 and asks memcpy and memset of the C library, nothing else.
+ *
+ * Paragraphs that are cited are those of docs/SPECIFICATION.md; docs/INTEGRATION.md is for whoever builds a host. */
 #ifndef GUARD_H
 #define GUARD_H
 
@@ -38,7 +40,7 @@ enum {
     GUARD_DIGEST_LENGTH = 32
 };
 
-/* Limits. A path is "/", or components each after one "/"; a component has no byte 0 and is neither "." nor "..". */
+/* Limits (2.7, 3). A path is "/", or components each after one "/"; a component has no byte 0 and is neither "." nor "..". */
 enum {
     GUARD_PAGE_LENGTH = 1024,
     GUARD_FILE_LENGTH = 65536,    /* the longest file */
@@ -53,7 +55,7 @@ enum {
 
 typedef struct guard { uint8_t memory[GUARD_MEMORY_LENGTH]; } guard;
 
-/* What comes back. `length` bytes stand at the front of the answer (done), the request (ask) or the image (a save that is done). */
+/* What comes back (1.3, 6). `length` bytes stand at the front of the answer (done), the request (ask) or the image (a save that is done). */
 typedef struct { int kind; uint64_t number; size_t length; } guard_outcome;
 
 /* The kind of an outcome. */
@@ -64,7 +66,7 @@ enum {
     GUARD_STOPPED = 3  /* the host's reply is wrong; `number` is the reason. From now on everything is refused GUARD_STOPPED_FOR_GOOD */
 };
 
-/* Calls: one byte for the kind, then exactly these fields; numbers are little-endian, their bytes stand in brackets. A path takes the rest.
+/* Calls (4, 6.1): one byte for the kind, then exactly these fields; numbers are little-endian, their bytes stand in brackets. A path takes the rest.
  * `handle` is what an open gave. Modes are 0 to 7, a sum of 4 read, 2 write, 1 search; rights are 1 read, 2 write, 3 both.
  *
  *                                                        done with                       asks the host for
@@ -88,7 +90,7 @@ enum {
     GUARD_TRUNCATE = 8, GUARD_REMOVE = 9, GUARD_RMDIR = 10, GUARD_CHMOD = 11, GUARD_READDIR = 12, GUARD_STAT = 13
 };
 
-/* Requests that are not the call itself, and the right replies to each. A host obeys a request before it replies.
+/* Requests that are not the call itself, and the right replies to each (5). A host obeys a request before it replies.
  *
  *     close      4, descriptor (4)
  *     fetch      6, descriptor (4), page (4)
@@ -107,7 +109,7 @@ enum { GUARD_FETCH = 6, GUARD_STORE = 7, GUARD_CUT = 8 };
 
 enum { GUARD_FILE = 1, GUARD_DIRECTORY = 2 };
 
-/* Why a call, reply, save or load is refused. */
+/* Why a call, reply, save or load is refused (7). */
 enum {
     GUARD_STOPPED_FOR_GOOD = 5, /* EIO           the guard has stopped */
     GUARD_PENDING = 114,        /* EALREADY      a call, save or load while a request is pending */
@@ -130,7 +132,7 @@ enum {
     GUARD_UNSOUND_IMAGE = 84    /* EILSEQ        a load: no guard saves such an image */
 };
 
-/* Why the guard stopped: what is wrong with the host's reply. */
+/* Why the guard stopped: what is wrong with the host's reply (5.10). */
 enum {
     GUARD_STOP_LENGTH = 1,     /* its length */
     GUARD_STOP_STATUS = 2,     /* a status that is not the right one */

@@ -12,12 +12,12 @@
 #include "client.h"
 #include "disk.h"
 
-/* The host's part of the directory and the box's own, which the host cannot reach. */
+/* The host's part of the directory and the client's own, which the host cannot reach. */
 #define LOG "host/tree/cellar/log"
 #define NOTE "host/tree/cellar/note"
 #define IMAGE "host/image"
 #define OLD_IMAGE "host/image.old"
-#define DIGEST "box/digest"
+#define DIGEST "client/digest"
 
 typedef struct {
     client client;
@@ -102,7 +102,7 @@ static void save(stage *s)
     row(s, o, GUARD_DONE, o.number, "save");
     disk_new(IMAGE, image, o.length);
     disk_new(DIGEST, digest, sizeof digest);
-    printf("    the image, %zu bytes, may lie with the host; its digest is what the box keeps: %s\n", o.length, digits(digest, sizeof digest));
+    printf("    the image, %zu bytes, may lie with the host; its digest is what the client keeps: %s\n", o.length, digits(digest, sizeof digest));
 }
 
 static void load(stage *s, const char *file, int kind, uint64_t number)
@@ -236,7 +236,7 @@ static void untouched(stage *s)
 
 static const struct { const char *title; void (*act)(stage *); } lives[] = {
     {"The client makes files; the guard keeps names, sizes, modes and digests, and asks the host to keep the pages.", first_life},
-    {"The box is switched off and on: a new process, a fresh guard, and the image with the digest that the box kept.", second_life},
+    {"The client is switched off and on: a new process, a fresh guard, and the image with the digest that the client kept.", second_life},
     {"Someone changes byte 1,500 of the log on the disk.", byte_changed},
     {"Someone puts an old page back, after the client has written a newer one.", old_page},
     {"Someone takes the note out of the directory.", file_hidden},
@@ -273,7 +273,7 @@ int main(void)
     int wrong = 0;
     signal(SIGPIPE, SIG_IGN); /* the directory goes away even if only the beginning is read */
     snprintf(place, sizeof place, "%s/guard-demo.XXXXXX", base ? base : "/tmp");
-    if (!mkdtemp(place) || chdir(place) || mkdir("host", 0700) || mkdir("box", 0700)) {
+    if (!mkdtemp(place) || chdir(place) || mkdir("host", 0700) || mkdir("client", 0700)) {
         perror(place);
         return 2;
     }

@@ -1,4 +1,4 @@
-"""The program deskrun on top of the reference tree: one line in, one line out. Document 01, 'Marked trials'.
+"""The program deskrun on top of the reference tree: one line in, one line out (SPECIFICATION 12).
 
     python3 -m model.desk < lines
 

@@ -1,4 +1,4 @@
-"""Events (document 01: hand-ins) and outcomes: what goes into a guard, and the one of four things that comes back.
+"""Events and outcomes (SPECIFICATION 1.2, 1.3): what goes into a guard, and the one of four things that comes back.
 
 An outcome's text is deskrun's line. A save's digest, which deskrun never sees, stands after its image.
 """

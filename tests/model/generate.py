@@ -1,7 +1,7 @@
 """Lists of events from a seed.
 
 A list starts fresh, with a few open files or in a tree that stands at a limit, then goes on with calls that mostly fit
-what the guard holds, with numbers near the edges that document 01 names. How often something goes wrong (a form, a
+what the guard holds, with numbers near the edges that SPECIFICATION names. How often something goes wrong (a form, a
 buffer, a reply, an image, an event at the wrong time) is drawn once for each list, and so is the request about which
 the host lies: some lists are long and honest, others end soon. A stop is followed by a few more events.
 """

@@ -1,6 +1,6 @@
-"""An honest host: it holds the plain tree itself, obeys every request, never fails and replies truly.
+"""An honest host: it holds the reference tree itself, obeys every request, never fails and replies truly.
 
-It is written apart from the machine, over directories of named entries and the bytes of files. What document 01 leaves
+It is written apart from the machine, over directories of named entries and the bytes of files. What SPECIFICATION leaves
 to a host, it chooses by the random numbers it is given: a new id, a descriptor, the order of a listing.
 """
 

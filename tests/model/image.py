@@ -1,4 +1,4 @@
-"""The saved image: its bytes, and when it is sound. Document 01, 'The saved image'."""
+"""The image that is saved: its bytes, and when it is sound (SPECIFICATION 8)."""
 
 from .rules import (
     DIRECTORY, FILE, ID, MAX_MODE, MAX_NAME, MAX_NODES, MAX_PAGES, MAX_PATH, MAX_SIZE,

@@ -1,4 +1,4 @@
-"""Every number of 'Numbers the panel shows': in its condition, and in the nearest case where it does not come.
+"""Every number of SPECIFICATION 7.1: in its condition, and in the nearest case where it does not come.
 
 `NUMBERS` has one script for each number, `NEIGHBOURS` one for each two that stand beside each other in an order, with
 an event for which both conditions hold: the first comes. Where two conditions cannot both hold, the next is taken:

@@ -1,5 +1,5 @@
 """Requests and right replies, written out by hand: which pages a call fetches and stores, in which order and with
-which sizes, and what is left afterwards. Document 01, 'Requests and replies'."""
+which sizes, and what is left afterwards (SPECIFICATION 5)."""
 
 from . import calls
 from .edges import FULL, crowd

@@ -1,11 +1,11 @@
 """The rules that need no tables: limits, nodes, the forms of calls and paths, the bytes of requests and replies.
 
-In the order of document 01: 'What the box holds', 'Slips' (here: calls), 'Requests and replies'.
+In the order of SPECIFICATION 2 to 5.
 """
 
 from dataclasses import dataclass, field
 
-# 'What the box holds'
+# SPECIFICATION 2, 3
 ID = 4  # the width of an id, a handle and a parent
 FILE, DIRECTORY = 1, 2
 READ_BIT, WRITE_BIT, SEARCH_BIT = 4, 2, 1
@@ -18,12 +18,12 @@ MAX_SIZE = 65_536
 MAX_PATH = 255
 MAX_NAME = 32
 
-# 'Slips'
+# SPECIFICATION 4
 CREATE, MKDIR, OPEN, CLOSE, SEEK, READ, WRITE, TRUNCATE, REMOVE, RMDIR, CHMOD, READDIR, STAT = range(1, 14)
 READ_RIGHT, WRITE_RIGHT = 1, 2
 MAX_COUNT = 4096
 
-# 'Requests and replies'
+# SPECIFICATION 5, 6.2
 MAX_DESCRIPTOR = 1023
 ANSWER = (MAX_NODES - 1) * (ID + 1 + 1 + MAX_NAME)  # the longest listing: 9,690
 REQUEST = 1 + 4 + 4 + 4 + PAGE  # a store: 1,037

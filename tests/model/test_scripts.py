@@ -1,4 +1,4 @@
-"""Every script as a test: the marked trials, each number and its neighbours, the page rules, each dishonest reply."""
+"""Every script as a test: the trials, each number and its neighbours, the page rules, each dishonest reply."""
 
 import unittest
 

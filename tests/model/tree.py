@@ -1,4 +1,4 @@
-"""The machine that document 01 calls the plain tree, and the guard, from one text of the rules.
+"""The reference tree (SPECIFICATION 9) and the guard, from one text of the rules.
 
 The two differ in what they keep of a page and in what a load brings back, and only there; a `Store` says both:
 
@@ -10,7 +10,7 @@ So a reply to a fetch is judged on actual bytes in the tree and on digests in th
 is of a save must give both the same outcomes and the same tables; to be held beside a real guard, other lists need the
 guard.
 
-Each call is a coroutine: its refusals in document 01's order, then its requests, each answered by a reply, then the
+Each call is a coroutine: its refusals in their order (SPECIFICATION 7), then its requests, each answered by a reply, then the
 change of the tables. The pending call is the coroutine, and how far it has come is where it stands.
 """
 
@@ -79,11 +79,11 @@ class OpenFile:
 
 
 class Refusal(Exception):
-    """A number of 'Numbers the panel shows'."""
+    """A number of SPECIFICATION 7.1."""
 
 
 class Stop(Exception):
-    """A stop reason of 'Requests and replies'."""
+    """A reason of SPECIFICATION 5.10."""
 
 
 def refuse(number, condition):

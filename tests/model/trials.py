@@ -1,4 +1,4 @@
-"""The marked trials of document 01, in its order."""
+"""The trials (SPECIFICATION 11.1), in their order."""
 
 from . import calls
 from .events import Reply

@@ -1,4 +1,4 @@
--- The claim after power-up can be met: a box that writes a file, saves, is switched off and loads what it saved.
+-- The claim after power-up can be met: a client that writes a file, saves, is switched off and loads what it saved.
 use mathlib.Core.Path.{_≡_, refl, ap, sym, _∙_, subst}
 use mathlib.Core.Logic.{inl}
 use mathlib.Core.List.{List, [], _∷_, _++_}

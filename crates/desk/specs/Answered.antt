@@ -10,7 +10,7 @@ use Rattle.machine.specs.Machine.{State, step, guard as digestStore}
 use Rattle.guard.specs.Promise.{Kept, held}
 use Rattle.desk_lines.specs.Lines.{DeskLine, callLine, replyLine, badLine, printed, printedBad, Prints}
 
--- 'a fresh guard and buffers long enough'
+-- buffers that are long enough (SPECIFICATION 12.1)
 module _ (s : State (digestStore delivered)) where
   unfoldable pub printedFor : DeskLine → List ℕ
   printedFor (callLine b) = printed (step delivered (digestStore delivered) s (call b (answerLength delivered) (requestLength delivered)) .outcome .answer)

@@ -24,7 +24,7 @@ unfoldable pub textOf : List (List ℕ) → List ℕ
 textOf [] = []
 textOf (l ∷ ls) = l ++ (10 ∷ textOf ls)
 
--- 'Each line read gives one line'
+-- one line for each (SPECIFICATION 12.1)
 unfoldable pub printedThrough : State (digestStore delivered) → List (List ℕ) → List ℕ
 printedThrough s [] = []
 printedThrough s (l ∷ ls) = printedFor s (lineOf l) ++ printedThrough (stateFor s (lineOf l)) ls

@@ -1,4 +1,4 @@
-// The desk: lines read, handed in to the guard, their answers' lines written (document 01, 'Marked trials').
+// The desk: lines read, handed in to the guard, their answers' lines written (SPECIFICATION 12).
 ghost use mathlib.Core.Path.{_≡_};
 ghost use Prim.Native.Nat.{_+_, _-_, _*_, _≤_};
 ghost use lib.ListN.{length};

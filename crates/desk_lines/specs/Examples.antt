@@ -1,4 +1,4 @@
--- Document 01's desk sample: what each line that is read means, and what is printed for each answer. And lines that are bad.
+-- The desk's session (SPECIFICATION 12.6): what each line that is read means, and what is printed for each answer. And lines that are bad.
 -- Assumes nothing.
 use mathlib.Core.Path.{_≡_, refl}
 use mathlib.Core.List.{List, [], _∷_, map}
@@ -37,7 +37,7 @@ pub stat-printed : printed (done 65535 (2 ∷ 0 ∷ 0 ∷ 0 ∷ 1 ∷ 7 ∷ 255 
 unfolding ascii printed anyBytes hexOf digitOf halfOf pick tab decimalOf lastDigits
 stat-printed = refl
 
--- an empty slip and an empty reply are lines
+-- an empty call and an empty reply are lines
 pub empty-read : meanings ("c " ∷ "r " ∷ []) ≡ callLine [] ∷ replyLine [] ∷ []
 unfolding ascii lineOf begins pick hexLine decodedAs decodeOf place valueOf bytesOf pairOf tab
 empty-read = refl

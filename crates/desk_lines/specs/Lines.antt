@@ -1,4 +1,4 @@
--- The lines of the program `deskrun` (document 01, 'Marked trials'): what one that is read means, and what is printed for an answer.
+-- The lines of the program `deskrun` (SPECIFICATION 12): what one that is read means, and what is printed for an answer.
 -- Assumes nothing.
 use mathlib.Core.Path.{_≡_}
 use mathlib.Core.List.{List, [], _∷_, _++_}
@@ -17,7 +17,7 @@ use Rattle.rules.specs.Skeleton.{Answer, done, ask, refused, stopped, atFront}
 use Rattle.desk_lines.specs.declared.Line.{Line}
 use Rattle.desk_lines.specs.declared.Line.the-variants.{Call, Reply, Bad}
 
--- 'at most 9,690 bytes each': as many as the longest listing has (`most-answer`)
+-- at most 9,690 bytes: as many as the longest listing has (`most-answer`)
 abbrev pub mostBytes : ℕ
 mostBytes = (NODES - 1) * (ID-BYTES + (2 + NAME-BYTES))
 
@@ -25,7 +25,7 @@ pub data DeskLine : Type 0 where
   callLine replyLine : (bytes : List ℕ) → DeskLine
   badLine : DeskLine
 
--- 'in lower-case hexadecimal': a bad digit, an odd number of them or too many make the line bad
+-- in lower-case hexadecimal (SPECIFICATION 12.2, 12.3): a bad digit, an odd number of them or too many make the line bad
 unfoldable pub decodedAs : (List ℕ → DeskLine) → List ℕ → Decoded → DeskLine
 decodedAs kind s (Bytes n) = kind (bytesOf s)
 decodedAs kind s (BadDigit i) = badLine
@@ -35,7 +35,7 @@ decodedAs kind s TooLong = badLine
 unfoldable pub hexLine : (List ℕ → DeskLine) → List ℕ → DeskLine
 hexLine kind s = decodedAs kind s (decodeOf s mostBytes)
 
--- '`c ` and a slip, or `r ` and a reply', without the line feed; specs/Spelled.antt says that a line is read exactly where it is written so
+-- `c ` and a call, or `r ` and a reply, without the line feed; specs/Spelled.antt says that a line is read exactly where it is written so
 unfoldable pub lineOf : List ℕ → DeskLine
 lineOf s =
     pick (begins s (ascii "c ")) (hexLine callLine (drop 2 s))
@@ -47,19 +47,19 @@ lineBytes (callLine b) = b
 lineBytes (replyLine b) = b
 lineBytes badLine = []
 
--- 'any bytes', one space apart
+-- the bytes, if there are any, behind a blank
 unfoldable pub anyBytes : List ℕ → List ℕ
 anyBytes [] = []
 anyBytes (x ∷ b) = ascii " " ++ hexOf (x ∷ b)
 
--- '`ask` and the request, `done`, the decimal number and any bytes, `refused` or `stopped` and the number', and a line feed
+-- what is printed (SPECIFICATION 12.5), and a line feed
 unfoldable pub printed : Answer → List ℕ
 printed (ask q) = ascii "ask " ++ (hexOf q ++ ascii "\n")
 printed (done n b) = ascii "done " ++ (decimalOf n ++ (anyBytes b ++ ascii "\n"))
 printed (refused n) = ascii "refused " ++ (decimalOf n ++ ascii "\n")
 printed (stopped n) = ascii "stopped " ++ (decimalOf n ++ ascii "\n")
 
--- 'else it prints `bad line`'
+-- for every other line
 unfoldable pub printedBad : List ℕ
 printedBad = ascii "bad line\n"
 

@@ -1,4 +1,4 @@
--- Which lines are calls and which are replies: exactly those that are spelled as document 01 says, a letter, a space, and bytes in
+-- Which lines are calls and which are replies: exactly those that are spelled as SPECIFICATION 12.2 says, a letter, a space, and bytes in
 -- lower-case hexadecimal, at most 9,690 of them. All others are bad.
 -- Assumes nothing.
 use mathlib.Core.Path.{_≡_, refl, sym, ap, _∙_}

@@ -1,4 +1,4 @@
-// One line of the program `deskrun`: read, and the answer's line written (document 01, 'Marked trials').
+// One line of the program `deskrun`: read, and the answer's line written (SPECIFICATION 12).
 ghost use mathlib.Core.Path.{_≡_};
 ghost use Prim.Native.Nat.{_+_, _*_, _≤_};
 ghost use lib.ListN.{length, take};
@@ -12,7 +12,7 @@ ghost use Rattle.desk_lines.specs.Lines.{mostBytes, lineOf, anyBytes, pr
 use outcomes::Outcome;
 use text::hex::Decoded;
 
-// The most bytes of a slip or a reply: those of the longest listing.
+// The most bytes of a call or a reply: those of the longest listing.
 pub const SLIP_BYTES: usize = (limits::NODES - 1) * (limits::ID_BYTES + 2 + limits::NAME_BYTES);
 
 // The longest line that is read, without its line feed, and room for any that is written.

@@ -1,4 +1,4 @@
--- The saved image (document 01, 'The saved image'), at any width of ids: its bytes, and which tables are sound.
+-- The image that is saved (SPECIFICATION 8), at any width of ids: its bytes, and which tables are sound.
 -- Assumes nothing.
 use mathlib.Core.Path.{refl}
 use mathlib.Core.Bool.{Bool, true, false, _&&_, _||_, not}
@@ -15,7 +15,7 @@ use Rattle.lists.specs.Formats.{num, bytes, then, as-form, counted, text}
 use Rattle.filesystem.specs.Tables.{NODES, PAGES, DIGEST-BYTES, FILE-BYTES, NAME-BYTES, PATH-BYTES, Node, isFile, isDirectory, nodeAt, findId, pagesFor, pageTotal}
 use Rattle.filesystem.specs.Paths.{componentForm}
 
--- 'id, parent, kind (1), mode (1), size (4), name length (1), name'
+-- a node (SPECIFICATION 8.4): id, parent, kind (1), mode (1), size (4), length of the name (1), name
 unfoldable pub nodeForm : ℕ → Form Node
 nodeForm w =
     as-form {A = ℕ × (ℕ × (ℕ × (ℕ × (ℕ × List ℕ))))}
@@ -24,14 +24,14 @@ nodeForm w =
     (then (num w) λ _. then (num w) λ _. then (num 1) λ _. then (num 1) λ _. then (num 4) λ _. text 1)
     (λ n. refl) (λ p h. refl)
 
--- 'Two sections, each after its 4-byte count': nodes, and digests of 32 bytes
+-- two parts, each behind its count of 4 bytes: nodes, and digests of 32 bytes (SPECIFICATION 8.4)
 abbrev pub Image : Type 0
 Image = List Node × List (List ℕ)
 
 unfoldable pub imageForm : ℕ → Form Image
 imageForm w = then (counted 4 (nodeForm w)) (λ _. counted 4 (bytes DIGEST-BYTES))
 
--- digests 'by node, then by page'
+-- digests node by node, page by page
 unfoldable pub flatten : List (List (List ℕ)) → List (List ℕ)
 flatten [] = []
 flatten (ds ∷ dss) = ds ++ flatten dss
@@ -48,7 +48,7 @@ climb (suc fuel) ns n = pick (eqb (n .parent) 0) 0 (suc (length (n .name)) + cli
 unfoldable pub pathLength : List Node → Node → ℕ
 pathLength ns n = climb NODES ns n
 
--- 'Root first: id 1, kind 2, parent 0, no name'
+-- the root, which stands first (SPECIFICATION 8.6, as all up to `sound`)
 abbrev pub isRoot : Node → Bool
 isRoot n = eqb (n .id) 1 && (eqb (n .kind) 2 && (eqb (n .parent) 0 && equal (n .name) []))
 
@@ -61,7 +61,7 @@ inLimits w n =
 abbrev pub isNamed : Node → Bool
 isNamed n = componentForm (n .name) && leb (length (n .name)) NAME-BYTES
 
--- 'each parent is an earlier directory'
+-- each parent is a directory that stands before its child
 unfoldable pub parentsEarlier : List Node → List Node → Bool
 parentsEarlier before [] = true
 parentsEarlier before (n ∷ ns) = isDirectory (nodeAt before (findId before (n .parent))) && parentsEarlier (before ++ (n ∷ [])) ns
@@ -86,7 +86,7 @@ soundNodes w (r ∷ ns) =
     && (every (λ n. leb (pathLength (r ∷ ns) n) PATH-BYTES) (r ∷ ns)
     && leb (pageTotal (r ∷ ns)) PAGES)))))))
 
--- 'the second count is the page total'
+-- the second count is the number of pages that the sizes need
 unfoldable pub sound : ℕ → Image → Bool
 sound w i = soundNodes w (i .0) && eqb (length (i .1)) (pageTotal (i .0))
 
@@ -101,6 +101,6 @@ recordsLength w (n ∷ ns) = 2 * w + 7 + length (n .name) + recordsLength w ns
 unfoldable pub imageLength : ℕ → List Node → ℕ
 imageLength w ns = 8 + recordsLength w ns + DIGEST-BYTES * pageTotal ns
 
--- 'nothing follows'; nothing where the image is not sound (84)
+-- no byte follows; nothing where the image is not sound (84)
 unfoldable pub parse : ℕ → List ℕ → Option Image
 parse w s = bind (whole (imageForm w) s) (λ i. pick (sound w i) (some i) none)

@@ -150,7 +150,7 @@ image-most w ns e = go ns (to-sound w ns e)
         let z = records-most w 255 ns (omega arith) (at-all noNode ns (λ k h. name-short w (r ∷ ns) s (suc k) (omega arith))) in
         omega arith
 
--- 'Longest image: 44,776'
+-- the longest image, 44,776 bytes (SPECIFICATION 8.5)
 pub longest : (i : Image) → sound 4 i ≡ true → Shaped i → length (print 4 i) ≤ 44776
 unfolding sound
 longest i e h = rw (length-print 4 i e h) (image-most 4 (i .0) (and-fst _ _ e))

@@ -1,4 +1,4 @@
--- Paths, their form and lengths, and the walk along one (document 01, 'What the box holds' and the order under 'Numbers the panel shows').
+-- Paths, their form and lengths (SPECIFICATION 3), and the walk along one (SPECIFICATION 7.6).
 -- Assumes nothing.
 use mathlib.Core.Bool.{Bool, _&&_, _||_, not}
 use mathlib.Core.List.{List, [], _∷_, _++_}
@@ -22,7 +22,7 @@ slash = 47
 abbrev pub dot : ℕ
 dot = 46
 
--- components each after one `/`
+-- components, each behind one `/` (SPECIFICATION 3.1)
 unfoldable pub joined : Path → List ℕ
 joined [] = []
 joined (c ∷ cs) = slash ∷ (c ++ joined cs)
@@ -31,7 +31,7 @@ unfoldable pub pathBytes : Path → List ℕ
 pathBytes [] = slash ∷ []
 pathBytes (c ∷ cs) = joined (c ∷ cs)
 
--- at least 1 byte, none 0 or `/`, not `.` or `..`
+-- at least 1 byte, none 0 or `/`, not `.` or `..` (SPECIFICATION 3.2)
 unfoldable pub componentForm : List ℕ → Bool
 componentForm c =
     not (equal c []) && (not (equal c (dot ∷ [])) && (not (equal c (dot ∷ dot ∷ [])) && every (λ b. not (eqb b 0 || eqb b slash)) c))
@@ -54,7 +54,7 @@ unfoldable pub readPath : List ℕ → Option Path
 readPath [] = none
 readPath (b ∷ s) = pick (eqb b slash) (afterSlash s) none
 
--- 'component over 32 or path over 255' (36)
+-- a component over 32 or a path over 255 (SPECIFICATION 3.3: 36)
 unfoldable pub tooLong : Path → Bool
 tooLong p = any (λ c. ltb NAME-BYTES (length c)) p || ltb PATH-BYTES (length (pathBytes p))
 
@@ -66,7 +66,7 @@ unfoldable pub walk : List Node → ℕ → Path → ℕ
 walk ns d [] = d
 walk ns d (c ∷ cs) = walk ns (childAt ns d c) cs
 
--- 'the directory must be one (20), have bit 1 (13), hold the child (2)'
+-- at each component: 20, 13, 2 (SPECIFICATION 7.6)
 abbrev pub searchChecks : List Node → ℕ → List Check
 searchChecks ns d = (20, not (isDirectory (nodeAt ns d))) ∷ (13, not (hasBit 1 (nodeAt ns d))) ∷ []
 
@@ -74,7 +74,7 @@ unfoldable pub walkChecks : List Node → ℕ → Path → List Check
 walkChecks ns d [] = []
 walkChecks ns d (c ∷ cs) = searchChecks ns d ++ ((2, absent ns (childAt ns d c)) ∷ walkChecks ns (childAt ns d c) cs)
 
--- 'the last may be absent for create and mkdir'
+-- for create and mkdir, whose last component may be missing
 unfoldable pub parentChecks : List Node → ℕ → Path → List Check
 parentChecks ns d [] = []
 parentChecks ns d (c ∷ []) = searchChecks ns d

@@ -1,4 +1,4 @@
--- Whether a mode covers the rights of an open file: a table of 24 entries, eight modes for each of the rights 1, 2 and 3.
+-- Whether a mode covers the rights of an open file: a table of 24 entries, eight modes for each of the rights 1, 2 and 3 (SPECIFICATION 4.8).
 -- Assumes nothing.
 use mathlib.Core.Bool.{Bool}
 use mathlib.Core.List.{List, [], _∷_}

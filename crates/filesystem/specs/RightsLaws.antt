@@ -1,4 +1,4 @@
--- What the table of rights says: 'read needs 4, write needs 2'.
+-- What the table of rights says: reading needs bit 4, writing bit 2 (SPECIFICATION 4.8).
 -- Assumes nothing.
 use mathlib.Core.Path.{_≡_, refl, ap, sym, _∙_}
 use mathlib.Core.Bool.{Bool, true, false, _&&_, _||_, not, Bool·beq, false≢true}

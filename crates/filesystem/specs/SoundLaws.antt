@@ -23,7 +23,7 @@ use Rattle.filesystem.specs.Image.{climb, pathLength, isRoot, inLimits, 
 use Rattle.filesystem.specs.Sound.{ParentAt, Sound, to-limits, of-limits, nodeAt-append, parent-moved, to-sound, of-sound, limits-at, root-parent}
 use Rattle.filesystem.specs.Climb.{Rooted, rooted, Same, Kept, back, apart, later, parent-kept, pathLength-root, pathLength-step, pathLength-kept}
 
--- 'A fresh guard holds one node, the root'
+-- what a fresh guard has is sound
 pub sound-root : (w : ℕ) → 1 ≤ w → soundNodes w (root ∷ []) ≡ true
 unfolding soundNodes inLimits every unique any parentsEarlier pathLength climb pageTotal pagesFor equal pick
 sound-root zero h = absurd (omega arith)

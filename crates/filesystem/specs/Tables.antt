@@ -1,4 +1,4 @@
--- What the guard keeps of files beside their pages (document 01, 'What the box holds'): nodes and open files, their limits and changes.
+-- What the guard keeps of files beside their pages (SPECIFICATION 2): nodes and open files, their limits and changes.
 -- Assumes nothing.
 use mathlib.Core.Bool.{Bool, _&&_, not}
 use mathlib.Core.List.{List, [], _∷_}
@@ -8,7 +8,7 @@ use lib.ListN.{length, getD, set}
 use Rattle.lists.specs.Equal.{equal}
 use Rattle.lists.specs.Search.{place, select}
 
--- limits
+-- limits (SPECIFICATION 2.7)
 abbrev pub NODES : ℕ
 NODES = 256
 
@@ -43,7 +43,7 @@ DATA-BYTES = 4096
 abbrev pub DESCRIPTORS : ℕ
 DESCRIPTORS = 1024
 
--- kind 1 is a file, 2 a directory; mode 0 to 7; the parent is an id, the root's is 0
+-- SPECIFICATION 2.1: kind 1 is a file, 2 a directory; mode 0 to 7; the parent is an id, the root's is 0
 pub record Node : Type 0 where
   pub id : ℕ
   pub parent : ℕ
@@ -52,14 +52,14 @@ pub record Node : Type 0 where
   pub size : ℕ
   pub name : List ℕ
 
--- the handle is the file's id; rights 1 read, 2 write, 3 both
+-- SPECIFICATION 2.5: the handle is the file's id; rights 1 read, 2 write, 3 both
 pub record OpenFile : Type 0 where
   pub handle : ℕ
   pub descriptor : ℕ
   pub rights : ℕ
   pub cursor : ℕ
 
--- nodes in order of creation
+-- nodes in the order in which they were made (SPECIFICATION 2.3)
 pub record Tables : Type 0 where
   pub nodes : List Node
   pub opens : List OpenFile
@@ -74,7 +74,7 @@ isDirectory n = eqb (n .kind) 2
 abbrev pub hasBit : ℕ → Node → Bool
 hasBit b n = eqb (n .mode / b % 2) 1
 
--- 'just the pages its size needs'
+-- how many pages a size needs (SPECIFICATION 2.4)
 unfoldable pub pagesFor : ℕ → ℕ
 pagesFor size = (size + (PAGE-BYTES - 1)) / PAGE-BYTES
 
@@ -158,7 +158,7 @@ setSize ns k s = set ns k (withSize s (nodeAt ns k))
 unfoldable pub setCursor : List OpenFile → ℕ → ℕ → List OpenFile
 setCursor os k p = set os k (withCursor p (openAt os k))
 
--- 'A fresh guard holds one node, the root: id 1, mode 7'
+-- what a fresh guard has (SPECIFICATION 2.2)
 abbrev pub root : Node
 root = newNode 1 0 2 7 []
 

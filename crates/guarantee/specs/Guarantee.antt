@@ -1,4 +1,4 @@
--- Demand 3 at the digest and the width that are delivered.
+-- The claim (SPECIFICATION 10) at the digest and the width that are delivered.
 -- Assumes nothing.
 use native.Mathlib.Omega.{arith}
 use Rattle.configuration.specs.Delivered.{delivered}
@@ -21,7 +21,7 @@ agreement = first-half delivered delivered-fit
 pub no-stop : SecondHalf delivered
 no-stop = second-half delivered delivered-fit
 
--- the same for a box that was switched off and on, any number of times
+-- the same for a client that was switched off and on, any number of times
 pub agreement-of-lives : FirstHalfOfLives delivered
 agreement-of-lives = first-half-of-lives delivered delivered-fit
 

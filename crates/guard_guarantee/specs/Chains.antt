@@ -1,4 +1,4 @@
--- Where code and theorem meet. The guard's entries promise something of one hand-in each (crate guard, specs/Promise.antt). Here is what follows for a
+-- Where code and theorem meet. The guard's entries promise something of one event each (crate guard, specs/Promise.antt). Here is what follows for a
 -- whole run, as types: a memory that was made fresh, then any entries in any order, whatever the host replies. The claims speak of what C hands in, of
 -- what it gets back and finds in its buffers, and of the last memory; the history is made of these too. Proofs stand in specs/ChainLaws.antt.
 -- Assumes nothing.
@@ -33,7 +33,7 @@ readAs (negsuc k) n l a q = stopped n
 unfoldable pub answerRead : GuardOutcome → (answer request : List ℕ) → Answer
 answerRead r a q = readAs (r .kind) (r .number) (r .length) a q
 
--- a hand-in whose answer comes without a digest
+-- an event whose answer comes without a digest
 abbrev pub seenAs : Event → Answer → Seen
 seenAs e a = record { event = e; outcome = plain a }
 
@@ -76,7 +76,7 @@ Tree = State (tree delivered)
 abbrev pub freshTree : Tree
 freshTree = fresh delivered (tree delivered)
 
--- what was seen is what the plain tree answers, and the last memory holds the tree's state, digests for bytes
+-- what was seen is what the reference tree answers, and the last memory holds the tree's state, digests for bytes
 pub record Agrees (l : Life) : Type 0 where
   pub same : answers (l .seen) ≡ outcomes delivered (tree delivered) freshTree (events (l .seen))
   pub left : held (l .last) ≡ guardOf delivered (final delivered (tree delivered) freshTree (events (l .seen)))
@@ -89,7 +89,7 @@ FirstHalf = (l : Life) → LoadsSeen [] (l .seen) → Or (Collision sha256 (page
 unfoldable pub SecondHalf : Type 0
 SecondHalf = (l : Life) → HonestSeen delivered freshTree (l .seen) → Quiet (l .seen) × Agrees l
 
--- The same over several lives of one box, each but the first beginning with a load that is done (crate machine, specs/Restart.antt).
+-- The same over several lives (SPECIFICATION 10.9), each but the first beginning with a load that is done (crate machine, specs/Restart.antt).
 abbrev pub allSeen : List Life → List (List Seen)
 allSeen ls = map (λ l. l .seen) ls
 

@@ -1,4 +1,4 @@
-// The calls by handle judged: the numbers in document 01's order, and where none holds, the places of the open file and of its node. Nothing
+// The calls by handle judged: the numbers in their order (SPECIFICATION 7.8), and where none holds, the places of the open file and of its node. Nothing
 // is changed here.
 ghost use mathlib.Core.Path.{_≡_};
 ghost use Prim.Native.Nat.{ℕ, _≤_, _<_};

@@ -1,4 +1,4 @@
-// The saved image read from any bytes (document 01, 'The saved image'): whether it is sound, and its tables put into the memory.
+// The image read from any bytes (SPECIFICATION 8.4, 8.6): whether it is sound, and its tables put into the memory.
 ghost use mathlib.Core.Path.{_≡_};
 ghost use mathlib.Core.Bool.{true, _&&_, _||_};
 ghost use mathlib.Core.List.{[], _∷_};

@@ -1,4 +1,4 @@
-// The saved image (document 01, 'The saved image'): how long it is, written into a caller's buffer, and its SHA-256.
+// The image that is saved (SPECIFICATION 8.4): how long it is, written into a caller's buffer, and its SHA-256.
 ghost use mathlib.Core.Path.{_≡_};
 ghost use mathlib.Core.List.{_++_};
 ghost use Prim.Native.Nat.{_+_, _*_, _≤_, _<_};

@@ -1,4 +1,4 @@
-// Document 01's limits, each said once in the code. `all` says that they are the definitions'.
+// The limits (SPECIFICATION 2.7), each said once in the code. `all` says that they are the definitions'.
 ghost use mathlib.Core.Path.{_≡_};
 ghost use Rattle.limits.specs.Defined.{definedLimits};
 

@@ -1,4 +1,4 @@
--- Demand 3, both halves, as types: claims about a whole list of events. Their proofs stand elsewhere.
+-- The claim (SPECIFICATION 10), both halves, as types: about a whole list of events. Their proofs stand elsewhere.
 -- Assumes nothing.
 use mathlib.Core.Path.{_≡_}
 use mathlib.Core.Logic.{_⊎_}
@@ -58,14 +58,14 @@ LoadOf ds (save n) o = Unit {0}
 LoadOf ds (load i d) o = isDone (o .answer) → List·Memᴰ d ds
 
 module _ (c : Config) where
-  -- 'each load that was done carried a digest that an earlier save of the list gave', by the guard's outcomes
+  -- each load that was done carried a digest that an earlier save of the list gave, by the guard's outcomes (SPECIFICATION 10.4, 10.8)
   unfoldable pub LoadsOfSaves : List (List ℕ) → State (guard c) → List Event → Type 0
   LoadsOfSaves ds g [] = Unit {0}
   LoadsOfSaves ds g (e ∷ es) =
       LoadOf ds e (step c (guard c) g e .outcome)
       × LoadsOfSaves (given e (step c (guard c) g e .outcome) ++ ds) (step c (guard c) g e .state) es
 
-  -- every outcome is the tree's, and so is the final state, digests for bytes
+  -- every outcome is the tree's, and so is the final state, digests for bytes (SPECIFICATION 10.2)
   unfoldable pub Agrees : List Event → Type 0
   Agrees es =
       (outcomes c (guard c) (fresh c (guard c)) es ≡ outcomes c (tree c) (fresh c (tree c)) es)
@@ -79,7 +79,7 @@ module _ (c : Config) where
       (Collision (c .digest) (pages c (guard c) (fresh c (guard c)) es) ⊎ Collision (c .digest) (images c (guard c) (fresh c (guard c)) es))
       (Agrees es)
 
-  -- 'A load is of a save when its image and digest are that save's; the tree is unchanged when its nodes and bytes are'
+  -- a load of the latest save, the tree being unchanged since (SPECIFICATION 10.7)
   pub record OfLatest (t : State (tree c)) (i d : List ℕ) : Type 0 where
     pub latest : Saved
     pub earlier : List Saved

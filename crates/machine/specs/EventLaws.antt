@@ -65,7 +65,7 @@ module _ (c : Config) (S : Store) where
   unfolding step
   only-done-changes s e = move-keeps s (judge c (s .skeleton) e)
 
-  -- Clause c: what a rule says is done is done, and nothing else: the tables are the rule's, a request goes out and nothing is said to be done.
+  -- SPECIFICATION 13.3: what a rule says is done is done, and nothing else: the tables are the rule's, a request goes out and nothing is said to be done.
   pub finished : (s : State S) (t : Tables) (n : ℕ) (b : List ℕ)
       → (apply c S s (finish t n b) .outcome ≡ plain (done n b)) × (apply c S s (finish t n b) .state .skeleton .tables ≡ t)
   unfolding apply

@@ -1,4 +1,4 @@
--- The history of a list of events (document 01, 'The plain tree'): the pages in store requests and fetches' replies, the images given out or handed in.
+-- The history of a list of events (SPECIFICATION 10.3): the pages in stores and in replies to fetches, the images given out or handed in.
 -- Assumes nothing.
 use mathlib.Core.Path.{_≡_}
 use mathlib.Core.Bool.{Bool}

@@ -1,4 +1,4 @@
--- The honest host: which replies are right for the tree as it is (document 01, 'Requests and replies').
+-- The honest host: which replies are right for the tree as it is (SPECIFICATION 5.5, 5.13).
 -- Assumes nothing.
 use mathlib.Core.Path.{_≡_}
 use mathlib.Core.List.{List, []}

@@ -1,4 +1,4 @@
--- Demand 3, second half: under a host that is honest throughout nothing stops, and guard and tree agree. No collision is spoken of.
+-- The claim, second half (SPECIFICATION 10.5): under a host that is honest throughout nothing stops, and guard and tree agree. No collision is spoken of.
 use mathlib.Core.Path.{_≡_, refl, ap, sym, _∙_, subst}
 use mathlib.Core.Bool.{true≢false, true, not}
 use mathlib.Core.List.{List, [], _∷_}

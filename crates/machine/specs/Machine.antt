@@ -1,4 +1,5 @@
--- One machine over what is kept of a file's pages: the guard keeps digests, the reference tree bytes. Tables change when the last reply is accepted.
+-- One machine over what is kept of a file's pages: the guard keeps digests, the reference tree bytes. Tables change when the last reply is accepted
+-- (SPECIFICATION 5.9).
 -- Letters: S what is kept of pages, s the state, k a node's place, o an open file's place, p a position (in `asking` what is pending), n a count, i a
 -- page, q a change (in `asking` a request), r a reply, a what was gathered, t tables, x contents.
 -- Assumes nothing.

@@ -1,7 +1,7 @@
--- Demand 3 after power-up, as types. A life is what was handed in and what came back between two power-ups; its guard is fresh at first. A box that
--- starts again loads what it saved in an earlier life, so each life but the first begins with a load that is done; loads that are refused may come
--- before it. All lives are measured by one tree: at power-up it forgets its open files, the pending call and a stop, and keeps nodes, bytes and
--- saves. Proofs stand elsewhere.
+-- The claim after power-up (SPECIFICATION 10.9), as types. A life is what was handed in and what came back between two power-ups; its guard is fresh
+-- at first. A client that starts again loads what it saved in an earlier life, so each life but the first begins with a load that is done; loads that
+-- are refused may come before it. All lives are measured by one tree: at power-up it forgets its open files, the pending call and a stop, and keeps
+-- nodes, bytes and saves. Proofs stand elsewhere.
 -- Assumes nothing.
 use mathlib.Core.Path.{_≡_}
 use mathlib.Core.Logic.{_⊎_}

@@ -1,5 +1,5 @@
--- Demand 3 after power-up, proved: a load that is done leaves the same guard whatever was held before, so a life that begins with one goes on as if the
--- guard had never been switched off.
+-- The claim after power-up (SPECIFICATION 10.9), proved: a load that is done leaves the same guard whatever was held before, so a life that begins
+-- with one goes on as if the guard had never been switched off.
 -- Assumes nothing.
 use mathlib.Core.Path.{_≡_, refl, ap, ap₂, sym, _∙_, subst}
 use mathlib.Core.Logic.{_⊎_, inl, inr}

@@ -1,4 +1,4 @@
--- Demand 3, first half: over a whole list the guard's outcomes and final state are the tree's, or a collision is named.
+-- The claim, first half (SPECIFICATION 10.4): over a whole list the guard's outcomes and final state are the tree's, or a collision is named.
 use mathlib.Core.Path.{_≡_, refl, ap, ap₂, sym, _∙_, subst}
 use mathlib.Core.Logic.{_⊎_, inl, inr}
 use mathlib.Core.Bool.{Bool, true, false}

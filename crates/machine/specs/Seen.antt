@@ -1,4 +1,4 @@
--- Demand 3's words over what the caller sees: what was handed in and what came back, and no state of the guard.
+-- The claim's words over what the caller sees: what was handed in and what came back, and no state of the guard.
 -- Assumes nothing.
 use mathlib.Core.List.{List, [], _∷_, _++_, map}
 use Prim.Native.Nat.{ℕ}
@@ -14,7 +14,7 @@ use Rattle.machine.specs.History.{pageOut, imageIn, imageOut}
 use Rattle.machine.specs.Honest.{Right}
 use Rattle.machine.specs.Claim.{isDone, given, LoadOf, OfLatest}
 
--- one hand-in, and what came back
+-- one event, and what came back
 pub record Seen : Type 0 where
   pub event : Event
   pub outcome : Outcome
@@ -44,7 +44,7 @@ pageReplied q (reply r a b) = pick (isFetch q) (pick (eqb (length r) PAGE-BYTES)
 pageReplied q (save n) = []
 pageReplied q (load i d) = []
 
--- 'every page in a store request or a fetch's reply', where this request stands at first
+-- the pages of the history (SPECIFICATION 10.3), where this request stands at first
 unfoldable pub pagesAfter : (request : List ℕ) → List Seen → List (List ℕ)
 pagesAfter q [] = []
 pagesAfter q (x ∷ xs) = (pageReplied q (x .event) ++ pageOut (x .outcome .answer)) ++ pagesAfter (standing q (x .outcome .answer)) xs
@@ -52,7 +52,7 @@ pagesAfter q (x ∷ xs) = (pageReplied q (x .event) ++ pageOut (x .outcome .answ
 abbrev pub pagesSeen : List Seen → List (List ℕ)
 pagesSeen xs = pagesAfter [] xs
 
--- 'every image given out or handed in'
+-- and its images
 unfoldable pub imagesSeen : List Seen → List (List ℕ)
 imagesSeen [] = []
 imagesSeen (x ∷ xs) = (imageIn (x .event) ++ imageOut (x .event) (x .outcome)) ++ imagesSeen xs

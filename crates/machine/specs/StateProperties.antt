@@ -1,5 +1,5 @@
--- What holds of the guard along every run, whatever the host replies: valid tables (source document 000's state properties, as document 01 corrects
--- them), for each file just the digests that its size needs, each of 32 bytes; and what is saved always loads again.
+-- What holds of the guard along every run, whatever the host replies: valid tables (SPECIFICATION 2), for each file just the digests that its size
+-- needs, each of 32 bytes; and what is saved always loads again.
 -- Assumes nothing.
 use mathlib.Core.Path.{_≡_, refl, ap, ap₂, sym, _∙_, subst}
 use mathlib.Core.Bool.{true, false, not}
@@ -222,7 +222,7 @@ module _ (c : Config) (digest-fits : (s : List ℕ) → Digest (c .digest s)) wh
     pub always-valid : Valid (c .width) (at-end .skeleton)
     always-valid = always-holds .valid
 
-    -- 'just the pages its size needs'
+    -- as many digests as the size needs pages
     pub always-counted : Divided (at-end .skeleton .tables .nodes) (at-end .contents)
     always-counted = always-holds .pages .counted
 

@@ -100,7 +100,7 @@ module _ (c : Config) (S : Store) where
     pub refused-known : step c S s e .outcome .answer ≡ refused n → known n ≡ true
     refused-known q = first-has (checks-known c (s .skeleton) e) (step-refused-exactly .0 q)
 
-    -- 'a refused hand-in changes nothing'
+    -- a refusal changes nothing (SPECIFICATION 7.2)
     pub refused-unchanged : step c S s e .outcome .answer ≡ refused n → step c S s e .state ≡ s
     refused-unchanged q = refuses-move q .1
 

@@ -1,4 +1,4 @@
--- The reference tree (document 01, 'The plain tree'): the same machine over bytes in place of digests.
+-- The reference tree (SPECIFICATION 9): the same machine over bytes in place of digests.
 -- Assumes nothing.
 use mathlib.Core.List.{List, [], _∷_, map}
 use mathlib.Core.Option.{Option, some, none}
@@ -13,7 +13,7 @@ use Rattle.rules.specs.Requests.{asked, Pending, idle, creating, opening, closi
 use Rattle.rules.specs.Skeleton.{Config}
 use Rattle.machine.specs.Machine.{Files, Store, State, Gathered, guard}
 
--- 'the nodes and bytes of each save done, with its digest', the latest first
+-- the nodes and bytes of each save that was done, with its digest, the latest first (SPECIFICATION 9.2)
 pub record Saved : Type 0 where
   pub digest : List ℕ
   pub files : Files (List ℕ)
@@ -22,13 +22,13 @@ unfoldable pub lookup : List Saved → List ℕ → Option Saved
 lookup [] d = none
 lookup (s ∷ ss) d = pick (equal (s .digest) d) (some s) (lookup ss d)
 
--- 'the latest save that gave the digest handed in; where none did, it changes nothing'
+-- the last save that gave the digest handed in; where none did, nothing changes (SPECIFICATION 9.8)
 unfoldable pub goBack : Option Saved → Files (List ℕ) → Files (List ℕ)
 goBack none f = f
 goBack (some s) f = s .files
 
 module _ (c : Config) where
-  -- 'digests worked out from the tree's own pages'
+  -- the digests of the tree's own pages (SPECIFICATION 9.7)
   unfoldable pub digestsOf : List ℕ → List (List ℕ)
   digestsOf b = tab (pagesFor (length b)) (λ i. c .digest (pageOf b i))
 

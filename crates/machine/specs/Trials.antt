@@ -1,4 +1,4 @@
--- Document 01's marked trials and its desk sample, as one table over the definitions: each row the events and what they come to.
+-- The trials with ● (SPECIFICATION 11.1) and the desk's session (12.6), as one table over the definitions: each row the events and what they come to.
 -- The digest is left open: no row hangs on its value.
 use mathlib.Core.Path.{_≡_, refl}
 use mathlib.Core.List.{List, [], _∷_, _++_, map}
@@ -101,7 +101,7 @@ table =
           ∷ r (1 ∷ 2 ∷ 3 ∷ replicate 1020 0) ∷ []),
       wroteAnswers ++ (done 0 [] ∷ ask (6 ∷ 0 ∷ 0 ∷ 0 ∷ 0 ∷ 0 ∷ 0 ∷ 0 ∷ 0 ∷ []) ∷ stopped 1 ∷ []),
     )
-    -- the desk sample
+    -- the desk's session
     ∷ (
       c (1 ∷ 7 ∷ 47 ∷ 97 ∷ []) ∷ r (2 ∷ 0 ∷ 0 ∷ 0 ∷ []) ∷ c (3 ∷ 1 ∷ 47 ∷ 97 ∷ []) ∷ r (0 ∷ 0 ∷ 0 ∷ 0 ∷ [])
           ∷ c (6 ∷ 2 ∷ 0 ∷ 0 ∷ 0 ∷ 5 ∷ 0 ∷ 0 ∷ 0 ∷ []) ∷ c (4 ∷ 2 ∷ 0 ∷ 0 ∷ 0 ∷ []) ∷ r (255 ∷ 255 ∷ 255 ∷ 255 ∷ []) ∷ c (9 ∷ 47 ∷ 97 ∷ []) ∷ [],

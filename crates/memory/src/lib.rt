@@ -18,7 +18,7 @@ pub const SIZE: usize = STAGING_AT + DATA_SIZE + NEW_DIGESTS * DIGEST_WIDTH;
 // The header's numbers, 8 bytes each; more than are in use, so that a later table moves nothing.
 pub const HEAD_NUMBERS: usize = 32;
 
-// Rows for open files: more than document 01's limit, so that a later limit moves nothing.
+// Rows for open files: more than the limit, so that a later limit moves nothing.
 pub const OPEN_ROWS: usize = 40;
 
 // Room for the digests of the pages that one call changes.

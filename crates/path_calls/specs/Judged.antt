@@ -1,4 +1,4 @@
--- What a call by path is judged to be (document 01, the order under 'Numbers the panel shows'): 22 where its bytes are no path, else the first of
+-- What a call by path is judged to be (SPECIFICATION 7.4 to 7.7): 22 where its bytes are no path, else the first of
 -- the call's own numbers that holds, else the places that the call needs. Assumes nothing.
 use mathlib.Core.Path.{_≡_, refl}
 use mathlib.Core.List.{List}

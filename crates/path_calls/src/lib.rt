@@ -1,4 +1,5 @@
-// The calls by path judged: the numbers in document 01's order, and where none holds, the places that the call needs. Nothing is changed here.
+// The calls by path judged: the numbers in their order (SPECIFICATION 7.4 to 7.7), and where none holds, the places that the call needs. Nothing is
+// changed here.
 ghost use mathlib.Core.Path.{_≡_};
 ghost use Prim.Native.Nat.{ℕ, _<_, _≤_};
 ghost use lib.ListN.{length, take};

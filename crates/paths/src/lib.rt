@@ -21,7 +21,7 @@ pub enum PathForm {
     Good,
 }
 
-// A walk's answer: the place of the node, or the number that stopped it (document 01: 20, 13, 2).
+// A walk's answer: the place of the node, or the number that stopped it (SPECIFICATION 7.6: 20, 13, 2).
 pub enum Walked {
     Node(usize),
     Refused(u8),

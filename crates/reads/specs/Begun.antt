@@ -16,7 +16,7 @@ readOf t o k n =
     (send (reading k o (openAt (t .opens) o .cursor) n (pageAt (openAt (t .opens) o .cursor)))
     (fetchRequest (openAt (t .opens) o .descriptor) (pageAt (openAt (t .opens) o .cursor))))
 
--- 'the smaller of count and what remains'
+-- the smaller of count and what is left (SPECIFICATION 4.4)
 unfoldable pub leftOf : Tables → (o k count : ℕ) → ℕ
 leftOf t o k count = min count (nodeAt (t .nodes) k .size - openAt (t .opens) o .cursor)
 

@@ -1,4 +1,4 @@
--- The request of a call by path, from its kind, its mode or rights, and its path's bytes: the call itself ('send the slip itself').
+-- The request of a call by path, from its kind, its mode or rights, and its path's bytes: the call itself (SPECIFICATION 5.2).
 -- Assumes nothing.
 use mathlib.Core.Path.{_≡_, refl}
 use mathlib.Core.Bool.{Bool, true, false, _||_}

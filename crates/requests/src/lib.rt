@@ -1,4 +1,4 @@
-// Host requests written over the front of the caller's request buffer (document 01, 'Requests and replies'), the page of a store among them.
+// Host requests written over the front of the caller's request buffer (SPECIFICATION 5.1), the page of a store among them.
 ghost use mathlib.Core.Path.{_≡_};
 ghost use mathlib.Core.List.{_∷_, _++_};
 ghost use Prim.Native.Nat.{_+_, _≤_};

@@ -1,4 +1,4 @@
--- Bytes, put together from document 01 alone and by none of the definitions that the rows are to pin; pages; a digest that costs little.
+-- Bytes, put together from SPECIFICATION alone and by none of the definitions that the rows are to pin; pages; a digest that costs little.
 use mathlib.Core.List.{List, [], _∷_, _++_}
 use Prim.Native.Nat.{ℕ, zero, suc, _+_, _-_, _/_, _%_}
 use Prim.Native.Char.{code}

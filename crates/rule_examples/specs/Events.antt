@@ -20,7 +20,7 @@ lent a q (reply s _ _) = reply s a q
 lent a q (save n) = save n
 lent a q (load i d) = load i d
 
--- 'one kind byte, then exactly these fields'
+-- one byte for the kind, then the fields (SPECIFICATION 4.1)
 abbrev pub create : (mode : ℕ) → String → Event
 create m p = callOf (1 ∷ m ∷ bytesOf p)
 

@@ -28,11 +28,11 @@ tooLong = under (times 7 (under "" 31)) 31
 
 abbrev pub rows : List Row
 rows =
-    -- 'A slip is one kind byte, then exactly these fields'
+    -- one byte for the kind, then exactly the fields (SPECIFICATION 4.1, 4.2)
     one "no byte" fresh (callOf []) (isRefused 22)
     ∷ one "kind 0" fresh (callOf (0 ∷ bytesOf "/a")) (isRefused 22)
     ∷ one "kind 14" fresh (callOf (14 ∷ bytesOf "/")) (isRefused 22)
-    -- '1 create, 2 mkdir, 11 chmod: mode (1), path'; 'mode 0 to 7'
+    -- create, mkdir, chmod: mode 0 to 7, path
     ∷ passes "create, mode 7" fresh (create 7 "/a")
     ∷ passes "create, mode 0" fresh (create 0 "/a")
     ∷ one "create, mode 8" fresh (create 8 "/a") (isRefused 22)
@@ -42,54 +42,54 @@ rows =
     ∷ passes "chmod, mode 7" fresh (chmod 7 "/")
     ∷ one "create, no mode" fresh (callOf (1 ∷ [])) (isRefused 22)
     ∷ one "create, no path" fresh (create 7 "") (isRefused 22)
-    -- '3 open: rights (1: 1 read, 2 write, 3 both), path'
+    -- open: rights 1 to 3, path
     ∷ one "open, rights 0" fresh (openFor 0 "/a") (isRefused 22)
     ∷ one "open, rights 4" fresh (openFor 4 "/a") (isRefused 22)
     ∷ one "open, rights 3" fresh (openFor 3 "/a") (isRefused 2)
     ∷ one "open, rights 1" fresh (openFor 1 "/a") (isRefused 2)
-    -- '4 close: handle (4)'
+    -- close: handle (4)
     ∷ one "close, 3 bytes" openA (callOf (4 ∷ 2 ∷ 0 ∷ 0 ∷ [])) (isRefused 22)
     ∷ one "close, 5 bytes" openA (callOf (4 ∷ (four 2 ++ (0 ∷ [])))) (isRefused 22)
-    -- '5 seek: handle (4), position (8)'
+    -- seek: handle (4), position (8)
     ∷ one "seek, position of 4 bytes" openA (callOf (5 ∷ (four 2 ++ four 1))) (isRefused 22)
     ∷ one "seek, a byte behind" openA (callOf (5 ∷ (four 2 ++ (eight 1 ++ (0 ∷ []))))) (isRefused 22)
-    -- '6 read: handle (4), count (4), at most 4,096'; before 9 too
+    -- read: handle (4), count (4) of at most 4,096; before 9 too
     ∷ one "read, count of 3 bytes" openA (callOf (6 ∷ (four 2 ++ (1 ∷ 0 ∷ 0 ∷ [])))) (isRefused 22)
     ∷ one "read, a byte behind" openA (callOf (6 ∷ (four 2 ++ (four 1 ++ (0 ∷ []))))) (isRefused 22)
     ∷ one "read 4,096" openA (read 2 4096) (fetches 5 0)
     ∷ one "read 4,097" openA (read 2 4097) (isRefused 22)
     ∷ one "read 4,097, not open" openA (read 9 4097) (isRefused 22)
-    -- '7 write: handle (4), 0 to 4,096 bytes'
+    -- write: handle (4), 0 to 4,096 bytes
     ∷ one "write, no handle" openA (callOf (7 ∷ 2 ∷ 0 ∷ 0 ∷ [])) (isRefused 22)
     ∷ one "write 4,096 bytes" openA (write 2 (many 4096 0)) (fetches 5 0)
     ∷ one "write 4,097 bytes" openA (write 2 (many 4097 0)) (isRefused 22)
     ∷ one "write 4,097 bytes, not open" openA (write 9 (many 4097 0)) (isRefused 22)
-    -- '8 truncate: handle (4), size (8)'
+    -- truncate: handle (4), size (8)
     ∷ one "truncate, size of 4 bytes" openA (callOf (8 ∷ (four 2 ++ four 1))) (isRefused 22)
     ∷ one "truncate, a byte behind" openA (callOf (8 ∷ (four 2 ++ (eight 1 ++ (0 ∷ []))))) (isRefused 22)
-    -- '9 remove, 10 rmdir, 12 readdir, 13 stat: path'
+    -- remove, rmdir, readdir, stat: path
     ∷ one "remove, no path" fresh (remove "") (isRefused 22)
     ∷ one "rmdir, no path" fresh (rmdir "") (isRefused 22)
     ∷ one "readdir, no path" fresh (readdir "") (isRefused 22)
     ∷ one "stat, no path" fresh (stat "") (isRefused 22)
-    -- 'It is `/`, or components each after one `/`'
+    -- `/`, or components each behind one `/` (SPECIFICATION 3.1)
     ∷ passes "path /" fresh (stat "/")
     ∷ one "path without its first /" fresh (stat "a") (isRefused 22)
     ∷ one "path //" fresh (stat "//") (isRefused 22)
     ∷ one "path /a/" fresh (stat "/a/") (isRefused 22)
     ∷ one "path /a//b" fresh (stat "/a//b") (isRefused 22)
-    -- 'none 0 or `/`, and isn't `.` or `..`'
+    -- no byte 0, not `.` or `..` (SPECIFICATION 3.2)
     ∷ one "path with a byte 0" fresh (stat "/a\0") (isRefused 22)
     ∷ one "path with a byte 1" fresh (stat "/a\u{1}") (isRefused 2)
     ∷ one "path /." fresh (stat "/.") (isRefused 22)
     ∷ one "path /a/.." fresh (stat "/a/..") (isRefused 22)
     ∷ one "path /..." fresh (stat "/...") (isRefused 2)
     ∷ one "path /.a" fresh (stat "/.a") (isRefused 2)
-    -- 'a component has 1 to 32 bytes': 36 'component over 32'
+    -- 36 of a component over 32 (SPECIFICATION 3.3)
     ∷ passes "component of 32" fresh (create 7 (under "" 32))
     ∷ one "component of 33" fresh (create 7 (under "" 33)) (isRefused 36)
     ∷ one "component of 33 in the middle" fresh (stat (under (under "" 33) 1)) (isRefused 36)
-    -- 'A path has 1 to 255 bytes': 36 'path over 255'
+    -- 36 of a path over 255
     ∷ one "path of 255" fresh (stat long) (isRefused 2)
     ∷ one "path of 256" fresh (stat tooLong) (isRefused 36)
     ∷ one "create, path of 256" fresh (create 7 tooLong) (isRefused 36)
@@ -99,12 +99,12 @@ rows =
     ∷ one "rmdir, component of 33" fresh (rmdir (under "" 33)) (isRefused 36)
     ∷ one "chmod, component of 33" fresh (chmod 7 (under "" 33)) (isRefused 36)
     ∷ one "readdir, component of 33" fresh (readdir (under "" 33)) (isRefused 36)
-    -- 'form else right': 22 before 36
+    -- 22 before 36 (SPECIFICATION 7.4)
     ∷ one "22 before 36: mode 8" fresh (create 8 (under "" 33)) (isRefused 22)
     ∷ one "22 before 36: rights 0" fresh (openFor 0 (under "" 33)) (isRefused 22)
     ∷ one "22 before 36: a component .." fresh (stat (under "/.." 33)) (isRefused 22)
     ∷ one "22 before 36: ends in /" fresh (stat (under (under "" 33) 0)) (isRefused 22)
-    -- '36, then the walk'
+    -- 36 before the walk
     ∷ one "36 before 20" barred (stat (under "/f" 33)) (isRefused 36)
     ∷ one "36 before 13" barred (stat (under "/x" 33)) (isRefused 36)
     ∷ one "36 before 2" barred (stat (under "/none" 33)) (isRefused 36)

@@ -1,4 +1,4 @@
--- 'A fresh guard holds one node, the root: id 1, mode 7', and so does the tree.
+-- A fresh guard has one node, the root (SPECIFICATION 2.2), and so has the tree.
 use mathlib.Core.Path.{_≡_, refl}
 use mathlib.Core.List.{List, [], _∷_}
 use Rattle.machine.specs.Machine.{fresh, guard}

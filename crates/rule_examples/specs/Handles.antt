@@ -1,4 +1,4 @@
--- 'handle calls: 9; then seek, truncate 22; write 27, 28', where nothing is sent. The limits of 27 and 28 stand in `Limits`.
+-- Calls by handle: their numbers in order (SPECIFICATION 7.8), where nothing is sent. The limits of 27 and 28 stand in `Limits`.
 use mathlib.Core.Path.{_≡_, refl}
 use mathlib.Core.List.{List, [], _∷_}
 use Rattle.filesystem.specs.Tables.{OpenFile}
@@ -20,7 +20,7 @@ w = given items opens
 
 abbrev pub rows : List Row
 rows =
-    -- 9 'not open, or without the right'
+    -- 9 where no open file has the handle
     one "9: close, not open" w (close 5) (isRefused 9)
     ∷ one "9: close, no such file" w (close 99) (isRefused 9)
     ∷ one "9: seek, not open" w (seek 5 0) (isRefused 9)
@@ -28,28 +28,28 @@ rows =
     ∷ one "9: write, not open" w (write 5 (1 ∷ [])) (isRefused 9)
     ∷ one "9: truncate, not open" w (truncate 5 0) (isRefused 9)
     ∷ one "9: close by the descriptor" w (close 10) (isRefused 9)
-    -- 'a read needs right 1'
+    -- a read needs the right 1 (SPECIFICATION 4.9)
     ∷ one "9: read without right 1" w (read 3 1) (isRefused 9)
     ∷ one "9: read of no bytes without right 1" w (read 3 0) (isRefused 9)
     ∷ one "read with right 1" w (read 2 1) (fetches 10 0)
-    -- 'a write or truncation right 2'
+    -- a write and a truncation the right 2
     ∷ one "9: write without right 2" w (write 2 (1 ∷ [])) (isRefused 9)
     ∷ one "9: write of no bytes without right 2" w (write 2 nothing) (isRefused 9)
     ∷ one "write with right 2" w (write 3 (1 ∷ [])) (fetches 11 0)
     ∷ one "9: truncate without right 2" w (truncate 2 1) (isRefused 9)
     ∷ one "9: truncate to the same size without right 2" w (truncate 2 3) (isRefused 9)
     ∷ one "truncate with right 2" w (truncate 3 0) (cutsTo 11 0)
-    -- 'close and seek neither'
+    -- close and seek none
     ∷ row "close with right 1" w
     (close 2 ⇒ closes 10 then holds items opens then says 0 ⇒ isDone 0 nothing then holds items (opened 3 11 2 1 ∷ opened 4 12 3 3 ∷ []) then close 2 ⇒ isRefused 9 then end)
     ∷ row "close with right 2" w (close 3 ⇒ closes 11 then says 0 ⇒ isDone 0 nothing then holds items (opened 2 10 1 1 ∷ opened 4 12 3 3 ∷ []) then end)
     ∷ one "seek with right 1" w (seek 2 0) (isDone 0 nothing)
     ∷ one "seek with right 2" w (seek 3 0) (isDone 0 nothing)
-    -- 'seek [sets] the cursor'; done with the position; 'cursor lies between 0 and the size, both included'
+    -- seek sets the cursor, from 0 up to the size (SPECIFICATION 2.6); done with the position
     ∷ row "seek to a place" w (seek 2 2 ⇒ isDone 2 nothing then holds items (opened 2 10 1 2 ∷ opened 3 11 2 1 ∷ opened 4 12 3 3 ∷ []) then end)
     ∷ row "seek back" w (seek 4 1 ⇒ isDone 1 nothing then holds items (opened 2 10 1 1 ∷ opened 3 11 2 1 ∷ opened 4 12 3 1 ∷ []) then end)
     ∷ row "seek to the size" w (seek 2 3 ⇒ isDone 3 nothing then holds items (opened 2 10 1 3 ∷ opened 3 11 2 1 ∷ opened 4 12 3 3 ∷ []) then end)
-    -- 22 'seek or truncate beyond the size'; 9 comes first
+    -- 22 beyond the size; 9 comes first
     ∷ one "22: seek beyond the size" w (seek 2 4) (isRefused 22)
     ∷ one "22: seek, 8 bytes are read" w (seek 2 4294967297) (isRefused 22)
     ∷ one "9 before 22: seek" w (seek 5 2) (isRefused 9)
@@ -57,7 +57,7 @@ rows =
     ∷ one "22: truncate, 8 bytes are read" w (truncate 4 4294967297) (isRefused 22)
     ∷ one "9 before 22: truncate" w (truncate 5 2) (isRefused 9)
     ∷ one "9 before 22: truncate without right 2" w (truncate 2 4) (isRefused 9)
-    -- 'Seek, a read or write of no bytes and a truncation to the same size send nothing'; done with 0
+    -- a read or write of no bytes and a truncation to the same size send nothing (SPECIFICATION 5.2); done with 0
     ∷ row "read of no bytes" w (read 2 0 ⇒ isDone 0 nothing then holds items opens then end)
     ∷ row "read at the end" w (read 4 7 ⇒ isDone 0 nothing then holds items opens then end)
     ∷ row "write of no bytes" w (write 3 nothing ⇒ isDone 0 nothing then holds items opens then end)

@@ -39,17 +39,17 @@ filed s = root .node ∷ (tab 15 (λ i. node (i + 2) 1 1 7 65536 ((65 + i) ∷ [
 
 abbrev pub rows : List Row
 rows =
-    -- 28 'full: 256 nodes'; 17 and 13 come first
+    -- 28 with 256 nodes; 17 and 13 come first
     passes "no 28: create with 255 nodes" (crowd 7 255) (create 7 "/n")
     ∷ one "28: create with 256 nodes" (crowd 7 256) (create 7 "/n") (isRefused 28)
     ∷ one "28: mkdir with 256 nodes" (crowd 7 256) (mkdir 7 "/n") (isRefused 28)
     ∷ one "17 before 28" (crowd 7 256) (create 7 "/f") (isRefused 17)
     ∷ one "13 before 28" (crowd 5 256) (create 7 "/n") (isRefused 13)
-    -- 24 'handles: 32 are open'; 16 comes first
+    -- 24 with 32 open files; 16 comes first
     ∷ passes "no 24: open with 31 open" (holding 31) (openFor 1 "/last")
     ∷ one "24: open with 32 open" (holding 32) (openFor 1 "/last") (isRefused 24)
     ∷ one "16 before 24" (holding 32) (openFor 1 "/first") (isRefused 16)
-    -- 27 'too big: a write would pass 65,536'; 9 comes first, 28 after it
+    -- 27 where a write would end beyond 65,536; 9 comes first, 28 after it
     ∷ one "no 27: to the byte 65,536" (stocked 0 65535 65535) (write 2 (1 ∷ [])) (fetches 5 63)
     ∷ one "27: past the byte 65,536" (stocked 0 65535 65535) (write 2 (1 ∷ 2 ∷ [])) (isRefused 27)
     ∷ one "27: at the end of a full file" (stocked 0 65536 65536) (write 2 (1 ∷ [])) (isRefused 27)
@@ -57,7 +57,7 @@ rows =
     ∷ one "no 27: inside a full file" (stocked 0 65536 0) (write 2 (1 ∷ [])) (fetches 5 0)
     ∷ one "9 before 27" (stocked 0 65536 65536) (write 3 (1 ∷ [])) (isRefused 9)
     ∷ one "27 before 28" (stocked 15 65536 65536) (write 2 (1 ∷ [])) (isRefused 27)
-    -- 28 'more than 1,024 pages', as they would be after the write; a write that adds no page passes
+    -- 28 with over 1,024 pages, as they would be after the write; a write that adds no page passes
     ∷ one "no 28: a write to 1,024 pages" (stocked 15 64512 64512) (write 2 (1 ∷ [])) (stores 5 63 64513)
     ∷ one "28: a write to 1,025 pages" (stocked 16 0 0) (write 2 (1 ∷ [])) (isRefused 28)
     ∷ one "no 28: a write inside 1,024 pages" (stocked 15 65536 0) (write 2 (1 ∷ [])) (fetches 5 0)

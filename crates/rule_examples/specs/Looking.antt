@@ -1,4 +1,4 @@
--- 'readdir: 20, 13 (bit 4)'; stat; chmod.
+-- Readdir, stat and chmod: their numbers in order (SPECIFICATION 7.7), and what they give.
 use mathlib.Core.Path.{_≡_, refl}
 use mathlib.Core.List.{List, [], _∷_, _++_}
 use Rattle.filesystem.specs.Tables.{OpenFile}
@@ -22,7 +22,7 @@ w = given items opens
 
 abbrev pub rows : List Row
 rows =
-    -- 20 'rmdir or readdir of a file', before 13
+    -- 20 of a file, before 13
     one "20: readdir of a file" w (readdir "/s") (isRefused 20)
     ∷ one "20 before 13: readdir" w (readdir "/n") (isRefused 20)
     -- 13 (bit 4), of the folder itself; no other bit of it
@@ -30,18 +30,18 @@ rows =
     ∷ passes "no 13: readdir with bit 4 alone" w (readdir "/d")
     ∷ passes "no 13: readdir of a root with bit 4 alone" (given (rootOf 4 ∷ []) []) (readdir "/")
     ∷ one "13: readdir of a root without bit 4" (given (rootOf 3 ∷ []) []) (readdir "/") (isRefused 13)
-    -- 'the number of entries and the reply's bytes for readdir'; each child and no grandchild
+    -- readdir is done with the number of entries and the reply; each child and no grandchild
     ∷ row "readdir is done" w
     (readdir "/d" ⇒ asks (12 ∷ bytesOf "/d") then replies (entry 5 1 "one" ++ entry 6 2 "two") ⇒ isDone 2 (entry 5 1 "one" ++ entry 6 2 "two")
     then holds items opens then end)
     ∷ row "readdir of an empty folder" (given (root ∷ []) []) (sendsItself (readdir "/") then replies nothing ⇒ isDone 0 nothing then end)
-    -- 'the size and the reply's bytes for stat'; no bit of the node is asked
+    -- stat is done with the size and the reply; no bit of the node is asked
     ∷ row "stat of a file" w (stat "/s" ⇒ asks (13 ∷ bytesOf "/s") then replies (statOf 8 1 6 3) ⇒ isDone 3 (statOf 8 1 6 3) then holds items opens then end)
     ∷ row "stat of a file without any bit" w (sendsItself (stat "/n") then replies (statOf 2 1 0 0) ⇒ isDone 0 (statOf 2 1 0 0) then end)
     ∷ row "stat of a folder" w (sendsItself (stat "/b") then replies (statOf 3 2 3 0) ⇒ isDone 0 (statOf 3 2 3 0) then end)
     ∷ row "stat of the root" w (sendsItself (stat "/") then replies (statOf 1 2 7 0) ⇒ isDone 0 (statOf 1 2 7 0) then end)
     ∷ row "stat of a large file" (given (root ∷ sized 2 1 7 "a" 65536 ∷ []) []) (sendsItself (stat "/a") then replies (statOf 2 1 7 65536) ⇒ isDone 65536 (statOf 2 1 7 65536) then end)
-    -- 'chmod sets the mode'; 'Chmod doesn't touch the rights of an open handle'; done with 0
+    -- chmod sets the mode, and the rights of an open file stay (SPECIFICATION 4.7); done with 0
     ∷ row "chmod of an open file" w
     (chmod 0 "/s" ⇒ asks (11 ∷ 0 ∷ bytesOf "/s") then holds items opens then says 0 ⇒ isDone 0 nothing
     then holds

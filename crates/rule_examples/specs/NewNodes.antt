@@ -1,4 +1,4 @@
--- 'create, mkdir: 17, 13 (parent bit 2), 28'. The limit of 28 stands in `Limits`.
+-- Create and mkdir: their numbers in order (SPECIFICATION 7.7), and what they leave. The limit of 28 stands in `Limits`.
 use mathlib.Core.Path.{_≡_, refl}
 use mathlib.Core.List.{List, [], _∷_, _++_}
 use Rattle.rule_examples.specs.Bytes.{bytesOf, nothing}
@@ -16,7 +16,7 @@ w = given items []
 
 abbrev pub rows : List Row
 rows =
-    -- 17 'create, mkdir on a name that exists, root too'
+    -- 17 of a path that is there, the root too
     one "17: create /" w (create 7 "/") (isRefused 17)
     ∷ one "17: mkdir /" w (mkdir 7 "/") (isRefused 17)
     ∷ one "17: create" w (create 7 "/a") (isRefused 17)
@@ -31,15 +31,15 @@ rows =
     ∷ one "13: create in a root without bit 2" (given (rootOf 5 ∷ []) []) (create 7 "/a") (isRefused 13)
     ∷ passes "no 13: create with the bits 2 and 1" w (create 7 "/w/g")
     ∷ passes "no 13: mkdir with the bits 2 and 1" w (mkdir 7 "/w/g")
-    -- 'Kinds 1, 2, 3 and 9 to 13 send the slip itself'; 'Create and mkdir add a last, empty node with the replied id'; 'the id for 1, 2 and 3'
+    -- the call itself is sent; the new node is the last, empty, with the id of the reply, and the call is done with it (SPECIFICATION 5.2, 9.6)
     ∷ row "create is done" w
     (create 6 "/w/g" ⇒ asks (1 ∷ 6 ∷ bytesOf "/w/g") then gives 9 ⇒ isDone 9 nothing then holds (items ++ (file 9 5 6 "g" nothing ∷ [])) [] then end)
     ∷ row "mkdir is done" w
     (mkdir 1 "/w/g" ⇒ asks (2 ∷ 1 ∷ bytesOf "/w/g") then gives 300 ⇒ isDone 300 nothing then holds (items ++ (folder 300 5 1 "g" ∷ [])) [] then end)
     ∷ row "create in the root" w (sendsItself (create 0 "/b") then gives 6 ⇒ isDone 6 nothing then holds (items ++ (file 6 1 0 "b" nothing ∷ [])) [] then end)
-    -- 'Tables change when the last reply is accepted'
+    -- the tables change when the reply is accepted (SPECIFICATION 5.9)
     ∷ row "create that waits" w (sendsItself (create 7 "/b") then holds items [] then end)
-    -- 'A fresh guard holds one node, the root: id 1, mode 7'
+    -- the root has id 1
     ∷ row "nodes stand in order of creation" (given (root ∷ []) [])
     (sendsItself (mkdir 7 "/d") then gives 4 ⇒ isDone 4 nothing then sendsItself (create 7 "/d/a") then gives 3 ⇒ isDone 3 nothing
     then holds (root ∷ folder 4 1 7 "d" ∷ file 3 4 7 "a" nothing ∷ []) [] then end)

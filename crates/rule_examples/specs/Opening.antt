@@ -1,4 +1,4 @@
--- 'open: 21, 13, 16, 24'. The limit of 24 stands in `Limits`.
+-- Open: its numbers in order (SPECIFICATION 7.7), and what it leaves. The limit of 24 stands in `Limits`.
 use mathlib.Core.Path.{_≡_, refl}
 use mathlib.Core.List.{List, [], _∷_, _++_, map}
 use Prim.Native.Nat.{ℕ}
@@ -31,15 +31,15 @@ uncovered r m = one "13: the mode does not cover the rights" (moded m) (openFor 
 
 abbrev pub rows : List Row
 rows =
-    -- 21 'open, remove of a directory'
+    -- 21 of a directory
     one "21: open /" w (openFor 1 "/") (isRefused 21)
     ∷ one "21: open a folder" (given (root ∷ folder 2 1 7 "d" ∷ []) []) (openFor 1 "/d") (isRefused 21)
     ∷ one "21 before 13" w (openFor 3 "/d") (isRefused 21)
-    -- 13 before 16, 16 'file open'
+    -- 13 before 16, 16 of an open file
     ∷ one "13 before 16" w (openFor 2 "/m") (isRefused 13)
     ∷ one "16: open twice" w (openFor 1 "/a") (isRefused 16)
     ∷ passes "no 16: another file is open" w (openFor 1 "/b")
-    -- 'Open adds the file with its rights, the replied descriptor, cursor 0'; done with the id
+    -- the open file has its rights, the descriptor of the reply, cursor 0 (SPECIFICATION 9.6); done with the id
     ∷ row "open is done" w
     (openFor 2 "/b" ⇒ asks (3 ∷ 2 ∷ bytesOf "/b") then holds items opens then gives 900 ⇒ isDone 5 nothing then holds items (opens ++ (opened 5 900 2 0 ∷ [])) then end)
     ∷ row "open for both" (moded 7) (sendsItself (openFor 3 "/a") then gives 0 ⇒ isDone 2 nothing then holds (root ∷ file 2 1 7 "a" nothing ∷ []) (opened 2 0 3 0 ∷ []) then end)
@@ -47,7 +47,7 @@ rows =
     ∷ row "open, close, open" (moded 7)
     (sendsItself (openFor 1 "/a") then gives 4 ⇒ isDone 2 nothing then openFor 1 "/a" ⇒ isRefused 16 then close 2 ⇒ closes 4 then says 0 ⇒ isDone 0 nothing
     then sendsItself (openFor 1 "/a") then end)
-    -- 'a table of 24 entries: read needs 4, write needs 2'
+    -- the table of 24 entries (SPECIFICATION 4.8)
     ∷ (map (uncovered 1) (0 ∷ 1 ∷ 2 ∷ 3 ∷ []) ++ (map (covered 1) (4 ∷ 5 ∷ 6 ∷ 7 ∷ [])
     ++ (map (uncovered 2) (0 ∷ 1 ∷ 4 ∷ 5 ∷ []) ++ (map (covered 2) (2 ∷ 3 ∷ 6 ∷ 7 ∷ [])
     ++ (map (uncovered 3) (0 ∷ 1 ∷ 2 ∷ 3 ∷ 4 ∷ 5 ∷ []) ++ map (covered 3) (6 ∷ 7 ∷ []))))))

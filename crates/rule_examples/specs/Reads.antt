@@ -25,21 +25,21 @@ left i c = holds (root ∷ i ∷ []) (opened 2 5 1 c ∷ [])
 
 abbrev pub rows : List Row
 rows =
-    -- 'fetch: 6, descriptor (4), page (4)': the page of the cursor is the first
+    -- fetches (SPECIFICATION 5.1, 5.2): the page of the cursor is the first
     one "a read from the first page on" (reader long 1) (read 2 4096) (fetches 5 0)
     ∷ one "a read from a page's edge on" (reader long 1024) (read 2 1) (fetches 5 1)
     ∷ one "a read from the last byte of a page on" (reader long 1023) (read 2 1) (fetches 5 0)
-    -- 'A read gives the smaller of count and what remains'; 'Reading and writing start at the cursor and move it'; 'the count for read and write'
+    -- the smaller of count and what is left, from the cursor on, which moves (SPECIFICATION 4.3, 4.4); done with the count
     ∷ row "a read of less than remains" (reader three 1)
     (read 2 1 ⇒ fetches 5 0 then givesPage (1 ∷ 2 ∷ 3 ∷ []) ⇒ isDone 1 (2 ∷ []) then left three 2 then end)
-    -- 'Pages go in rising order'
+    -- pages in rising order (SPECIFICATION 5.3)
     ∷ row "a read of all that remains, over a page's edge" (reader long 1022)
     (read 2 4096 ⇒ fetches 5 0 then givesPage (1 ∷ 2 ∷ 3 ∷ []) ⇒ fetches 5 1 then left long 1022
     then givesPage nothing ⇒ isDone 8 (many 8 0) then left long 1030 then end)
-    -- stop 5 'page', for each page of a read; 'A page is 1,024 bytes, zero past the file's end'; the tables are those of before the call
+    -- stop 5, for each page of a read, zeros past the end among it (SPECIFICATION 2.4); the tables are those of before the call
     ∷ row "stop 5: the second page of a read, past the file's end" (reader long 1023)
     (read 2 2 ⇒ fetches 5 0 then givesPage (1 ∷ 2 ∷ 3 ∷ []) ⇒ fetches 5 1 then replies (many 1023 0 ++ (1 ∷ [])) ⇒ isStopped 5 then left long 1023 then end)
-    -- stop 1 'length', before 5
+    -- stop 1, before 5
     ∷ row "stop 1: a page of 1,023 bytes" (reader three 0) (read 2 1 ⇒ fetches 5 0 then replies (1 ∷ 2 ∷ 3 ∷ many 1020 0) ⇒ isStopped 1 then end)
     ∷ row "stop 1: a page of 1,025 bytes" (reader three 0) (read 2 1 ⇒ fetches 5 0 then replies (1 ∷ 2 ∷ 3 ∷ many 1022 0) ⇒ isStopped 1 then end)
     ∷ row "stop 1 before 5: no byte" (reader three 0) (read 2 1 ⇒ fetches 5 0 then replies nothing ⇒ isStopped 1 then end)

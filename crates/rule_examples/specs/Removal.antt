@@ -1,4 +1,4 @@
--- 'remove: 21, 13 (parent bit 2), 16'; 'rmdir: 16 (root only), 20, 13 (parent bit 2), 39'.
+-- Remove and rmdir: their numbers in order (SPECIFICATION 7.7), and what they leave.
 use mathlib.Core.Path.{_≡_, refl}
 use mathlib.Core.List.{List, [], _∷_}
 use Rattle.filesystem.specs.Tables.{OpenFile}
@@ -23,7 +23,7 @@ w = given items opens
 
 abbrev pub rows : List Row
 rows =
-    -- 21 'open, remove of a directory'
+    -- 21 of a directory
     one "21: remove /" w (remove "/") (isRefused 21)
     ∷ one "21: remove a folder" w (remove "/w") (isRefused 21)
     ∷ one "21 before 13: remove" w (remove "/r/g") (isRefused 21)
@@ -31,9 +31,9 @@ rows =
     ∷ one "13: remove in a folder without bit 2" w (remove "/r/i") (isRefused 13)
     ∷ one "13 before 16: remove" w (remove "/r/f") (isRefused 13)
     ∷ passes "no 13: remove with the parent's bits 2 and 1" w (remove "/w/z")
-    -- 16 'file open'
+    -- 16 of an open file
     ∷ one "16: remove an open file" w (remove "/o") (isRefused 16)
-    -- 'remove and rmdir [take out] the node'; 'a removal closes the gap'; done with 0
+    -- the node is taken out, later ones move up (SPECIFICATION 2.3); done with 0
     ∷ row "remove is done" w
     (remove "/w/z" ⇒ asks (9 ∷ bytesOf "/w/z") then holds items opens then says 0 ⇒ isDone 0 nothing
     then holds
@@ -41,16 +41,16 @@ rows =
     ∷ folder 7 1 3 "w" ∷ folder 9 7 0 "y" ∷ file 10 1 7 "o" nothing ∷ file 11 2 7 "i" nothing ∷ [])
     opens
     then end)
-    -- 16 'rmdir of the root', before 39
+    -- rmdir of the root is 16, before 39
     ∷ one "16: rmdir /" (given (root ∷ []) []) (rmdir "/") (isRefused 16)
     ∷ one "16 before 13 and 39: rmdir /" (given (rootOf 5 ∷ file 2 1 7 "a" nothing ∷ []) []) (rmdir "/") (isRefused 16)
-    -- 20 'rmdir or readdir of a file'
+    -- 20 of a file
     ∷ one "20: rmdir of a file" w (rmdir "/o") (isRefused 20)
     ∷ one "20 before 13: rmdir" w (rmdir "/r/i") (isRefused 20)
     -- 13 (parent bit 2)
     ∷ one "13: rmdir in a folder without bit 2" w (rmdir "/r/g") (isRefused 13)
     ∷ one "13 before 39: rmdir" w (rmdir "/r/h") (isRefused 13)
-    -- 39 'not empty: rmdir'
+    -- 39 of a directory with children
     ∷ one "39: rmdir" w (rmdir "/w") (isRefused 39)
     ∷ passes "no 39: an empty folder without any bit" w (rmdir "/w/y")
     ∷ row "rmdir is done" w

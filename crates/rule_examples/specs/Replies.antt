@@ -1,4 +1,4 @@
--- Replies where no page goes with them: 'Stop reasons: 1 length (not for 12), then 2 status, 3 id, 4 descriptor, 5 page, 6 stat, 7 listing'. Pages: `Reads`, `Writes`, `Truncations`.
+-- Replies where no page goes with them: right ones (SPECIFICATION 5.5) and stop reasons (5.10). Pages: `Reads`, `Writes`, `Truncations`.
 use mathlib.Core.Path.{_≡_, refl}
 use mathlib.Core.List.{List, [], _∷_, _++_}
 use Prim.Native.Nat.{ℕ}
@@ -41,7 +41,7 @@ stated t b x = answered t (stat "/o") (replies b) x
 
 abbrev pub rows : List Row
 rows =
-    -- '1 and 2 a 4-byte id, not 0, held by no node'
+    -- create, mkdir: an id, not 0, that no node has
     answered "stop 1: an id of 3 bytes" (create 7 "/n") (replies (9 ∷ 0 ∷ 0 ∷ [])) (isStopped 1)
     ∷ answered "stop 1: an id of 5 bytes" (create 7 "/n") (replies (four 9 ++ (0 ∷ []))) (isStopped 1)
     ∷ answered "stop 1 before 3: no byte" (mkdir 7 "/n") (replies nothing) (isStopped 1)
@@ -51,7 +51,7 @@ rows =
     ∷ answered "stop 3: the last node's id" (mkdir 7 "/n") (gives 6) (isStopped 3)
     ∷ answered "an id that no node has" (create 7 "/n") (gives 7) (isDone 7 nothing)
     ∷ answered "the largest id" (mkdir 7 "/n") (gives 4294967295) (isDone 4294967295 nothing)
-    -- '3 a descriptor 0 to 1,023 that no open file has'; 'descriptors too' are signed
+    -- open: a descriptor 0 to 1,023 that no open file has; it is signed
     ∷ answered "stop 1: a descriptor of 3 bytes" (openFor 1 "/c") (replies (1 ∷ 0 ∷ 0 ∷ [])) (isStopped 1)
     ∷ answered "stop 1 before 4: a descriptor of 5 bytes" (openFor 1 "/c") (replies (four 1024 ++ (0 ∷ []))) (isStopped 1)
     ∷ answered "stop 4: descriptor 1,024" (openFor 1 "/c") (gives 1024) (isStopped 4)
@@ -59,7 +59,7 @@ rows =
     ∷ answered "descriptor 0" (openFor 1 "/c") (gives 0) (isDone 6 nothing)
     ∷ answered "stop 4: descriptor -1" (openFor 1 "/c") (saysMinus 1) (isStopped 4)
     ∷ answered "stop 4: another file's descriptor" (openFor 1 "/c") (gives 8) (isStopped 4)
-    -- '4, 8, 9, 10, 11 status 0'; 'a 4-byte signed number in two's complement'
+    -- close, cut, remove, rmdir, chmod: the status 0, signed (SPECIFICATION 5.4)
     ∷ row "stop 2: close answered 1" w (close 5 ⇒ closes 8 then says 1 ⇒ isStopped 2 then holds items opens then end)
     ∷ row "stop 2: close answered -1" w (close 5 ⇒ closes 8 then saysMinus 1 ⇒ isStopped 2 then end)
     ∷ row "stop 1: close answered by 3 bytes" w (close 5 ⇒ closes 8 then replies (0 ∷ 0 ∷ 0 ∷ []) ⇒ isStopped 1 then end)
@@ -74,7 +74,7 @@ rows =
     ∷ answered "stop 2: chmod answered -1" (chmod 0 "/d") (saysMinus 1) (isStopped 2)
     ∷ answered "stop 1: chmod answered by 1 byte" (chmod 0 "/d") (replies (0 ∷ [])) (isStopped 1)
     ∷ answered "chmod answered 0" (chmod 0 "/d") (says 0) (isDone 0 nothing)
-    -- '12: entries of id (4), kind (1), name length (1) and name, each child once, any order'; whatever is wrong is 7
+    -- readdir: one entry for each child, in any order; whatever is wrong is 7 (SPECIFICATION 5.11)
     ∷ listed "a listing" (entryA ++ entryB) (isDone 2 (entryA ++ entryB))
     ∷ listed "a listing the other way round" (entryB ++ entryA) (isDone 2 (entryB ++ entryA))
     ∷ listed "stop 7: one child twice" (entryA ++ entryA) (isStopped 7)
@@ -89,7 +89,7 @@ rows =
     ∷ listed "stop 7: a byte behind" (entryA ++ (entryB ++ (0 ∷ []))) (isStopped 7)
     ∷ answered "stop 7: an entry of an empty folder" (readdir "/d/b") (replies entryA) (isStopped 7)
     ∷ answered "a listing of an empty folder" (readdir "/d/b") (replies nothing) (isDone 0 nothing)
-    -- '13: id (4), kind (1), mode (1), size (4)'
+    -- stat: id (4), kind (1), mode (1), size (4)
     ∷ stated "a stat" (statOf 5 1 6 2) (isDone 2 (statOf 5 1 6 2))
     ∷ stated "stop 1: a stat of 9 bytes" (four 5 ++ (1 ∷ 6 ∷ 2 ∷ 0 ∷ 0 ∷ [])) (isStopped 1)
     ∷ stated "stop 1 before 6: a stat of 11 bytes" (statOf 5 1 6 3 ++ (0 ∷ [])) (isStopped 1)

@@ -60,7 +60,7 @@ itsBytes (reply s _ _) = s
 itsBytes (save n) = []
 itsBytes (load i d) = i
 
--- 'send the slip itself'
+-- a request that is the call itself (SPECIFICATION 5.2)
 abbrev pub sendsItself : Event → Line
 sendsItself e = e ⇒ asks (itsBytes e)
 

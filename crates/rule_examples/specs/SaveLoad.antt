@@ -1,4 +1,4 @@
--- 'Save: 5, 114, 16, 34. Load: 5, 114, 16, 74, 84.' What 5 and 114 come before stands in `CommonOrder`, what makes 84 in `Soundness`.
+-- Saves and loads (SPECIFICATION 8). What 5 and 114 come before stands in `CommonOrder`, what makes 84 in `Soundness`.
 use mathlib.Core.Path.{_≡_, refl}
 use mathlib.Core.List.{List, [], _∷_, _++_}
 use Prim.Native.Nat.{ℕ, _-_}
@@ -37,19 +37,19 @@ full = root ∷ file 2 1 7 "a" (1 ∷ []) ∷ folder 3 1 7 "d" ∷ file 4 3 7 "b
 
 abbrev pub rows : List Row
 rows =
-    -- 'Two sections, each after its 4-byte count'; a save is done with 'the image's length', the image and its digest
+    -- two parts, each behind its count (SPECIFICATION 8.4); a save is done with the image's length, the image and its digest
     row "save is done" w (save 44776 ⇒ isSaved image then holds items [] then end)
     ∷ one "save of a fresh guard" (given (root ∷ []) []) (save 44776) (isSaved (imageOf (root ∷ [])))
-    -- 16 'save or load with open files', before 34 and 74
+    -- 16 while a file is open, before 34 and 74
     ∷ one "16: save with an open file" busy (save 44776) (isRefused 16)
     ∷ one "16 before 34: save" busy (save 0) (isRefused 16)
     ∷ one "16: load with an open file" busy (loads image) (isRefused 16)
     ∷ one "16 before 74: load" busy (load image nothing) (isRefused 16)
     ∷ row "no 16 after close" busy (close 3 ⇒ closes 5 then says 0 ⇒ isDone 0 nothing then save 44776 ⇒ isSaved image then end)
-    -- 'gives 34 only where the image is longer'
+    -- 34 only where the image is longer
     ∷ one "34: a buffer one byte too short" w (save (length image - 1)) (isRefused 34)
     ∷ one "a buffer just long enough" w (save (length image)) (isSaved image)
-    -- 74 'image digest differs, or the one handed in isn't 32 bytes', before 84
+    -- 74 where the image has another digest, or the one handed in has not 32 bytes; before 84
     ∷ one "74: another digest" w (load image (many 32 0)) (isRefused 74)
     ∷ one "74: 31 bytes of the digest" w (load image (take 31 (digest image))) (isRefused 74)
     ∷ one "74: a byte behind the digest" w (load image (digest image ++ (0 ∷ []))) (isRefused 74)

@@ -1,4 +1,4 @@
--- 'Sound: ids differ and aren't 0; each parent is an earlier directory; sibling names differ; every full path and every limit above holds; the second count is the page total; nothing follows.' Each image breaks one rule alone. Many nodes and pages: `Limits`.
+-- Which images are sound (SPECIFICATION 8.6). Each image breaks one rule alone. Many nodes and pages: `Limits`.
 use mathlib.Core.Path.{_≡_, refl}
 use mathlib.Core.List.{List, [], _∷_, _++_}
 use Prim.Native.Nat.{ℕ}
@@ -40,7 +40,7 @@ deep n =
 
 abbrev pub rows : List Row
 rows =
-    -- 'Root first: id 1, kind 2, parent 0, no name'
+    -- the root first: id 1, kind 2, parent 0, no name
     sound "the root alone" (image (root ∷ []) 0)
     ∷ unsound "no node" (image [] 0)
     ∷ unsound "the root's id is not 1" (image (folder 2 0 7 "" ∷ []) 0)
@@ -49,21 +49,21 @@ rows =
     ∷ unsound "the root has a name" (image (folder 1 0 7 "r" ∷ []) 0)
     ∷ unsound "the root is not first" (image (file 2 1 7 "a" nothing ∷ root ∷ []) 0)
     ∷ sound "a root without any bit" (image (rootOf 0 ∷ []) 0)
-    -- 'ids differ and aren't 0'
+    -- ids differ, and none is 0
     ∷ sound "two files" (image (root ∷ file 2 1 7 "a" nothing ∷ file 3 1 7 "b" nothing ∷ []) 0)
     ∷ unsound "two ids alike" (image (root ∷ file 2 1 7 "a" nothing ∷ file 2 1 7 "b" nothing ∷ []) 0)
     ∷ unsound "the root's id again" (image (root ∷ file 1 1 7 "a" nothing ∷ []) 0)
     ∷ unsound "an id 0" (image (root ∷ file 0 1 7 "a" nothing ∷ []) 0)
-    -- 'each parent is an earlier directory'
+    -- each parent is a directory that stands before
     ∷ sound "an earlier folder" (image (root ∷ folder 2 1 7 "d" ∷ file 3 2 7 "a" nothing ∷ []) 0)
     ∷ unsound "a later parent" (image (root ∷ file 3 2 7 "a" nothing ∷ folder 2 1 7 "d" ∷ []) 0)
     ∷ unsound "a file for a parent" (image (root ∷ file 2 1 7 "d" nothing ∷ file 3 2 7 "a" nothing ∷ []) 0)
     ∷ unsound "a node's own parent" (image (root ∷ folder 2 2 7 "d" ∷ []) 0)
     ∷ unsound "no such parent" (image (root ∷ file 3 9 7 "a" nothing ∷ []) 0)
-    -- 'sibling names differ'
+    -- children of one directory have different names
     ∷ unsound "two siblings of one name" (image (root ∷ file 2 1 7 "a" nothing ∷ folder 3 1 7 "a" ∷ []) 0)
     ∷ sound "one name in two folders" (image (root ∷ file 2 1 7 "a" nothing ∷ folder 3 1 7 "d" ∷ file 4 3 7 "a" nothing ∷ []) 0)
-    -- 'every limit above': kind, mode, size
+    -- kind, mode, size
     ∷ unsound "kind 0" (image (root ∷ free 2 1 0 7 0 (bytesOf "a") ∷ []) 0)
     ∷ unsound "kind 3" (image (root ∷ free 2 1 3 7 0 (bytesOf "a") ∷ []) 0)
     ∷ unsound "mode 8" (image (root ∷ file 2 1 8 "a" nothing ∷ []) 0)
@@ -80,15 +80,15 @@ rows =
     ∷ unsound "a name with a byte 0" (image (root ∷ file 2 1 7 "a\0" nothing ∷ []) 0)
     ∷ sound "a name of 32" (image (root ∷ file 2 1 7 (name 32) nothing ∷ []) 0)
     ∷ unsound "a name of 33" (image (root ∷ file 2 1 7 (name 33) nothing ∷ []) 0)
-    -- 'every full path'
+    -- full paths
     ∷ sound "a path of 255" (image (deep 30) 0)
     ∷ unsound "a path of 256 bytes" (image (deep 31) 0)
-    -- 'the second count is the page total'
+    -- the second count
     ∷ sound "a digest for each page" (image (root ∷ sized 2 1 7 "a" 1025 ∷ []) 2)
     ∷ unsound "a digest too few" (image (root ∷ sized 2 1 7 "a" 1025 ∷ []) 1)
     ∷ unsound "a digest too many" (image (root ∷ sized 2 1 7 "a" 1024 ∷ []) 2)
     ∷ sound "no digest for an empty file" (image (root ∷ sized 2 1 7 "a" 0 ∷ []) 0)
-    -- 'nothing follows'
+    -- no byte follows
     ∷ unsound "a byte behind" (image (root ∷ []) 0 ++ (0 ∷ []))
     ∷ unsound "a byte short" (section (recordOf (root .node) ∷ []) ++ (0 ∷ 0 ∷ 0 ∷ []))
     ∷ unsound "one section only" (section (recordOf (root .node) ∷ []))

@@ -1,4 +1,4 @@
--- 'A shorter truncation inside a page fetches it, stores it with zeros from there on and the old size, then cuts; on a page edge it only cuts.'
+-- Truncations, request by request (SPECIFICATION 5.2, 5.8).
 use mathlib.Core.Path.{_≡_, refl}
 use mathlib.Core.List.{List, [], _∷_}
 use Prim.Native.Nat.{ℕ}
@@ -28,7 +28,7 @@ leftSize s c = left (sized 2 1 7 "a" s) c
 
 abbrev pub rows : List Row
 rows =
-    -- inside a page; 'Truncation puts a cursor beyond the new end at that end'; done with 0
+    -- within a page; a cursor behind the new end is put there (SPECIFICATION 4.6); done with 0
     row "a truncation inside a page" (writer long 1500)
     (truncate 2 2 ⇒ fetches 5 0 then givesPage (4 ∷ 5 ∷ 6 ∷ []) ⇒ storesPage 5 0 2000 (has 0 4 ∷ has 1 5 ∷ has 2 0 ∷ has 1023 0 ∷ [])
     then says 1024 ⇒ cutsTo 5 2 then leftSize 2000 1500 then says 0 ⇒ isDone 0 nothing then leftSize 2 2 then end)

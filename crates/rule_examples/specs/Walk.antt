@@ -1,4 +1,4 @@
--- 'At each component the directory must be one (20), have bit 1 (13), hold the child (2); the last may be absent for create and mkdir.'
+-- The walk along a path: 20, 13, 2 at each component (SPECIFICATION 7.6).
 use mathlib.Core.Path.{_≡_, refl}
 use mathlib.Core.List.{List, [], _∷_}
 use Rattle.rule_examples.specs.Bytes.{nothing}
@@ -22,18 +22,18 @@ shut = given (rootOf 6 ∷ file 2 1 7 "a" nothing ∷ []) []
 
 abbrev pub rows : List Row
 rows =
-    -- 20 'a walk through a file'
+    -- 20 behind a file
     one "20: through a file" w (stat "/a/b") (isRefused 20)
     ∷ one "20: through a file in a folder" w (stat "/d/b/c") (isRefused 20)
     ∷ one "20 before 13" w (stat "/n/b") (isRefused 20)
     ∷ passes "no 20: through a folder" w (stat "/d/b")
-    -- 13 'a bit is lacking': bit 1 of each directory on the way
+    -- 13 without bit 1 of a directory on the way
     ∷ one "13: without bit 1" w (stat "/x/f") (isRefused 13)
     ∷ one "13 before 2" w (stat "/x/none") (isRefused 13)
     ∷ passes "no 13: bit 1 alone" w (stat "/y/f")
     ∷ one "13: the root without bit 1" shut (stat "/a") (isRefused 13)
     ∷ passes "no bit on the way to the root" shut (stat "/")
-    -- 2 'no such child'
+    -- 2 where the directory does not hold it
     ∷ one "2: no such child" w (stat "/none") (isRefused 2)
     ∷ one "2: no such child of a folder" w (stat "/d/none") (isRefused 2)
     ∷ one "2: a child of another folder" w (stat "/b") (isRefused 2)
@@ -42,7 +42,7 @@ rows =
     -- each component, from the left
     ∷ one "13 at the first component" w (stat "/x/f/c") (isRefused 13)
     ∷ one "2 at the first component" w (stat "/none/f/c") (isRefused 2)
-    -- 'the last may be absent for create and mkdir'
+    -- the last may be missing for create and mkdir
     ∷ passes "create: the last absent" w (create 7 "/d/none")
     ∷ passes "mkdir: the last absent" w (mkdir 7 "/d/none")
     ∷ one "2: create, the one before absent" w (create 7 "/none/b") (isRefused 2)

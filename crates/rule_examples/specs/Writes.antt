@@ -34,7 +34,7 @@ leftSize s c = left (sized 2 1 7 "a" s) c
 
 abbrev pub rows : List Row
 rows =
-    -- 'A write fetches a page if a byte of it below the old end isn't overwritten, and then stores it'; done with the count; the cursor moves
+    -- which pages are fetched (SPECIFICATION 5.6); done with the count; the cursor moves
     row "a write inside a page" (writer three 1)
     (write 2 (9 ∷ []) ⇒ fetches 5 0 then givesPage (1 ∷ 2 ∷ 3 ∷ []) ⇒ stores 5 0 3 then left three 1
     then says 1024 ⇒ isDone 1 nothing then left (file 2 1 7 "a" (1 ∷ 9 ∷ 3 ∷ [])) 2 then end)
@@ -47,7 +47,7 @@ rows =
     ∷ one "a write from the end on" (writer three 3) (write 2 (9 ∷ [])) (fetches 5 0)
     ∷ row "a write from the end on, on a page's edge" (writer onePage 1024)
     (write 2 (9 ∷ []) ⇒ stores 5 1 1025 then leftSize 1024 1024 then says 1024 ⇒ isDone 1 nothing then leftSize 1025 1025 then end)
-    -- 'the size sent is the larger of the old size and the end of the bytes written so far'; 'Pages go in rising order'
+    -- the size sent with each page (SPECIFICATION 5.7); pages in rising order (5.3)
     ∷ row "a write of 1,025 bytes into an empty file" (writer empty 0)
     (write 2 (many 1025 9) ⇒ stores 5 0 1024 then says 1024 ⇒ stores 5 1 1025 then left empty 0 then says 1024 ⇒ isDone 1025 nothing then leftSize 1025 1025 then end)
     ∷ row "a write of a whole page" (writer empty 0) (write 2 (many 1024 9) ⇒ stores 5 0 1024 then says 1024 ⇒ isDone 1024 nothing then leftSize 1024 1024 then end)
@@ -61,7 +61,7 @@ rows =
     -- stop 5 and, before it, stop 1
     ∷ row "stop 5: a write's page" (writer three 0) (write 2 (9 ∷ []) ⇒ fetches 5 0 then givesPage (2 ∷ []) ⇒ isStopped 5 then end)
     ∷ row "stop 1: a write's page of 1,023 bytes" (writer three 0) (write 2 (9 ∷ []) ⇒ fetches 5 0 then replies (many 1023 0) ⇒ isStopped 1 then end)
-    -- 'a store status 1,024'; the tables are those of before the call
+    -- the right status of a store is 1,024; the tables are those of before the call
     ∷ row "stop 2: a store answered 0" (writer empty 0) (write 2 (9 ∷ []) ⇒ stores 5 0 1 then says 0 ⇒ isStopped 2 then end)
     ∷ row "stop 2: the second store answered 1,023" (writer empty 0)
     (write 2 (many 1025 9) ⇒ stores 5 0 1024 then says 1024 ⇒ stores 5 1 1025 then says 1023 ⇒ isStopped 2 then left empty 0 then end)

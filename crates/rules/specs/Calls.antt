@@ -1,4 +1,4 @@
--- The thirteen calls (document 01, 'Slips'): their bytes, and how they are read from any bytes.
+-- The thirteen calls (SPECIFICATION 4.1, 4.2): their bytes, and how they are read from any bytes.
 -- Assumes nothing.
 use mathlib.Core.Bool.{Bool, _&&_}
 use mathlib.Core.List.{List, [], _∷_, _++_}
@@ -13,7 +13,7 @@ use Rattle.lists.specs.Formats.{num, then}
 use Rattle.filesystem.specs.Tables.{DATA-BYTES}
 use Rattle.filesystem.specs.Paths.{Path, pathBytes, readPath}
 
--- document 01's slips; `openAs` is its open
+-- `openAs` is the call open
 pub data Call : Type 0 where
   create mkdir : (mode : ℕ) (path : Path) → Call
   openAs : (rights : ℕ) (path : Path) → Call
@@ -26,7 +26,7 @@ pub data Call : Type 0 where
   chmod : (mode : ℕ) (path : Path) → Call
   readdir stat : (path : Path) → Call
 
--- 'one kind byte, then exactly these fields'; ids and handles have w bytes
+-- one byte for the kind, then exactly the fields; ids and handles have w bytes
 unfoldable pub callBytes : ℕ → Call → List ℕ
 callBytes w (create m p) = 1 ∷ m ∷ pathBytes p
 callBytes w (mkdir m p) = 2 ∷ m ∷ pathBytes p

@@ -74,7 +74,7 @@ listing-length w t r k v h l =
     let m = mul-le-mul-right {m = length (l .entries)} {n = 255} (w + 34) (omega arith) in
     omega (arith, ap length (l .bytes))
 
--- 9,690 at the width of document 01, and valid tables whose root has a listing so long
+-- 9,690 at ids of four bytes, and valid tables whose root has a listing so long
 pub answer-length : (digest : List ℕ → List ℕ) → answerLength (record { digest = digest; width = 4 }) ≡ 9690
 unfolding answerLength
 answer-length digest = refl
@@ -203,7 +203,7 @@ pub gather-more : (b r : List ℕ) (p n i : ℕ) → length b ≡ max p (i * 102
 unfolding pagePart bytesAt pageAt
 gather-more b r p n i h l m = rw (length-append, length-tab) (omega arith)
 
--- what is to be read and written is what the call says: 'the smaller of count and what remains', and all of a write's bytes
+-- what is to be read and written is what the call says: the smaller of count and what is left (SPECIFICATION 4.4), and all of a write's bytes
 module _ (t : Tables) (w h : ℕ) where
   pub read-begins : (n : ℕ) → 0 < min n (file t h .size - opened t h .cursor)
       → callAction t w (read h n)

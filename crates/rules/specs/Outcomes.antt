@@ -1,4 +1,4 @@
--- Which numbers and reasons there are, when a number comes, and what clause c asks of single calls.
+-- Which numbers and reasons there are, when a number comes, and what SPECIFICATION 13.3 asks of single calls.
 -- Assumes nothing.
 use mathlib.Core.Path.{_≡_, refl, ap, _∙_, subst}
 use mathlib.Core.Logic.{_↔_}
@@ -22,14 +22,14 @@ use Rattle.rules.specs.Requests.{asked, Pending, idle, creating, opening
 use Rattle.rules.specs.Skeleton.{Config, Event, call, reply, save, load, stopped, answerLength, requestLength, Skeleton}
 use Rattle.rules.specs.Rules.{Move, refuse, halt, send, finish, add, delete, readPage, begin, fillPage, stored, cutDone, saving, loading, callChecks, readAction, callAction, replyChecks, replyAction, isIdle, callOr, isNone, eventChecks, eventAction, judge}
 
--- 'Numbers the panel shows'
+-- SPECIFICATION 7.1
 abbrev pub numbers : List ℕ
 numbers = 5 ∷ 114 ∷ 61 ∷ 34 ∷ 22 ∷ 36 ∷ 20 ∷ 13 ∷ 2 ∷ 17 ∷ 21 ∷ 16 ∷ 39 ∷ 24 ∷ 9 ∷ 27 ∷ 28 ∷ 74 ∷ 84 ∷ []
 
 unfoldable pub known : ℕ → Bool
 known n = any (eqb n) numbers
 
--- 'Stop reasons: 1 length, then 2 status, .. 7 listing'
+-- SPECIFICATION 5.10
 unfoldable pub isReason : ℕ → Bool
 isReason n = leb 1 n && leb n 7
 
@@ -174,13 +174,13 @@ module _ (c : Config) (sk : Skeleton) where
       decide-ind refuse (λ m. m ≡ halt n → isReason n ≡ true) (eventChecks c sk e) (eventAction c sk e)
       (λ m f q. absurd (let z : _≡_ {A = ℕ} 0 1 = cc in omega arith)) (λ p q. subst Acts q (action-acts e p))
 
--- Clause c: a reply that no reason stops is acted on.
+-- SPECIFICATION 13.3: a reply that no reason stops is acted on.
 pub reply-goes : (c : Config) (sk : Skeleton) (r : List ℕ) (a q : ℕ) → Passed (eventChecks c sk (reply r a q)) → Passed (replyChecks (c .width) (sk .tables) r (sk .pending))
     → judge c sk (reply r a q) ≡ replyAction (c .width) (sk .tables) r (sk .pending)
 unfolding judge eventAction
 reply-goes c sk r a q p h = decide-passed refuse _ _ p ∙ decide-passed halt _ _ h
 
--- Clause c: no false 28 or 24, and seek.
+-- SPECIFICATION 13.3: no false 28 or 24, and seek.
 module _ (t : Tables) where
   -- the number n, where it is the first, says C
   abbrev Says : ℕ → Type 0 → Check → Type 0

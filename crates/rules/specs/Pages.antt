@@ -1,4 +1,4 @@
--- A file's bytes by pages of 1,024, zero past the end, and the calls that change them, as data.
+-- A file's bytes by pages of 1,024, zero past the end (SPECIFICATION 2.4), and the calls that change them (4.3 to 4.6, 5.6 to 5.8), as data.
 -- Assumes nothing.
 use mathlib.Core.Bool.{Bool, true, false, _&&_, _||_}
 use mathlib.Core.List.{List}
@@ -54,22 +54,22 @@ unfoldable pub last : Change → ℕ
 last (writing p d) = pagesFor (p + length d)
 last (shrinking n) = pagesFor n
 
--- 'A write fetches a page if a byte of it below the old end isn't overwritten'; 'a shorter truncation inside a page fetches it'
+-- a write fetches a page of which a byte before the old end is not replaced (SPECIFICATION 5.6); a truncation the page that it ends in (5.2)
 unfoldable pub fetches : Change → (size i : ℕ) → Bool
 fetches (writing p d) size i = ltb (i * PAGE-BYTES) size && (ltb (i * PAGE-BYTES) p || ltb (p + length d) (min size (i * PAGE-BYTES + PAGE-BYTES)))
 fetches (shrinking n) size i = true
 
--- page i as it is stored, from the page that was fetched
+-- page i as it is stored, from the page that was fetched (SPECIFICATION 5.7, 5.8)
 unfoldable pub fill : Change → ℕ → List ℕ → List ℕ
 fill (writing p d) i page = overlay page p d i
 fill (shrinking n) i page = tab PAGE-BYTES (λ j. pick (ltb (i * PAGE-BYTES + j) n) (getD page j 0) 0)
 
--- the size sent with page i: 'the larger of the old size and the end of the bytes written so far'; 'the old size'
+-- the size sent with page i: the old one, or the end of what is written with this page where that is larger (SPECIFICATION 5.7); the old one (5.8)
 unfoldable pub sizeSent : Change → (size i : ℕ) → ℕ
 sizeSent (writing p d) size i = max size (min (p + length d) (i * PAGE-BYTES + PAGE-BYTES))
 sizeSent (shrinking n) size i = size
 
--- 'then cuts'
+-- a truncation ends with a cut
 unfoldable pub cuts : Change → Bool
 cuts (writing p d) = false
 cuts (shrinking n) = true

@@ -1,4 +1,4 @@
--- Host requests and what a pending call waits for (document 01, 'Requests and replies').
+-- Host requests (SPECIFICATION 5.1) and what a pending call waits for.
 -- Assumes nothing.
 use mathlib.Core.Bool.{Bool, false}
 use mathlib.Core.List.{List, [], _∷_, _++_}
@@ -39,7 +39,7 @@ pub data Question : Type 0 where
   listing : (k : ℕ) → Question
   stating : (k : ℕ) → Question
 
--- 'the standing call and how far it has come': i is the page that was asked last
+-- the pending call and how far it has come: i is the page that was asked last
 pub data Pending : Type 0 where
   idle : Pending
   asked : Question → Pending

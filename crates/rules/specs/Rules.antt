@@ -1,4 +1,4 @@
--- The rules: for each event the numbers in document 01's order, and what is to be done where none of them holds.
+-- The rules: for each event the numbers in their order (SPECIFICATION 7.4 to 7.8, 8.2, 8.3), and what is to be done where none of them holds.
 -- Nothing here knows what is kept of a page.
 -- Letters: t tables, p a path (in pages: a position), h a handle, k a node's place, o an open file's place, m a mode, r rights or a reply, n a number or
 -- a count, d bytes of a write, w the width of ids, c the configuration, sk what is held beside pages.
@@ -71,7 +71,7 @@ module _ (t : Tables) where
   abbrev pub file : ℕ → Node
   file h = nodeAt (t .nodes) (filePlace h)
 
-  -- 'By handle, a read needs right 1, a write or truncation right 2, close and seek neither'
+  -- by handle: no such open file, or one without the right (SPECIFICATION 4.9)
   abbrev pub handleCheck : ℕ → Check
   handleCheck h = (9, absent (t .opens) (openPlace h))
 
@@ -89,14 +89,14 @@ module _ (t : Tables) where
   abbrev pub longCheck : Path → Check
   longCheck p = (36, tooLong p)
 
-  -- 36 and the walk; the last component may be absent
+  -- 36 and the walk (SPECIFICATION 7.4, 7.6); the last component may be missing
   abbrev pub reach : Path → List Check
   reach p = longCheck p ∷ walkChecks (t .nodes) 0 p
 
   abbrev pub reachParent : Path → List Check
   reachParent p = longCheck p ∷ parentChecks (t .nodes) 0 p
 
-  -- 'create, mkdir: 17, 13 (parent bit 2), 28'
+  -- the numbers of each call by path: SPECIFICATION 7.7
   abbrev pub newChecks : Path → List Check
   newChecks p =
       reachParent p
@@ -105,32 +105,29 @@ module _ (t : Tables) where
   unfoldable pub callChecks : Call → List Check
   callChecks (create m p) = newChecks p
   callChecks (mkdir m p) = newChecks p
-  -- 'open: 21, 13, 16, 24'
   callChecks (openAs r p) =
       reach p
       ++ ((21, isDirectory (target p)) ∷ (13, not (covers (target p .mode) r)) ∷ (16, isOpen (target p)) ∷ (24, leb OPEN-FILES (length (t .opens))) ∷ [])
-  -- 'handle calls: 9; then seek, truncate 22; write 27, 28'
+  -- by handle: SPECIFICATION 7.8
   callChecks (close h) = handleCheck h ∷ []
   callChecks (seek h n) = handleCheck h ∷ (22, ltb (file h .size) n) ∷ []
   callChecks (read h n) = rightCheck 1 h ∷ []
   callChecks (write h d) =
       rightCheck 2 h ∷ (27, ltb FILE-BYTES (writeEnd h d)) ∷ (28, noRoom (filePlace h) (max (file h .size) (writeEnd h d))) ∷ []
   callChecks (truncate h n) = rightCheck 2 h ∷ (22, ltb (file h .size) n) ∷ []
-  -- 'remove: 21, 13 (parent bit 2), 16'
   callChecks (remove p) = reach p ++ ((21, isDirectory (target p)) ∷ (13, not (hasBit 2 (holder p))) ∷ (16, isOpen (target p)) ∷ [])
-  -- 'rmdir: 16 (root only), 20, 13 (parent bit 2), 39'
+  -- 16 is the root's alone; 13 asks the parent, here and above
   callChecks (rmdir p) =
       reach p
       ++ ((16, eqb (walk (t .nodes) 0 p) 0) ∷ (20, not (isDirectory (target p))) ∷ (13, not (hasBit 2 (holder p)))
       ∷ (39, ltb 0 (length (children (t .nodes) (target p .id)))) ∷ [])
   callChecks (chmod m p) = reach p
-  -- 'readdir: 20, 13 (bit 4)'
   callChecks (readdir p) = reach p ++ ((20, not (isDirectory (target p))) ∷ (13, not (hasBit 4 (target p))) ∷ [])
   callChecks (stat p) = reach p
 
-  -- and what it does where none of them holds; w is the width of ids
+  -- and what it does where none of them holds (SPECIFICATION 5.2); w is the width of ids
   module _ (w : ℕ) where
-    -- 'A read gives the smaller of count and what remains'; of no bytes it sends nothing
+    -- a read of no bytes sends nothing (SPECIFICATION 5.2)
     unfoldable pub readAction : (h n : ℕ) → Move
     readAction h n =
         pick (eqb n 0) (finish t 0 [])
@@ -154,7 +151,7 @@ module _ (t : Tables) where
 
 -- Replies.
 
--- 'a 4-byte signed number in two's complement'
+-- a number of 4 bytes in two's complement (SPECIFICATION 5.4)
 abbrev pub signedOf : List ℕ → ℤ
 signedOf r = signed 4 (decode r)
 
@@ -162,12 +159,12 @@ unfoldable pub isNumber : ℕ → ℤ → Bool
 isNumber n (pos m) = eqb m n
 isNumber n (negsuc m) = false
 
--- 'a descriptor 0 to 1,023'
+-- a descriptor is 0 to 1,023
 unfoldable pub isDescriptor : ℤ → Bool
 isDescriptor (pos m) = ltb m DESCRIPTORS
 isDescriptor (negsuc m) = false
 
--- a listing's entry: 'id (4), kind (1), name length (1) and name'
+-- a listing's entry (SPECIFICATION 5.5): id, kind (1), length of the name (1), name
 abbrev pub Entry : Type 0
 Entry = ℕ × (ℕ × List ℕ)
 
@@ -180,11 +177,11 @@ entryOf n = (n .id, (n .kind, n .name))
 unfoldable pub sameEntry : Entry → Entry → Bool
 sameEntry a b = eqb (a .0) (b .0) && (eqb (a .1 .0) (b .1 .0) && equal (a .1 .1) (b .1 .1))
 
--- 'each child once, any order'
+-- one entry for each child, in any order, and nothing besides (SPECIFICATION 5.11)
 unfoldable pub isListing : ℕ → List Node → List ℕ → Bool
 isListing w ns r = elim (whole (times (entryForm w) (length ns)) r) [ none ↦ false | some es ↦ isRearranged sameEntry es (map entryOf ns) ]
 
--- 'id (4), kind (1), mode (1), size (4)'
+-- a stat: id, kind (1), mode (1), size (4)
 unfoldable pub statBytes : ℕ → Node → List ℕ
 statBytes w n = encode w (n .id) ++ (n .kind ∷ n .mode ∷ encode 4 (n .size))
 
@@ -195,7 +192,7 @@ module _ (w : ℕ) (t : Tables) (r : List ℕ) where
   abbrev pub statusChecks : ℕ → List Check
   statusChecks n = lengthCheck 4 ∷ (2, not (isNumber n (signedOf r))) ∷ []
 
-  -- the stop reasons of a reply, in their order; a page's digest (5) is looked at by the machine
+  -- the stop reasons of a reply, in their order (SPECIFICATION 5.10); a page's digest (5) is looked at by the machine
   unfoldable pub replyChecks : Pending → List Check
   replyChecks idle = []
   replyChecks (asked (creating p k m name)) = lengthCheck w ∷ (3, eqb (decode r) 0 || present (t .nodes) (findId (t .nodes) (decode r))) ∷ []
@@ -211,7 +208,7 @@ module _ (w : ℕ) (t : Tables) (r : List ℕ) where
   replyChecks (storing k o q i) = statusChecks PAGE-BYTES
   replyChecks (cutting k o q) = statusChecks 0
 
-  -- and what is done with one that none of them stops
+  -- and what is done with one that none of them stops (SPECIFICATION 6.1, 9.6)
   unfoldable pub replyAction : Pending → Move
   replyAction idle = refuse 61
   replyAction (asked (creating p k m name)) = add (newNode (decode r) p k m name)

@@ -14,7 +14,7 @@ pub record Config : Type 0 where
   pub digest : List ℕ → List ℕ
   pub width : ℕ
 
--- document 01's hand-ins: calls and replies with the lengths of the answer and the request buffer, saves with the length of theirs
+-- SPECIFICATION 1.2: calls and replies with the lengths of the answer and the request buffer, saves with the length of theirs
 pub data Event : Type 0 where
   call reply : (bytes : List ℕ) (answer request : ℕ) → Event
   save : (buffer : ℕ) → Event
@@ -27,7 +27,7 @@ EventBytes (reply r a q) = Bytes r
 EventBytes (save n) = Unit {0}
 EventBytes (load i d) = Bytes i × Bytes d
 
--- 'exactly one of four things'
+-- exactly one of four (SPECIFICATION 1.3)
 pub data Answer : Type 0 where
   done : (number : ℕ) (bytes : List ℕ) → Answer
   ask : (request : List ℕ) → Answer
@@ -55,7 +55,7 @@ requestBytes (ask q) = q
 requestBytes (refused n) = []
 requestBytes (stopped n) = []
 
--- 'what lies behind is untouched'
+-- what lies behind is untouched (SPECIFICATION 6.3)
 abbrev pub atFront : List ℕ → List ℕ → List ℕ
 atFront bytes buffer = overwrite buffer 0 bytes
 
@@ -74,7 +74,7 @@ buffersAfter (stopped n) x = x
 unfoldable pub imageAfter : Answer → List ℕ → List ℕ
 imageAfter a buffer = atFront (answerBytes a) buffer
 
--- the least lengths of the two buffers: the longest listing, the longest request
+-- the least lengths of the two buffers: the longest listing, the longest request (SPECIFICATION 6.2)
 unfoldable pub answerLength : Config → ℕ
 answerLength c = (NODES - 1) * (c .width + (2 + NAME-BYTES))
 

@@ -1,5 +1,5 @@
--- What holds of the tables and of the pending call, whatever the host replies: source document 000's state properties SP1 to SP5, as document 01
--- corrects them, and the facts under which a pending call goes on. That every step keeps it is proved in crate machine, `ValidLaws`.
+-- What holds of the tables and of the pending call, whatever the host replies: what SPECIFICATION 2 says of nodes and open files, and the facts
+-- under which a pending call goes on. That every step keeps it is proved in crate machine, `ValidLaws`.
 -- Assumes nothing.
 use mathlib.Core.Path.{_≡_}
 use mathlib.Core.Logic.{_⊎_}

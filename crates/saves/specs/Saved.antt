@@ -16,14 +16,14 @@ use Rattle.outcomes.specs.declared.Outcome.{Outcome}
 use Rattle.outcomes.specs.Values.{answerIn}
 
 module _ (c : Config) (s : State (digestStore c)) where
-  -- 'Save: 5, 114, 16, 34', into a buffer of n bytes
+  -- SPECIFICATION 8.2, into a buffer of n bytes
   unfoldable pub saveMove : ℕ → Move
   saveMove n = decide refuse (inUseCheck c (s .skeleton) ∷ (34, ltb n (imageLength (c .width) (s .skeleton .tables .nodes))) ∷ []) saving
 
   unfoldable pub savedInto : ℕ → Result (digestStore c)
   savedInto n = apply c (digestStore c) s (saveMove n)
 
-  -- 'Load: 5, 114, 16, 74, 84', of image i with digest d
+  -- SPECIFICATION 8.3, of image i with digest d
   unfoldable pub loadMove : (i d : List ℕ) → Move
   loadMove i d =
       decide refuse (inUseCheck c (s .skeleton) ∷ (74, not (equal (c .digest i) d)) ∷ (84, isNone (parse (c .width) i)) ∷ [])

@@ -1,4 +1,4 @@
-// The marked trials of document 01, run: each with its answer.
+// The trials (SPECIFICATION 11.1), run: each with its answer.
 fn main() {
     transcripts::file::run(b"trials");
 }
