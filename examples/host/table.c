@@ -4,7 +4,8 @@
 #include <stdio.h>
 #include <string.h>
 
-/* One record is "ID MODE PATH" and a zero byte: a path may hold every other byte. `tr '\0' '\n' <FILE` shows it. */
+/* One record is "ID MODE PATH" and a zero byte: a path may hold every other byte. The first one has no path, and the next id to be given.
+ * `tr '\0' '\n' <FILE` shows it. */
 static int read_row(FILE *f, table *t)
 {
     table_row *row = &t->rows[t->count];
@@ -22,9 +23,12 @@ int table_read(table *t, const char *file)
 {
     t->file = file;
     t->count = 0;
+    t->next = 2; /* the root has 1 */
     FILE *f = fopen(file, "rb");
     if (!f && errno != ENOENT)
         return -1;
+    if (f && read_row(f, t))
+        t->next = t->rows[0].id;
     while (f && t->count < TABLE_ROWS && read_row(f, t))
         t->count++;
     if (f)
@@ -44,6 +48,7 @@ int table_write(const table *t)
     FILE *f = fopen(fresh, "wb");
     if (!f)
         return -1;
+    fprintf(f, "%u 0 %c", t->next, 0);
     for (size_t i = 0; i < t->count; i++)
         fprintf(f, "%u %u %s%c", t->rows[i].id, t->rows[i].mode, t->rows[i].path, 0);
     int failed = ferror(f);
@@ -68,15 +73,14 @@ static int has_id(const table *t, uint32_t id)
 
 table_row *table_add(table *t, const char *path, uint8_t mode)
 {
-    uint32_t id = 2; /* the root has 1 */
     if (t->count == TABLE_ROWS || strlen(path) > GUARD_PATH_LENGTH) {
         errno = t->count == TABLE_ROWS ? ENOSPC : ENAMETOOLONG;
         return NULL;
     }
-    while (has_id(t, id))
-        id++;
+    while (t->next == 0 || has_id(t, t->next))
+        t->next++;
     table_row *row = &t->rows[t->count++];
-    row->id = id;
+    row->id = t->next++;
     row->mode = mode;
     strcpy(row->path, path);
     return row;

@@ -11,7 +11,7 @@ enum { TABLE_ROWS = 2 * GUARD_NODES }; /* a disk that others write to may hold m
 
 typedef struct { uint32_t id; uint8_t mode; char path[GUARD_PATH_LENGTH + 1]; } table_row;
 
-typedef struct { const char *file; size_t count; table_row rows[TABLE_ROWS]; } table;
+typedef struct { const char *file; uint32_t next; size_t count; table_row rows[TABLE_ROWS]; } table;
 
 /* Reads the file; where there is none, the table has the root alone. 0, or -1 and errno. */
 int table_read(table *t, const char *file);
@@ -21,7 +21,8 @@ int table_write(const table *t);
 
 table_row *table_find(table *t, const char *path);
 
-/* A row with the lowest id that no other has, or null and errno where there is no room. */
+/* A row with an id that no node had before, or null and errno where there is no room. An id that comes back might be one that an older image still
+ * has. */
 table_row *table_add(table *t, const char *path, uint8_t mode);
 
 /* Takes a row out, if it is there. */

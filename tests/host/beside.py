@@ -139,7 +139,7 @@ def on_disk(place):
     """The same of the directory and the table of the real host."""
     rows = {}
     table = place / "table"
-    for row in table.read_bytes().split(b"\0")[:-1] if table.exists() else [b"1 7 /"]:
+    for row in table.read_bytes().split(b"\0")[1:-1] if table.exists() else [b"1 7 /"]:
         id, mode, path = row.split(b" ", 2)
         rows[path] = int(id), int(mode)
     nodes = {}

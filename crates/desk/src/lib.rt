@@ -34,7 +34,7 @@ pub fn answer_line(memory: &mut [u8], line: &[u8], out: &mut [u8]) -> usize
     requires { ⌜ 29 + 2 * mostBytes ≤ length (now out) ⌝ }
     ensures { λ r. ⌜ Answers (now (memory .entry)) (lineOf (now (line .entry))) r (now (memory .exit)) (now (out .entry)) (now (out .exit)) ⌝ }
 {
-    let mut bytes = [0u8; desk_lines::SLIP_BYTES];
+    let mut bytes = [0u8; desk_lines::EVENT_BYTES];
     let l = desk_lines::read_line(line, &mut bytes);
     match l {
         desk_lines::Line::Call(n) => answer_call(memory, desk_lines::first(&bytes, n), out),

@@ -13,12 +13,12 @@ use outcomes::Outcome;
 use text::hex::Decoded;
 
 // The most bytes of a call or a reply: those of the longest listing.
-pub const SLIP_BYTES: usize = (limits::NODES - 1) * (limits::ID_BYTES + 2 + limits::NAME_BYTES);
+pub const EVENT_BYTES: usize = outcomes::ANSWER_LENGTH;
 
 // The longest line that is read, without its line feed, and room for any that is written.
-pub const LINE_READ: usize = 2 + 2 * SLIP_BYTES;
+pub const LINE_READ: usize = 2 + 2 * EVENT_BYTES;
 
-pub const LINE_WRITTEN: usize = 29 + 2 * SLIP_BYTES;
+pub const LINE_WRITTEN: usize = 29 + 2 * EVENT_BYTES;
 
 // A line, and how many bytes it has put to the front of the buffer.
 pub enum Line {
@@ -32,7 +32,7 @@ fn decode(digits: &[u8], out: &mut [u8]) -> Decoded
     ensures answer { λ r. ⌜ r ≡ decodeOf (now (digits .entry)) mostBytes ⌝ }
     ensures left { λ r. ⌜ now (out .exit) ≡ decodedIn r (now (digits .entry)) (now (out .entry)) ⌝ }
 {
-    text::hex::decode(digits, &mut out[..SLIP_BYTES])
+    text::hex::decode(digits, &mut out[..EVENT_BYTES])
 }
 
 // What a line means, its bytes at the front of out.

@@ -1,4 +1,4 @@
--- What the machine makes of an event, by what the first tests found and then number by number in document 01's order.
+-- What the machine makes of an event, by what the first tests found and then number by number in the specification's order.
 -- Assumes nothing.
 use mathlib.Core.Path.{_≡_, refl, ap, sym, _∙_}
 use mathlib.Core.Bool.{Bool, true, false, not, _||_}

@@ -1,4 +1,4 @@
--- Whether a call is pending, by its number in the header: document 01's 114 and 61 are about it.
+-- Whether a call is pending, by its number in the header: the numbers 114 and 61 (SPECIFICATION 7.4) are about it.
 -- Assumes nothing.
 use mathlib.Core.Path.{_≡_, refl, ap, sym, _∙_}
 use mathlib.Core.Logic.{_⊎_, inl, inr}

@@ -13,7 +13,7 @@ use Rattle.machine.specs.Machine.{State, Result, step, fresh, guard as digestSt
 use Rattle.machine.specs.Consistent.{Consistent}
 use Rattle.guard_state.specs.State.{stateOf}
 use Rattle.outcomes.specs.declared.Outcome.{Outcome}
-use Rattle.outcomes.specs.declared.Outcome.the-variants.{Refused}
+use Rattle.outcomes.specs.declared.Outcome.the-variants.{Done, Refused}
 use Rattle.outcomes.specs.Values.{answerIn, kindOf, valueOf, lengthOf}
 use Rattle.guard.specs.declared.GuardOutcome.{GuardOutcome}
 
@@ -47,6 +47,7 @@ pub record Promise (m : List ℕ) (e : Event) (r : Outcome) (m′ : List ℕ) (b
 -- Of a fresh guard.
 pub record FreshPromise (m : List ℕ) (r : Outcome) (m′ : List ℕ) : Type 0 where
   pub same-length : length m′ ≡ length m
+  pub done : memorySize ≤ length m → r ≡ Done 0 0
   pub state : memorySize ≤ length m → held m′ ≡ fresh delivered (digestStore delivered)
   pub short : length m < memorySize → (r ≡ Refused 34) × (m′ ≡ m)
 

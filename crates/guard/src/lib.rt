@@ -12,7 +12,7 @@ ghost use Rattle.guard.specs.Numbers.{waits};
 ghost use Rattle.guard.specs.Tested.{Tested};
 
 // The least lengths of the answer buffer, for the longest listing, and of the request buffer, for a store.
-pub const ANSWER_LENGTH: usize = (limits::NODES - 1) * (limits::ID_BYTES + 2 + limits::NAME_BYTES);
+pub const ANSWER_LENGTH: usize = outcomes::ANSWER_LENGTH;
 
 pub const REQUEST_LENGTH: usize = requests::STORE_LENGTH;
 

@@ -3,6 +3,9 @@
 ghost use mathlib.Core.Path.{_≡_};
 ghost use Rattle.outcomes.specs.Values.{kindOf, valueOf, lengthOf};
 
+// The least length of the answer buffer: the longest listing. No event that is right is longer.
+pub const ANSWER_LENGTH: usize = (limits::NODES - 1) * (limits::ID_BYTES + 2 + limits::NAME_BYTES);
+
 pub enum Outcome {
     // a number, and how many bytes stand at the front of the answer buffer
     Done { number: u64, length: usize },
