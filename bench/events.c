@@ -18,6 +18,8 @@
 
 enum { FILE_PLACE = 128, LAST = 247, DEEP = 8, SIZE = 8 * PAGE };
 
+#define CHILD "a-child-with-a-long-name-%07u" /* 32 bytes, the longest name */
+
 static char name_room[64];
 static const char *name_of(const char *format, uint32_t k)
 {
@@ -71,7 +73,7 @@ static void children(uint32_t count)
     begin_image(count + 1);
     add_root();
     for (uint32_t k = 1; k <= count; k++)
-        add_node(k + 1, 1, 1, k == 1 ? 8 * PAGE : 4 * PAGE, name_of("a-child-with-a-long-name-%07u", k));
+        add_node(k + 1, 1, 1, k == 1 ? 8 * PAGE : 4 * PAGE, name_of(CHILD, k));
     load_image();
 }
 
@@ -161,7 +163,7 @@ static void list_children(uint32_t n)
     uint8_t *p = listing;
     listed = n;
     for (uint32_t k = 1; k <= n; k++) {
-        const char *name = name_of("a-child-with-a-long-name-%07u", k);
+        const char *name = name_of(CHILD, k);
         uint32_t id = k + 1;
         memcpy(p, &id, 4);
         p[4] = 1;
@@ -310,11 +312,12 @@ static void count_depths(void)
 /* The last of so many nodes is looked up. */
 static void count_nodes(void)
 {
-    for (uint32_t n = 2; n <= LAST; n += n < 8 ? 1 : n < 16 ? 8 : 16) {
-        char path[PATH + 1];
-        nodes(n);
-        snprintf(path, sizeof path, "/file-%07u", n - 1);
-        stat_of(path, n - 1, 1, n - 1 == FILE_PLACE ? SIZE : 4 * PAGE);
+    for (uint32_t n = 1; n <= NODES; n += n == 1 ? 15 : 16) {
+        char path[PATH + 1] = "/";
+        children(n - 1);
+        if (n > 1)
+            snprintf(path, sizeof path, "/%s", name_of(CHILD, n - 1));
+        stat_of(path, n - 1, n > 1 ? 1 : 2, n == 1 ? 0 : n == 2 ? 8 * PAGE : 4 * PAGE);
         count_point("nodes", n, step_stat);
     }
 }
@@ -344,7 +347,7 @@ static void count_pages(void)
 
 static void count_children(void)
 {
-    for (uint32_t n = 1; n <= 255; n += n < 255 && n + 16 > 255 ? 255 - n : n == 1 ? 15 : 16) {
+    for (uint32_t n = 1; n <= 255; n += n == 1 ? 14 : 16) {
         children(n);
         list_children(n);
         count_point("children", n, step_readdir);
@@ -366,18 +369,18 @@ static void count_all(void)
 static struct node looked[2 * NODES];
 static uint8_t copied[2][IMAGE];
 static uint32_t absent;
-static volatile size_t found;
+static const struct node *volatile found;
 
 __attribute__((noinline)) void the_least(const struct least *l)
 {
-    size_t looks = l->looks, i = 0;
-    for (size_t k = 0; k < l->hashes; k++)
+    const struct node *k = looked, *end = looked + l->looks;
+    for (size_t i = 0; i < l->hashes; i++)
         guard_sha256(copied[0], l->hashed, digest);
     if (l->copied)
         memcpy(copied[1], copied[0], l->copied);
-    while (i < looks && looked[i].id != absent)
-        i++;
-    found = i;
+    while (k < end && k->id != absent)
+        k++;
+    found = k;
 }
 
 static void count_least(void)
@@ -504,7 +507,6 @@ int main(int n, char **words)
     } else if (!strcmp(what, "least")) {
         count_least();
     } else if (!strcmp(what, "time")) {
-        guard_bytes(ARCHIVE);
         for (int i = 0; i < ROWS; i++)
             time_row(rows + i, clock_cost());
     } else if (!strcmp(what, "memory")) {

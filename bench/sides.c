@@ -5,20 +5,12 @@
 #include <string.h>
 #include "../include/guard_sha256.h"
 
-outcome guard_entry_fresh(uint8_t *memory, size_t n);
-outcome guard_entry_call(uint8_t *memory, size_t n, const uint8_t *call, size_t l, uint8_t *answer, size_t a, uint8_t *request, size_t q);
-outcome guard_entry_reply(uint8_t *memory, size_t n, const uint8_t *reply, size_t l, uint8_t *answer, size_t a, uint8_t *request, size_t q);
-outcome guard_entry_save(uint8_t *memory, size_t n, uint8_t *image, size_t l, uint8_t *digest);
-outcome guard_entry_load(uint8_t *memory, size_t n, const uint8_t *image, size_t l, const uint8_t *digest, size_t d);
-
 const char *const side_names[SIDES] = {"archive", "plain"}, *const entry_names[ENTRIES] = {"fresh", "call", "reply", "save", "load"};
 uint8_t answer[ANSWER], request[REQUEST], image[IMAGE], digest[DIGEST], page[PAGE];
 size_t image_length;
 int side;
 
-enum { ROOM = 1 << 16 };
-static uint8_t memory[ROOM], memory_kept[ROOM];
-static size_t memory_bytes = ROOM;
+static guard archive, archive_kept;
 static struct plain_guard plain, plain_kept;
 
 /* ---- the stack: painted below the caller of an entry before it, and looked at after it */
@@ -57,30 +49,30 @@ size_t deepest(int which, int entry) { return depths[which][entry]; }
 
 outcome fresh(void)
 {
-    ENTERED(FRESH, guard_entry_fresh(memory, memory_bytes), plain_fresh(&plain));
+    ENTERED(FRESH, guard_entry_fresh(archive.memory, sizeof archive), plain_fresh(&plain));
 }
 
 outcome call(const void *b, size_t n)
 {
-    ENTERED(CALL, guard_entry_call(memory, memory_bytes, b, n, answer, ANSWER, request, REQUEST),
+    ENTERED(CALL, guard_call(&archive, b, n, answer, ANSWER, request, REQUEST),
             plain_call(&plain, b, n, answer, ANSWER, request, REQUEST));
 }
 
 outcome reply(const void *b, size_t n)
 {
-    ENTERED(REPLY, guard_entry_reply(memory, memory_bytes, b, n, answer, ANSWER, request, REQUEST),
+    ENTERED(REPLY, guard_reply(&archive, b, n, answer, ANSWER, request, REQUEST),
             plain_reply(&plain, b, n, answer, ANSWER, request, REQUEST));
 }
 
 outcome save(void)
 {
     static uint8_t written[IMAGE], seal[DIGEST];
-    ENTERED(SAVE, guard_entry_save(memory, memory_bytes, written, IMAGE, seal), plain_save(&plain, written, IMAGE, seal));
+    ENTERED(SAVE, guard_save(&archive, written, IMAGE, seal), plain_save(&plain, written, IMAGE, seal));
 }
 
 outcome load(void)
 {
-    ENTERED(LOAD, guard_entry_load(memory, memory_bytes, image, image_length, digest, DIGEST),
+    ENTERED(LOAD, guard_load(&archive, image, image_length, digest, DIGEST),
             plain_load(&plain, image, image_length, digest, DIGEST));
 }
 
@@ -101,34 +93,19 @@ outcome answered(outcome o)
 
 void keep(void)
 {
-    memcpy(memory_kept, memory, memory_bytes);
+    archive_kept = archive;
     plain_kept = plain;
 }
 
 void restore(void)
 {
     if (side == ARCHIVE)
-        memcpy(memory, memory_kept, memory_bytes);
+        archive = archive_kept;
     else
         plain = plain_kept;
 }
 
-/* The archive's guard is as long as the least memory that takes a fresh one. */
-size_t guard_bytes(int which)
-{
-    size_t low = 0, high = ROOM;
-    if (which == PLAIN)
-        return sizeof plain;
-    while (low < high) {
-        size_t middle = (low + high) / 2;
-        if (guard_entry_fresh(memory, middle).kind == DONE)
-            high = middle;
-        else
-            low = middle + 1;
-    }
-    memory_bytes = low;
-    return low;
-}
+size_t guard_bytes(int which) { return which == ARCHIVE ? sizeof archive : sizeof plain; }
 
 /* ---- images */
 

@@ -12,7 +12,20 @@ MEAN, MOST, HASHING, STACK = 1.10, 1.30, 1.05, 16_384
 HASH = "digest::sha256"  # in the archive
 
 # Rows that miss a bar, and why.
-EXPLAINED = {}
+SUMS = "where a file's digests begin is summed over the nodes before it, and the total over all, up to five times for a change; plain C keeps it in each node"
+EXPLAINED = {
+    "seek, 256 nodes": "the file's node is searched by its id; plain C keeps its place in the open file",
+    "read 1": SUMS,
+    "read 1,024, aligned": SUMS,
+    "write 1": SUMS,
+    "write 1,024, aligned": SUMS,
+    "write 1,024, not aligned": SUMS,
+    "truncate, on an edge": SUMS,
+    "truncate, inside a page": SUMS,
+    "readdir, 255 children": "an entry's node is searched by its name; plain C searches by its id",
+    "refused 2, absent, 256 nodes": "15 instructions a node beside 10: where the row stands and whether the name's length is within its limit",
+    "geometric mean": "by these rows",
+}
 
 
 def read_dump(path):
@@ -56,19 +69,26 @@ HEAD = f"{'':29} {'instructions':>12} {'plain C':>9} {'ratio':>6} {'C hash':>6} 
 
 def print_table(archive, plain, plain_hash, least, times):
     """The table; the names of rows above their bar."""
-    over, ratios = [], []
+    over, ratios = [], {}
     print(HEAD)
     for name in times:
         (ours, hashed), (theirs, _), (c_hash, _), (fewest, _) = (side[name] for side in (archive, plain, plain_hash, least))
         row, bar = (ours / theirs, ours / c_hash, times[name]), bar_of(hashed / ours)
-        ratios.append(row)
+        ratios[name] = row
         mark = " *" if min(row[0], row[2]) > bar else ""
         over += [name] if mark else []
         figures = " ".join(f"{ratio:6.2f}" for ratio in row)
         print(f"{name:29} {ours:12,} {theirs:9,} {figures} {bar:5.2f} {hashed / ours:7.0%} {ours / fewest:6.2f}{mark}")
-    means = [geometric_mean(column) for column in zip(*ratios)]
-    print(f"{'geometric mean':29} {'':12} {'':9} {' '.join(f'{mean:6.2f}' for mean in means)} {MEAN:5.2f}")
+    means = print_means("geometric mean", ratios.values())
+    if over:
+        print_means("of the rows within their bars", (row for name, row in ratios.items() if name not in over))
     return over + ["geometric mean"] * (min(means[0], means[2]) > MEAN)
+
+
+def print_means(text, ratios):
+    means = [geometric_mean(column) for column in zip(*ratios)]
+    print(f"{text:29} {'':12} {'':9} {' '.join(f'{mean:6.2f}' for mean in means)} {MEAN:5.2f}")
+    return means
 
 
 def print_memory(rows):

@@ -5,14 +5,13 @@
 #ifndef PLAIN_GUARD_H
 #define PLAIN_GUARD_H
 
-#include <stddef.h>
-#include <stdint.h>
+#include "../../include/guard.h"
 
 enum { NODES = 256, OPEN_FILES = 32, PAGES = 1024, PAGE = 1024, DIGEST = 32, FILE_BYTES = 65536, NAME = 32, PATH = 255, DATA = 4096 };
 enum { ANSWER = 9690, REQUEST = 1037, IMAGE = 44776 };
-enum { DONE, ASK, REFUSED, STOPPED };
+enum { DONE = GUARD_DONE, ASK = GUARD_ASK, REFUSED = GUARD_REFUSED, STOPPED = GUARD_STOPPED };
 
-typedef struct { int32_t kind; uint64_t number; size_t length; } outcome;
+typedef guard_outcome outcome;
 
 struct node {
     uint32_t id, parent, size;

@@ -8,7 +8,7 @@
 
 enum { UNTOUCHED = 0xa5, LONGEST = 2 * 50000 };
 
-static struct plain_guard guard;
+static struct plain_guard plain;
 static uint8_t answer[ANSWER], request[REQUEST], image[IMAGE + 1000], digest[DIGEST], given[LONGEST];
 static size_t answer_length, request_length;
 static char text[2 * LONGEST];
@@ -67,7 +67,7 @@ static int hand_in(outcome (*entry)(struct plain_guard *, const uint8_t *, size_
 {
     size_t n;
     bytes_of(field, given, &n);
-    outcome o = entry(&guard, given, n, answer, answer_length, request, request_length);
+    outcome o = entry(&plain, given, n, answer, answer_length, request, request_length);
     print(o, o.kind == ASK ? request : answer);
     return is_untouched(answer, o.kind == DONE ? o.length : 0, sizeof answer) && is_untouched(request, o.kind == ASK ? o.length : 0, sizeof request);
 }
@@ -77,7 +77,7 @@ static int save(const char *field)
     size_t n = strtoul(field, NULL, 10);
     if (n > sizeof image)
         n = sizeof image;
-    outcome o = plain_save(&guard, image, n, digest);
+    outcome o = plain_save(&plain, image, n, digest);
     print(o, image);
     if (o.kind == DONE)
         print_bytes(text + strlen(text), digest, DIGEST);
@@ -89,7 +89,7 @@ static int load(const char *field)
     static uint8_t seal[LONGEST];
     size_t n, d;
     bytes_of(bytes_of(field, given, &n) + 1, seal, &d);
-    print(plain_load(&guard, given, n, seal, d), given);
+    print(plain_load(&plain, given, n, seal, d), given);
     return 1;
 }
 
@@ -114,7 +114,7 @@ int main(void)
         line[n - 1] = 0;
         if (line[0] == 'f') {
             lists++;
-            plain_fresh(&guard);
+            plain_fresh(&plain);
             answer_length = ANSWER, request_length = REQUEST;
         } else if (line[0] == 'b') {
             sscanf(line, "b %zu %zu", &answer_length, &request_length);
