@@ -12,7 +12,8 @@ MEAN, MOST, HASHING, STACK = 1.10, 1.30, 1.05, 16_384
 HASH = "digest::sha256"  # in the archive
 
 # Rows that miss a bar, and why.
-SUMS = "where a file's digests begin is summed over the nodes before it, and the total over all, up to five times for a change; plain C keeps it in each node"
+SUMS = "pages are summed over all nodes for each page judged and up to five times for a change, where plain C keeps in each node where its digests begin; "
+SUMS += "a change that adds no page moves the digests behind it onto themselves"
 EXPLAINED = {
     "seek, 256 nodes": "the file's node is searched by its id; plain C keeps its place in the open file",
     "read 1": SUMS,
@@ -147,6 +148,15 @@ def print_curves(archive, plain, folder):
         print(f"  {title}: {first} to {last}")
 
 
+def print_reasons(over):
+    """Each reason once, behind the rows that it is for."""
+    reasons = {}
+    for name in over:
+        reasons.setdefault(EXPLAINED.get(name, "above the bar, and nothing here says why"), []).append(name)
+    for reason, names in reasons.items():
+        print(f"* {'; '.join(names)}: {reason}")
+
+
 def main():
     folder, plots = map(Path, sys.argv[1:3])
     archive, plain, plain_hash, least = (dumps(folder, side) for side in ("archive", "plain", "plain_hash", "least"))
@@ -154,8 +164,7 @@ def main():
     over = print_table(archive, plain, plain_hash, least, times)
     over += print_memory(fields(folder / "memory"))
     print_curves(archive, plain, plots)
-    for name in over:
-        print(f"* {name}: {EXPLAINED.get(name, 'above its bar')}")
+    print_reasons(over)
     sys.exit(any(name not in EXPLAINED for name in over))
 
 
