@@ -1,5 +1,5 @@
--- The short forms of Ch and Maj, bit by bit: a number is twice its half and its lowest bit, and each operation works on the
--- two parts. Assumes nothing.
+-- The short forms of Ch and Maj, and that ⊕ is associative, bit by bit: a number is twice its half and its lowest bit, and each
+-- operation works on the two parts. Assumes nothing.
 use mathlib.Core.Path.{_≡_, refl, ap, sym, _∙_}
 use Prim.Native.Nat.{ℕ, zero, suc, _+_, _-_, _*_, _/_, _%_, _^_, _<_, min}
 use native.Mathlib.Nat.{pow-zero, pow-suc}
@@ -109,3 +109,28 @@ ch-short (suc k) x y z p q r =
     (xor-parts (and-parts a b) (and-parts (complement-parts k x p) c))
     (ch-short k (x / 2) (y / 2) (z / 2) (half k x p) (half k y q) (half k z r))
     (ch-bit _ _ _ (a .bit) (b .bit) (c .bit))
+
+abbrev Assocᵇ : ℕ → ℕ → ℕ → Type 0
+Assocᵇ x y z = differ x (differ y z) ≡ differ (differ x y) z
+
+assoc-bit : (x y z : ℕ) → x < 2 → y < 2 → z < 2 → Assocᵇ x y z
+assoc-bit x y z p q r =
+    bits (λ x. Assocᵇ x y z)
+    (bits (λ y. Assocᵇ 0 y z) (bits (λ z. Assocᵇ 0 0 z) refl refl z r) (bits (λ z. Assocᵇ 0 1 z) refl refl z r) y q)
+    (bits (λ y. Assocᵇ 1 y z) (bits (λ z. Assocᵇ 1 0 z) refl refl z r) (bits (λ z. Assocᵇ 1 1 z) refl refl z r) y q)
+    x p
+
+abbrev Assocᵂ : ℕ → ℕ → ℕ → Type 0
+Assocᵂ x y z = bitXor x (bitXor y z) ≡ bitXor (bitXor x y) z
+
+pub xor-assoc : (k x y z : ℕ) → x < 2 ^ k → y < 2 ^ k → z < 2 ^ k → Assocᵂ x y z
+xor-assoc zero x y z p q r = empty (λ x. Assocᵂ x y z) (empty (λ y. Assocᵂ 0 y z) (empty (λ z. Assocᵂ 0 0 z) refl z r) y q) x p
+xor-assoc (suc k) x y z p q r =
+    let a = parts x in
+    let b = parts y in
+    let c = parts z in
+    same
+    (xor-parts a (xor-parts b c))
+    (xor-parts (xor-parts a b) c)
+    (xor-assoc k (x / 2) (y / 2) (z / 2) (half k x p) (half k y q) (half k z r))
+    (assoc-bit _ _ _ (a .bit) (b .bit) (c .bit))

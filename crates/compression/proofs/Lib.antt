@@ -1,3 +1,4 @@
 pub mod Bits
 pub mod Congruence
+pub mod Rotations
 pub mod Windows

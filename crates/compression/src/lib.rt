@@ -118,8 +118,90 @@ fn state_sum(x: State, y: State) -> State
 }
 
 // Sixteen rounds, with the constants k and the words w, and beside them the sixteen words after w. The two do not wait for each
-// other, so they are done in turn.
-fn rolling_rounds(s: State, k: Window, w: Window) -> Rolled
+// other, so they are done in turn. It stands here three times, a function for each call: one called once is compiled in place.
+fn first_rounds(s: State, k: Window, w: Window) -> Rolled
+    ensures { λ r. ⌜ Rolling s k w (r .state) (r .words) ⌝ }
+{
+    let s1 = one_round(s, k.w0, w.w0);
+    let w1 = slide(w);
+    let s2 = one_round(s1, k.w1, w1.w0);
+    let w2 = slide(w1);
+    let s3 = one_round(s2, k.w2, w2.w0);
+    let w3 = slide(w2);
+    let s4 = one_round(s3, k.w3, w3.w0);
+    let w4 = slide(w3);
+    let s5 = one_round(s4, k.w4, w4.w0);
+    let w5 = slide(w4);
+    let s6 = one_round(s5, k.w5, w5.w0);
+    let w6 = slide(w5);
+    let s7 = one_round(s6, k.w6, w6.w0);
+    let w7 = slide(w6);
+    let s8 = one_round(s7, k.w7, w7.w0);
+    let w8 = slide(w7);
+    let s9 = one_round(s8, k.w8, w8.w0);
+    let w9 = slide(w8);
+    let s10 = one_round(s9, k.w9, w9.w0);
+    let w10 = slide(w9);
+    let s11 = one_round(s10, k.w10, w10.w0);
+    let w11 = slide(w10);
+    let s12 = one_round(s11, k.w11, w11.w0);
+    let w12 = slide(w11);
+    let s13 = one_round(s12, k.w12, w12.w0);
+    let w13 = slide(w12);
+    let s14 = one_round(s13, k.w13, w13.w0);
+    let w14 = slide(w13);
+    let s15 = one_round(s14, k.w14, w14.w0);
+    let w15 = slide(w14);
+    let s16 = one_round(s15, k.w15, w15.w0);
+    let w16 = slide(w15);
+    Rolled {
+        state: s16,
+        words: w16,
+    }
+}
+
+fn second_rounds(s: State, k: Window, w: Window) -> Rolled
+    ensures { λ r. ⌜ Rolling s k w (r .state) (r .words) ⌝ }
+{
+    let s1 = one_round(s, k.w0, w.w0);
+    let w1 = slide(w);
+    let s2 = one_round(s1, k.w1, w1.w0);
+    let w2 = slide(w1);
+    let s3 = one_round(s2, k.w2, w2.w0);
+    let w3 = slide(w2);
+    let s4 = one_round(s3, k.w3, w3.w0);
+    let w4 = slide(w3);
+    let s5 = one_round(s4, k.w4, w4.w0);
+    let w5 = slide(w4);
+    let s6 = one_round(s5, k.w5, w5.w0);
+    let w6 = slide(w5);
+    let s7 = one_round(s6, k.w6, w6.w0);
+    let w7 = slide(w6);
+    let s8 = one_round(s7, k.w7, w7.w0);
+    let w8 = slide(w7);
+    let s9 = one_round(s8, k.w8, w8.w0);
+    let w9 = slide(w8);
+    let s10 = one_round(s9, k.w9, w9.w0);
+    let w10 = slide(w9);
+    let s11 = one_round(s10, k.w10, w10.w0);
+    let w11 = slide(w10);
+    let s12 = one_round(s11, k.w11, w11.w0);
+    let w12 = slide(w11);
+    let s13 = one_round(s12, k.w12, w12.w0);
+    let w13 = slide(w12);
+    let s14 = one_round(s13, k.w13, w13.w0);
+    let w14 = slide(w13);
+    let s15 = one_round(s14, k.w14, w14.w0);
+    let w15 = slide(w14);
+    let s16 = one_round(s15, k.w15, w15.w0);
+    let w16 = slide(w15);
+    Rolled {
+        state: s16,
+        words: w16,
+    }
+}
+
+fn third_rounds(s: State, k: Window, w: Window) -> Rolled
     ensures { λ r. ⌜ Rolling s k w (r .state) (r .words) ⌝ }
 {
     let s1 = one_round(s, k.w0, w.w0);
@@ -165,13 +247,13 @@ pub fn next_hash(s: State, m: &[u8], i: usize) -> State
     requires { ⌜ i + 64 ≤ length (now m) ⌝ }
     ensures { λ r. ⌜ r ≡ compress s (block (now (m .entry)) i) ⌝ }
 {
-    let r0 = rolling_rounds(s, constants_0(), load(m, i));
+    let r0 = first_rounds(s, constants_0(), load(m, i));
     let s1 = r0.state;
     let w1 = r0.words;
-    let r1 = rolling_rounds(s1, constants_16(), w1);
+    let r1 = second_rounds(s1, constants_16(), w1);
     let s2 = r1.state;
     let w2 = r1.words;
-    let r2 = rolling_rounds(s2, constants_32(), w2);
+    let r2 = third_rounds(s2, constants_32(), w2);
     let s3 = r2.state;
     let w3 = r2.words;
     let s4 = sixteen_rounds(s3, constants_48(), w3);

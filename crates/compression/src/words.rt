@@ -22,10 +22,13 @@ pub fn upper_sigma0(x: u32) -> u32
     ((x >> 2) | (x << 30)) ^ ((x >> 13) | (x << 19)) ^ ((x >> 22) | (x << 10))
 }
 
+// Σ1 is nested: each rotation is of the word so far, so that a rotation in place needs no copy.
 pub fn upper_sigma1(x: u32) -> u32
     ensures { λ r. ⌜ r ≡ Σ1 x ⌝ }
 {
-    ((x >> 6) | (x << 26)) ^ ((x >> 11) | (x << 21)) ^ ((x >> 25) | (x << 7))
+    let y = x ^ ((x >> 14) | (x << 18));
+    let z = x ^ ((y >> 5) | (y << 27));
+    (z >> 6) | (z << 26)
 }
 
 pub fn lower_sigma0(x: u32) -> u32

@@ -13,9 +13,9 @@ returns c =
     (c .before .before .before .before .before .before .before .before .before .before .constants-16 .ensures)
     (c .before .before .before .before .before .before .constants-32 .ensures)
     (c .before .before .constants-48 .ensures)
-    (c .before .before .before .before .before .before .before .before .before .before .before .before .before .rolling-rounds .ensures)
-    (c .before .before .before .before .before .before .before .before .before .rolling-rounds2 .ensures)
-    (c .before .before .before .before .before .rolling-rounds3 .ensures)
+    (c .before .before .before .before .before .before .before .before .before .before .before .before .before .first-rounds .ensures)
+    (c .before .before .before .before .before .before .before .before .before .second-rounds .ensures)
+    (c .before .before .before .before .before .third-rounds .ensures)
     (c .before .sixteen-rounds .ensures)
     (c .state-sum .ensures)
 

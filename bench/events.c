@@ -1,0 +1,518 @@
+/* Events measured: the archive's guard beside the one in plain C (events.h).
+ *
+ *     events count SIDE     under callgrind: each case and each point of the curves once, a dump of its counts after each
+ *     events least          the same for the least that any guard must do
+ *     events time           for each case the median of the ratios of archive to plain, taken in turns
+ *     events memory         the bytes of a guard, and the deepest stack below each entry over all cases */
+#define _GNU_SOURCE
+#include <stdio.h>
+#include <stdlib.h>
+#include <string.h>
+#include <time.h>
+#include <ucontext.h>
+#include <valgrind/callgrind.h>
+#include "../include/guard_sha256.h"
+#include "events.h"
+
+/* ---- tables */
+
+enum { FILE_PLACE = 128, LAST = 247, DEEP = 8, SIZE = 8 * PAGE };
+
+#define CHILD "a-child-with-a-long-name-%07u" /* 32 bytes, the longest name */
+
+static char name_room[64];
+static const char *name_of(const char *format, uint32_t k)
+{
+    snprintf(name_room, sizeof name_room, format, k);
+    return name_room;
+}
+
+static void open_file(const char *path, uint32_t handle)
+{
+    char bytes[64];
+    expect(call(bytes, (size_t)snprintf(bytes, sizeof bytes, "\3\3%s", path)), ASK, 0);
+    expect(reply("\5\0\0\0", 4), DONE, handle);
+}
+
+/* The root and /a, a file of eight pages, which is open. */
+static void small(void)
+{
+    begin_image(2);
+    add_root();
+    add_node(2, 1, 1, SIZE, "a");
+    load_image();
+    open_file("/a", 2);
+}
+
+/* Nodes of 12-byte names: files of four pages in the root, one of eight among them, and behind them a path eight deep. */
+static void nodes(uint32_t count)
+{
+    begin_image(count);
+    add_root();
+    for (uint32_t k = 1; k < count; k++) {
+        if (k <= LAST)
+            add_node(k + 1, 1, 1, k == FILE_PLACE ? SIZE : 4 * PAGE, name_of("file-%07u", k));
+        else
+            add_node(k + 1, k == LAST + 1 ? 1 : k, 2, 0, name_of("fold-%07u", k));
+    }
+    load_image();
+}
+
+static void full(void) { nodes(NODES); }
+static void one_less(void) { nodes(NODES - 1); }
+
+static void full_open(void)
+{
+    full();
+    open_file("/file-0000128", FILE_PLACE + 1);
+}
+
+/* The longest image and the longest listing: 255 children with names of 32 bytes, 1,024 pages. */
+static void children(uint32_t count)
+{
+    begin_image(count + 1);
+    add_root();
+    for (uint32_t k = 1; k <= count; k++)
+        add_node(k + 1, 1, 1, k == 1 ? 8 * PAGE : 4 * PAGE, name_of(CHILD, k));
+    load_image();
+}
+
+static void largest(void) { children(NODES - 1); }
+
+static void smallest(void)
+{
+    begin_image(1);
+    add_root();
+    load_image();
+}
+
+/* ---- what is handed in; 0 is what stands there when it is done */
+
+static uint8_t handle_call[5 + DATA];
+static size_t handle_length;
+
+/* A call by handle with a number of some width. */
+static void by_handle(int kind, uint32_t handle, uint32_t number, size_t width)
+{
+    memset(handle_call, 0, 13);
+    handle_call[0] = (uint8_t)kind;
+    memcpy(handle_call + 1, &handle, 4);
+    memcpy(handle_call + 5, &number, 4);
+    handle_length = 5 + width;
+}
+
+static uint32_t file_handle, position, count;
+
+static void to_position(void)
+{
+    uint8_t seek[13] = {5};
+    memcpy(seek + 1, &file_handle, 4);
+    memcpy(seek + 5, &position, 4);
+    expect(call(seek, 13), DONE, position);
+}
+
+static void step_seek(void) { expect(call(handle_call, 13), DONE, 0); }
+static void step_read(void) { expect(answered(call(handle_call, 9)), DONE, count); }
+static void step_write(void) { expect(answered(call(handle_call, 5 + count)), DONE, count); }
+static void step_truncate(void) { expect(answered(call(handle_call, 13)), DONE, 0); }
+
+static char path_call[2 + PATH];
+static size_t path_length;
+static uint8_t stat_reply[10];
+
+/* A stat of the node in place k, of this kind and size. */
+static void stat_of(const char *path, uint32_t k, int kind, uint32_t size)
+{
+    uint32_t id = k + 1;
+    path_length = (size_t)snprintf(path_call, sizeof path_call, "\x0d%s", path);
+    memcpy(stat_reply, &id, 4);
+    stat_reply[4] = (uint8_t)kind;
+    stat_reply[5] = 7;
+    memcpy(stat_reply + 6, &size, 4);
+}
+
+static void step_stat(void)
+{
+    uint32_t size;
+    memcpy(&size, stat_reply + 6, 4);
+    call(path_call, path_length);
+    expect(reply(stat_reply, 10), DONE, size);
+}
+
+static void step_create(void)
+{
+    call("\1\7/file-new0001", 15);
+    expect(reply("\xe7\3\0\0", 4), DONE, 999);
+    call("\x09/file-new0001", 14);
+    expect(reply("\0\0\0\0", 4), DONE, 0);
+}
+
+static void step_open(void)
+{
+    call("\3\3/file-0000247", 15);
+    expect(reply("\7\0\0\0", 4), DONE, LAST + 1);
+    call("\4\xf8\0\0\0", 5);
+    expect(reply("\0\0\0\0", 4), DONE, 0);
+}
+
+static uint8_t listing[ANSWER];
+static size_t listing_length, listed;
+
+static void list_children(uint32_t n)
+{
+    uint8_t *p = listing;
+    listed = n;
+    for (uint32_t k = 1; k <= n; k++) {
+        const char *name = name_of(CHILD, k);
+        uint32_t id = k + 1;
+        memcpy(p, &id, 4);
+        p[4] = 1;
+        p[5] = 32;
+        memcpy(p + 6, name, 32);
+        p += 38;
+    }
+    listing_length = (size_t)(p - listing);
+}
+
+static void step_readdir(void)
+{
+    call("\x0c/", 2);
+    expect(reply(listing, listing_length), DONE, listed);
+}
+
+static void step_save(void) { expect(save(), DONE, image_length); }
+static void step_load(void) { expect(load(), DONE, 0); }
+
+static void step_malformed(void) { expect(call("\1\7/a/../b", 9), REFUSED, 22); }
+static void step_absent(void) { expect(call("\x09/file-absent", 13), REFUSED, 2); }
+static void step_handle(void) { expect(call(handle_call, 13), REFUSED, 9); }
+
+/* ---- the cases */
+
+struct least { size_t hashes, hashed, copied, looks; };
+struct row { const char *name; void (*table)(void), (*before)(void), (*step)(void); int kind; uint32_t position, count; struct least least; };
+
+/* `before` is not measured. The least: so many hashes of so many bytes, so many bytes copied once, so many nodes looked at. */
+static const struct row rows[] = {
+    {"seek, two nodes", small, NULL, step_seek, 5, 0, 0, {0, 0, 0, 1}},
+    {"seek, 256 nodes", full_open, NULL, step_seek, 5, 0, 0, {0, 0, 0, 1}},
+    {"stat, shallow, 256 nodes", full, NULL, step_stat, 13, 1, 0, {0, 0, 24, 256}},
+    {"stat, eight deep, 256 nodes", full, NULL, step_stat, 13, DEEP, 0, {0, 0, 115, 256}},
+    {"create and remove, 256 nodes", one_less, NULL, step_create, 1, 0, 0, {0, 0, 42, 512}},
+    {"open and close, 256 nodes", full, NULL, step_open, 3, 0, 0, {0, 0, 15, 256}},
+    {"read 1", full_open, to_position, step_read, 6, 0, 1, {1, PAGE, 1, 1}},
+    {"read 1,024, aligned", full_open, to_position, step_read, 6, 1024, 1024, {1, PAGE, 1024, 1}},
+    {"read 1,024, not aligned", full_open, to_position, step_read, 6, 1000, 1024, {2, PAGE, 1024, 1}},
+    {"read 4,096, aligned", full_open, to_position, step_read, 6, 1024, 4096, {4, PAGE, 4096, 1}},
+    {"read 4,096, not aligned", full_open, to_position, step_read, 6, 1000, 4096, {5, PAGE, 4096, 1}},
+    {"write 1", full_open, to_position, step_write, 7, 0, 1, {2, PAGE, 1024, 1}},
+    {"write 1,024, aligned", full_open, to_position, step_write, 7, 1024, 1024, {1, PAGE, 1024, 1}},
+    {"write 1,024, not aligned", full_open, to_position, step_write, 7, 1000, 1024, {4, PAGE, 2048, 1}},
+    {"write 4,096, aligned", full_open, to_position, step_write, 7, 1024, 4096, {4, PAGE, 4096, 1}},
+    {"write 4,096, not aligned", full_open, to_position, step_write, 7, 1000, 4096, {7, PAGE, 5120, 1}},
+    {"truncate, on an edge", full_open, restore, step_truncate, 8, 3 * PAGE, 0, {0, 0, 0, 1}},
+    {"truncate, inside a page", full_open, restore, step_truncate, 8, 3 * PAGE + 100, 0, {2, PAGE, 1024, 1}},
+    {"readdir, 255 children", largest, NULL, step_readdir, 12, 0, 255, {0, 0, 9690, 256}},
+    {"save, 23 bytes", smallest, NULL, step_save, 0, 0, 0, {1, 23, 23, 1}},
+    {"save, 44,776 bytes", largest, NULL, step_save, 0, 0, 0, {1, IMAGE, IMAGE, 256}},
+    {"load, 23 bytes", smallest, NULL, step_load, 0, 0, 0, {1, 23, 23, 1}},
+    {"load, 44,776 bytes", largest, NULL, step_load, 0, 0, 0, {1, IMAGE, IMAGE, 256}},
+    {"refused 22, a path's form", small, NULL, step_malformed, 0, 0, 0, {0, 0, 0, 1}},
+    {"refused 2, absent, 256 nodes", full, NULL, step_absent, 0, 0, 0, {0, 0, 0, 256}},
+    {"refused 9, no such handle", full_open, NULL, step_handle, 9, 0, 0, {0, 0, 0, 1}},
+};
+enum { ROWS = sizeof rows / sizeof *rows };
+
+static void deep_path(char *path, size_t depth)
+{
+    if (depth == 1) {
+        strcpy(path, "/file-0000247");
+        return;
+    }
+    for (uint32_t k = 1; k <= depth; k++)
+        path += sprintf(path, "/fold-%07u", LAST + k);
+}
+
+/* The call of a row, made for the table that it is run on. */
+static void make_call(const struct row *r)
+{
+    char path[PATH + 1];
+    file_handle = r->table == small ? 2 : FILE_PLACE + 1;
+    position = r->position;
+    count = r->count;
+    switch (r->kind) {
+    case 5: by_handle(5, file_handle, 0, 8); break;
+    case 6: by_handle(6, file_handle, count, 4); break;
+    case 7:
+        by_handle(7, file_handle, 0, 0);
+        for (uint32_t i = 0; i < count; i++)
+            handle_call[5 + i] = page[(position + i) % PAGE];
+        break;
+    case 8: by_handle(8, file_handle, position, 8); break;
+    case 9: by_handle(5, 777, 0, 8); break;
+    case 12: list_children(count); break;
+    case 13:
+        deep_path(path, position);
+        stat_of(path, position == 1 ? LAST : LAST + position, position == 1 ? 1 : 2, position == 1 ? 4 * PAGE : 0);
+    }
+}
+
+static void set_up(const struct row *r)
+{
+    r->table();
+    make_call(r);
+    keep();
+}
+
+/* ---- counts */
+
+/* A dump begins the counts anew; those called `before` are of what is not measured. */
+static void dump(const char *name)
+{
+    CALLGRIND_DUMP_STATS_AT(name);
+    (void)name;
+}
+
+static void count_row(const struct row *r)
+{
+    set_up(r);
+    if (r->before)
+        r->before();
+    dump("before");
+    r->step();
+    dump(r->name);
+}
+
+static void count_point(const char *curve, uint32_t x, void (*step)(void))
+{
+    char name[64];
+    snprintf(name, sizeof name, "curve %s %u", curve, x);
+    dump("before");
+    step();
+    dump(name);
+}
+
+/* A chain of 127 folders is there; the walk goes so deep. */
+static void count_depths(void)
+{
+    char path[PATH + 1];
+    begin_image(128);
+    add_root();
+    for (uint32_t k = 1; k < 128; k++)
+        add_node(k + 1, k, 2, 0, "d");
+    load_image();
+    for (uint32_t depth = 1; depth <= 127; depth += depth < 8 ? 1 : 7) {
+        for (uint32_t k = 0; k < depth; k++)
+            memcpy(path + 2 * k, "/d", 3);
+        stat_of(path, depth, 2, 0);
+        count_point("depth", depth, step_stat);
+    }
+}
+
+/* The last of so many nodes is looked up. */
+static void count_nodes(void)
+{
+    for (uint32_t n = 1; n <= NODES; n += n == 1 ? 15 : 16) {
+        char path[PATH + 1] = "/";
+        children(n - 1);
+        if (n > 1)
+            snprintf(path, sizeof path, "/%s", name_of(CHILD, n - 1));
+        stat_of(path, n - 1, n > 1 ? 1 : 2, n == 1 ? 0 : n == 2 ? 8 * PAGE : 4 * PAGE);
+        count_point("nodes", n, step_stat);
+    }
+}
+
+static void read_all(void)
+{
+    for (uint32_t left = position; left > 0; left -= count) {
+        count = left < DATA ? left : DATA;
+        step_read();
+    }
+}
+
+/* A file of so many pages is read from end to end. */
+static void count_pages(void)
+{
+    for (uint32_t n = 1; n <= 64; n += n < 4 ? 1 : 4) {
+        begin_image(2);
+        add_root();
+        add_node(2, 1, 1, n * PAGE, "a");
+        load_image();
+        open_file("/a", 2);
+        by_handle(6, 2, DATA, 4);
+        position = n * PAGE;
+        count_point("pages", n, read_all);
+    }
+}
+
+static void count_children(void)
+{
+    for (uint32_t n = 1; n <= 255; n += n == 1 ? 14 : 16) {
+        children(n);
+        list_children(n);
+        count_point("children", n, step_readdir);
+    }
+}
+
+static void count_all(void)
+{
+    for (int i = 0; i < ROWS; i++)
+        count_row(rows + i);
+    count_depths();
+    count_nodes();
+    count_pages();
+    count_children();
+}
+
+/* ---- the least */
+
+static struct node looked[2 * NODES];
+static uint8_t copied[2][IMAGE];
+static uint32_t absent;
+static const struct node *volatile found;
+
+__attribute__((noinline)) void the_least(const struct least *l)
+{
+    const struct node *k = looked, *end = looked + l->looks;
+    for (size_t i = 0; i < l->hashes; i++)
+        guard_sha256(copied[0], l->hashed, digest);
+    if (l->copied)
+        memcpy(copied[1], copied[0], l->copied);
+    while (k < end && k->id != absent)
+        k++;
+    found = k;
+}
+
+static void count_least(void)
+{
+    for (uint32_t i = 0; i < 2 * NODES; i++)
+        looked[i].id = i + 1;
+    for (int i = 0; i < ROWS; i++) {
+        dump("before");
+        the_least(&rows[i].least);
+        dump(rows[i].name);
+    }
+}
+
+/* ---- times */
+
+static double now(void)
+{
+#ifdef __x86_64__
+    return (double)__builtin_ia32_rdtsc();
+#else
+    struct timespec t;
+    clock_gettime(CLOCK_MONOTONIC, &t);
+    return (double)t.tv_sec * 1e9 + (double)t.tv_nsec;
+#endif
+}
+
+/* So many runs of a row on a side; what comes before a step is left out, and so is the clock itself. */
+static double batch(const struct row *r, int which, int runs, double clock)
+{
+    double sum = 0, start = now();
+    side = which;
+    if (!r->before) {
+        for (int i = 0; i < runs; i++)
+            r->step();
+        return now() - start;
+    }
+    for (int i = 0; i < runs; i++) {
+        r->before();
+        start = now();
+        r->step();
+        sum += now() - start - clock;
+    }
+    return sum;
+}
+
+static int by_value(const void *a, const void *b)
+{
+    double x = *(const double *)a, y = *(const double *)b;
+    return (x > y) - (x < y);
+}
+
+static double median(double *x, int n)
+{
+    qsort(x, (size_t)n, sizeof *x, by_value);
+    return x[n / 2];
+}
+
+static double clock_cost(void)
+{
+    double cost[1001];
+    for (int i = 0; i < 1001; i++) {
+        double start = now();
+        cost[i] = now() - start;
+    }
+    return median(cost, 1001);
+}
+
+static void time_row(const struct row *r, double clock)
+{
+    enum { TURNS = 201 };
+    double ratio[TURNS];
+    int runs = 1;
+    for (side = SIDES - 1; side >= 0; side--)
+        set_up(r);
+    while (runs < 4096 && batch(r, PLAIN, runs, clock) < 500000)
+        runs *= 2;
+    for (int i = 0; i < TURNS; i++) {
+        double a = batch(r, i % 2, runs, clock), b = batch(r, 1 - i % 2, runs, clock);
+        ratio[i] = i % 2 == ARCHIVE ? a / b : b / a;
+    }
+    printf("%s\t%.3f\n", r->name, median(ratio, TURNS));
+    fflush(stdout);
+}
+
+/* ---- memory */
+
+static ucontext_t here, there;
+
+static void every_row(void)
+{
+    for (side = 0; side < SIDES; side++)
+        for (int i = 0; i < ROWS; i++) {
+            set_up(rows + i);
+            rows[i].step();
+        }
+}
+
+static void print_memory(void)
+{
+    enum { STACK = 1 << 17 };
+    uint8_t *stack = malloc(STACK);
+    watch_stack(stack);
+    getcontext(&there);
+    there.uc_stack.ss_sp = stack;
+    there.uc_stack.ss_size = STACK;
+    there.uc_link = &here;
+    makecontext(&there, every_row, 0);
+    swapcontext(&here, &there);
+    for (int i = 0; i < SIDES; i++) {
+        printf("%s\tguard\t%zu\n", side_names[i], guard_bytes(i));
+        for (int e = 0; e < ENTRIES; e++)
+            printf("%s\t%s\t%zu\n", side_names[i], entry_names[e], deepest(i, e));
+    }
+    watch_stack(NULL);
+    free(stack);
+}
+
+int main(int n, char **words)
+{
+    const char *what = n > 1 ? words[1] : "";
+    if (!strcmp(what, "count") && n > 2) {
+        side = strcmp(words[2], side_names[PLAIN]) ? ARCHIVE : PLAIN;
+        count_all();
+    } else if (!strcmp(what, "least")) {
+        count_least();
+    } else if (!strcmp(what, "time")) {
+        for (int i = 0; i < ROWS; i++)
+            time_row(rows + i, clock_cost());
+    } else if (!strcmp(what, "memory")) {
+        print_memory();
+    } else {
+        return 2;
+    }
+    return 0;
+}

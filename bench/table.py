@@ -1,0 +1,172 @@
+"""What the guard costs, from the counts and times of bench/run: one table, the bars, and the curves as plots.
+
+    python3 table.py FOLDER PLOTS     FOLDER has callgrind's dumps (archive.*, plain.*, plain_hash.*, least.*), `times` and `memory`
+"""
+
+import math
+import sys
+from pathlib import Path
+
+# bars: a row misses its own where both ratios are above it, since times are others on a busy machine and instructions do not all take as long
+MEAN, MOST, HASHING, STACK = 1.10, 1.30, 1.05, 16_384
+HASH = "digest::sha256"  # in the archive
+
+# Rows that miss a bar, and why.
+SUMS = "pages are summed over all nodes for each page judged and up to five times for a change, where plain C keeps in each node where its digests begin; "
+SUMS += "a change that adds no page moves the digests behind it onto themselves"
+EXPLAINED = {
+    "seek, 256 nodes": "the file's node is searched by its id; plain C keeps its place in the open file",
+    "read 1": SUMS,
+    "read 1,024, aligned": SUMS,
+    "write 1": SUMS,
+    "write 1,024, aligned": SUMS,
+    "write 1,024, not aligned": SUMS,
+    "truncate, on an edge": SUMS,
+    "truncate, inside a page": SUMS,
+    "readdir, 255 children": "an entry's node is searched by its name; plain C searches by its id",
+    "refused 2, absent, 256 nodes": "15 instructions a node beside 10: where the row stands and whether the name's length is within its limit",
+    "geometric mean": "by these rows",
+}
+
+
+def read_dump(path):
+    """A dump's name, its instructions, and those inside the hash."""
+    name, total, hashed, called = None, 0, 0, None
+    for line in path.read_text().splitlines():
+        if line.startswith("desc: Trigger: Client Request: "):
+            name = line.removeprefix("desc: Trigger: Client Request: ")
+        elif line.startswith("totals:"):
+            total = int(line.split()[1])
+        elif line.startswith("cfn="):
+            called = line[4:]
+        elif called is not None and line[:1].isdigit():
+            if called.startswith(HASH):
+                hashed += int(line.split()[1])
+            called = None
+    return name, total, hashed
+
+
+def dumps(folder, side):
+    """By name, in the order of the run: instructions and those inside the hash."""
+    files = sorted(folder.glob(f"{side}.*"), key=lambda path: int(path.suffix[1:]))
+    return {name: counts for name, *counts in map(read_dump, files) if name not in (None, "before")}
+
+
+def fields(path):
+    return [line.split("\t") for line in path.read_text().splitlines()]
+
+
+def bar_of(share):
+    """The bar of a row: nearer where most of it is hashing, beside the same hash code."""
+    return HASHING if share >= 0.5 else MOST
+
+
+def geometric_mean(values):
+    return math.exp(sum(map(math.log, values)) / len(values))
+
+
+HEAD = f"{'':29} {'instructions':>12} {'plain C':>9} {'ratio':>6} {'C hash':>6} {'time':>6} {'bar':>5} {'hashing':>7} {'least':>6}"
+
+
+def print_table(archive, plain, plain_hash, least, times):
+    """The table; the names of rows above their bar."""
+    over, ratios = [], {}
+    print(HEAD)
+    for name in times:
+        (ours, hashed), (theirs, _), (c_hash, _), (fewest, _) = (side[name] for side in (archive, plain, plain_hash, least))
+        row, bar = (ours / theirs, ours / c_hash, times[name]), bar_of(hashed / ours)
+        ratios[name] = row
+        mark = " *" if min(row[0], row[2]) > bar else ""
+        over += [name] if mark else []
+        figures = " ".join(f"{ratio:6.2f}" for ratio in row)
+        print(f"{name:29} {ours:12,} {theirs:9,} {figures} {bar:5.2f} {hashed / ours:7.0%} {ours / fewest:6.2f}{mark}")
+    means = print_means("geometric mean", ratios.values())
+    if over:
+        print_means("of the rows within their bars", (row for name, row in ratios.items() if name not in over))
+    return over + ["geometric mean"] * (min(means[0], means[2]) > MEAN)
+
+
+def print_means(text, ratios):
+    means = [geometric_mean(column) for column in zip(*ratios)]
+    print(f"{text:29} {'':12} {'':9} {' '.join(f'{mean:6.2f}' for mean in means)} {MEAN:5.2f}")
+    return means
+
+
+def print_memory(rows):
+    """The guard's bytes and the deepest stack; the entries above the bar."""
+    sizes = {(side, what): int(size) for side, what, size in rows}
+    entries = [what for side, what in sizes if side == "archive" and what != "guard"]
+    print(f"bytes of a guard: {sizes['archive', 'guard']:,}; in plain C {sizes['plain', 'guard']:,}")
+    stacks = (f"{entry} {sizes['archive', entry]:,} ({sizes['plain', entry]:,})" for entry in entries)
+    print(f"deepest stack below an entry (in plain C), at most {STACK:,}: {', '.join(stacks)}")
+    return [f"stack of {entry}" for entry in entries if sizes["archive", entry] > STACK]
+
+
+WIDTH, HEIGHT, LEFT, BOTTOM, TOP = 480, 260, 70, 36, 28
+CURVES = {
+    "depth": "stat: depth of the path, among 128 nodes",
+    "nodes": "stat of the last node: nodes in the table",
+    "pages": "read of a whole file: pages",
+    "children": "readdir: children",
+}
+
+
+def plot(title, series):
+    """Lines over one x each, as SVG: the archive's solid, plain C's dashed."""
+    most_x = max(x for points in series.values() for x, _ in points)
+    most_y = max(y for points in series.values() for _, y in points)
+    across, up = (WIDTH - LEFT - 20) / most_x, (HEIGHT - BOTTOM - TOP) / most_y
+    out = [
+        f'<svg xmlns="http://www.w3.org/2000/svg" viewBox="0 0 {WIDTH} {HEIGHT}" font-family="sans-serif" font-size="11">',
+        f'<rect width="{WIDTH}" height="{HEIGHT}" fill="white"/>',
+        f'<text x="{LEFT}" y="16">{title}; instructions, archive (solid) and plain C (dashed)</text>',
+        f'<path d="M{LEFT} {TOP}V{HEIGHT - BOTTOM}H{WIDTH - 20}" fill="none" stroke="black"/>',
+    ]
+    for part in (0, 0.5, 1):
+        y, x = HEIGHT - BOTTOM - part * most_y * up, LEFT + part * most_x * across
+        out.append(f'<text x="{LEFT - 6}" y="{y + 4:.0f}" text-anchor="end">{part * most_y:,.0f}</text>')
+        out.append(f'<text x="{x:.0f}" y="{HEIGHT - BOTTOM + 16}" text-anchor="middle">{part * most_x:,.0f}</text>')
+    for dashes, points in zip(("none", "5 4"), series.values()):
+        places = " ".join(f"{LEFT + x * across:.1f},{HEIGHT - BOTTOM - y * up:.1f}" for x, y in points)
+        out.append(f'<polyline points="{places}" fill="none" stroke="black" stroke-dasharray="{dashes}"/>')
+    return "\n".join([*out, "</svg>", ""])
+
+
+def points(counts, curve):
+    return [(int(name.split()[2]), total) for name, (total, _) in counts.items() if name.startswith(f"curve {curve} ")]
+
+
+def print_curves(archive, plain, folder):
+    """The first and last point of each curve; each as a plot."""
+    folder.mkdir(exist_ok=True)
+    print("how it grows, instructions of the archive (plain C):")
+    for curve, title in CURVES.items():
+        series = {"archive": points(archive, curve), "plain": points(plain, curve)}
+        (folder / f"{curve}.svg").write_text(plot(title, series))
+        ends = (f"{x} {ours:,} ({theirs:,})" for (x, ours), (_, theirs) in zip(*series.values()))
+        first, *_, last = ends
+        print(f"  {title}: {first} to {last}")
+
+
+def print_reasons(over):
+    """Each reason once, behind the rows that it is for."""
+    reasons = {}
+    for name in over:
+        reasons.setdefault(EXPLAINED.get(name, "above the bar, and nothing here says why"), []).append(name)
+    for reason, names in reasons.items():
+        print(f"* {'; '.join(names)}: {reason}")
+
+
+def main():
+    folder, plots = map(Path, sys.argv[1:3])
+    archive, plain, plain_hash, least = (dumps(folder, side) for side in ("archive", "plain", "plain_hash", "least"))
+    times = {name: float(ratio) for name, ratio in fields(folder / "times")}
+    over = print_table(archive, plain, plain_hash, least, times)
+    over += print_memory(fields(folder / "memory"))
+    print_curves(archive, plain, plots)
+    print_reasons(over)
+    sys.exit(any(name not in EXPLAINED for name in over))
+
+
+if __name__ == "__main__":
+    main()
