@@ -1,0 +1,49 @@
+/* A client of the guard: each call in one function, which writes the call's bytes and carries requests and replies between guard and host until
+ * the call is done, refused or stopped. */
+#ifndef CLIENT_H
+#define CLIENT_H
+
+#include <stddef.h>
+#include <stdint.h>
+
+#include "guard.h"
+#include "host.h"
+
+/* Whoever obeys requests: the host's own function, or one that listens in between. */
+typedef size_t client_host(void *host, const uint8_t *request, size_t length, uint8_t reply[HOST_REPLY_LENGTH]);
+
+typedef struct {
+    guard guard;
+    client_host *ask;
+    void *host;
+    uint8_t answer[GUARD_ANSWER_LENGTH]; /* the bytes of a call that is done: `length` of its outcome says how many */
+    uint8_t request[GUARD_REQUEST_LENGTH];
+    uint8_t reply[HOST_REPLY_LENGTH];
+    uint8_t call[5 + GUARD_TRANSFER_LENGTH + 1]; /* the last call's bytes; with room for one too many, which the guard refuses */
+    size_t call_length;
+} client;
+
+/* A client with a fresh guard. */
+void client_begin(client *c, client_host *ask, void *with);
+
+/* The host of host.h, as a client_host. */
+size_t client_ask_host(void *host, const uint8_t *request, size_t length, uint8_t reply[HOST_REPLY_LENGTH]);
+
+/* A call of any bytes. */
+guard_outcome client_call(client *c, const uint8_t *call, size_t length);
+
+guard_outcome client_create(client *c, const char *path, uint8_t mode);
+guard_outcome client_mkdir(client *c, const char *path, uint8_t mode);
+guard_outcome client_open(client *c, const char *path, uint8_t rights); /* done with the handle */
+guard_outcome client_close(client *c, uint32_t handle);
+guard_outcome client_seek(client *c, uint32_t handle, uint64_t position);
+guard_outcome client_read(client *c, uint32_t handle, uint32_t count);
+guard_outcome client_write(client *c, uint32_t handle, const void *bytes, size_t length);
+guard_outcome client_truncate(client *c, uint32_t handle, uint64_t size);
+guard_outcome client_remove(client *c, const char *path);
+guard_outcome client_rmdir(client *c, const char *path);
+guard_outcome client_chmod(client *c, const char *path, uint8_t mode);
+guard_outcome client_readdir(client *c, const char *path);
+guard_outcome client_stat(client *c, const char *path);
+
+#endif

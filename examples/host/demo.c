@@ -1,0 +1,289 @@
+/* A client, the guard and a host over a directory of this machine; then someone tampers with the disk, and the guard stops. Ends with status 1 where anything comes
+ * back that is not what is told here. */
+#define _XOPEN_SOURCE 700 /* mkdtemp */
+#include <signal.h>
+#include <stdio.h>
+#include <stdlib.h>
+#include <string.h>
+#include <sys/stat.h>
+#include <sys/wait.h>
+#include <unistd.h>
+
+#include "client.h"
+#include "disk.h"
+
+/* The host's part of the directory and the box's own, which the host cannot reach. */
+#define LOG "host/tree/cellar/log"
+#define NOTE "host/tree/cellar/note"
+#define IMAGE "host/image"
+#define OLD_IMAGE "host/image.old"
+#define DIGEST "box/digest"
+
+typedef struct {
+    client client;
+    host *host;
+    char asked[128]; /* what the guard has asked for since the last line */
+    int same;        /* the host gives out descriptor 0 whatever is asked */
+    int wrong;
+} stage;
+
+/* ---- in words */
+
+static const char *const call_words[] = {"", "create", "mkdir", "open", "close", "seek", "fetch", "store", "cut", "remove", "rmdir", "chmod", "readdir", "stat"};
+
+static const char *const reasons[] = {"", "wrong length", "wrong status", "an id that is taken", "a descriptor that is taken",
+                                      "not the page that was stored", "not the node's stat", "not what the directory holds"};
+
+/* Listens between guard and host. */
+static size_t ask(void *to, const uint8_t *request, size_t length, uint8_t reply[HOST_REPLY_LENGTH])
+{
+    stage *s = to;
+    size_t n = strlen(s->asked);
+    int paged = request[0] == GUARD_FETCH || request[0] == GUARD_STORE;
+    snprintf(s->asked + n, sizeof s->asked - n, paged ? "%s%s %d" : "%s%s", n ? " " : "", call_words[request[0]], paged ? request[5] : 0);
+    n = host_reply(s->host, request, length, reply);
+    if (s->same && request[0] == GUARD_OPEN)
+        memset(reply, 0, n);
+    return n;
+}
+
+enum { SHOWN = 10 };
+
+/* The first bytes in hexadecimal. */
+static const char *digits(const uint8_t *bytes, size_t length)
+{
+    static char text[2 * SHOWN + 1];
+    size_t shown = length > SHOWN ? SHOWN - 1 : length;
+    text[0] = '\0';
+    for (size_t i = 0; i < shown; i++)
+        sprintf(text + 2 * i, "%02x", bytes[i]);
+    return length > SHOWN ? strcat(text, "..") : text;
+}
+
+/* One line: the call in words, its bytes, what the guard asked of the host, what came back. */
+static void row(stage *s, guard_outcome o, int kind, uint64_t number, const char *words)
+{
+    static const char *const kinds[] = {"done", "ask", "refused", "stopped"};
+    printf("  %-33s  %-*s", words, 2 * SHOWN, digits(s->client.call, s->client.call_length));
+    printf("  %-31s  %s %u", s->asked[0] ? s->asked : "-", kinds[o.kind], (unsigned)o.number);
+    if (o.kind != GUARD_DONE)
+        printf(": %s", o.kind == GUARD_STOPPED ? reasons[o.number] : strerror((int)o.number));
+    if (o.kind != kind || o.number != number) {
+        printf("   << not what is expected");
+        s->wrong = 1;
+    }
+    putchar('\n');
+    s->asked[0] = '\0';
+    s->client.call_length = 0;
+}
+
+static void show_text(const stage *s, size_t length)
+{
+    printf("    > ");
+    for (size_t i = 0; i < length; i++)
+        putchar(s->client.answer[i] == '\n' ? '|' : s->client.answer[i]);
+    putchar('\n');
+}
+
+static void show_listing(const stage *s, size_t length)
+{
+    for (const uint8_t *e = s->client.answer; e < s->client.answer + length; e += 6 + e[5])
+        printf("    > id %d, a %s, %.*s\n", e[0], e[4] == GUARD_FILE ? "file" : "directory", e[5], (const char *)e + 6);
+}
+
+/* ---- save and load */
+
+static void save(stage *s)
+{
+    static uint8_t image[GUARD_IMAGE_LENGTH];
+    uint8_t digest[GUARD_DIGEST_LENGTH];
+    host_sync(s->host);
+    guard_outcome o = guard_save(&s->client.guard, image, sizeof image, digest);
+    row(s, o, GUARD_DONE, o.number, "save");
+    disk_new(IMAGE, image, o.length);
+    disk_new(DIGEST, digest, sizeof digest);
+    printf("    the image, %zu bytes, may lie with the host; its digest is what the box keeps: %s\n", o.length, digits(digest, sizeof digest));
+}
+
+static void load(stage *s, const char *file, int kind, uint64_t number)
+{
+    static uint8_t image[GUARD_IMAGE_LENGTH];
+    uint8_t digest[GUARD_DIGEST_LENGTH];
+    size_t length = disk_read(file, 0, image, sizeof image);
+    size_t digest_length = disk_read(DIGEST, 0, digest, sizeof digest);
+    row(s, guard_load(&s->client.guard, image, length, digest, digest_length), kind, number, "load the image");
+}
+
+/* ---- the client's work */
+
+static void make_files(stage *s)
+{
+    static const char edge[] = "<<over the edge>>";
+    char text[25 * 100 + 1];
+    for (int day = 0; day < 100; day++)
+        sprintf(text + 25 * day, "day %03d  cask %02d  11.%d C\n", day + 1, day % 12 + 1, day * 7 % 10);
+    client *c = &s->client;
+    row(s, client_mkdir(c, "/cellar", 7), GUARD_DONE, 2, "mkdir /cellar, mode 7");
+    row(s, client_create(c, "/cellar/log", 6), GUARD_DONE, 3, "create /cellar/log, mode 6");
+    row(s, client_open(c, "/cellar/log", 3), GUARD_DONE, 3, "open /cellar/log, read and write");
+    row(s, client_write(c, 3, text, 2500), GUARD_DONE, 2500, "write 2,500 bytes");
+    row(s, client_seek(c, 3, 1015), GUARD_DONE, 1015, "seek to 1,015");
+    row(s, client_write(c, 3, edge, 17), GUARD_DONE, 17, "write 17 bytes over a page's edge");
+    row(s, client_seek(c, 3, 1000), GUARD_DONE, 1000, "seek to 1,000");
+    row(s, client_read(c, 3, 50), GUARD_DONE, 50, "read 50 bytes");
+    show_text(s, 50);
+    row(s, client_close(c, 3), GUARD_DONE, 0, "close");
+}
+
+static void first_life(stage *s)
+{
+    static const char note[] = "The key is under the third cask.\n";
+    client *c = &s->client;
+    make_files(s);
+    row(s, client_create(c, "/cellar/note", 7), GUARD_DONE, 4, "create /cellar/note, mode 7");
+    row(s, client_open(c, "/cellar/note", 2), GUARD_DONE, 4, "open /cellar/note, write");
+    row(s, client_write(c, 4, note, sizeof note - 1), GUARD_DONE, sizeof note - 1, "write a line");
+    row(s, client_read(c, 4, 10), GUARD_REFUSED, GUARD_BAD_HANDLE, "read without the right to");
+    row(s, client_close(c, 4), GUARD_DONE, 0, "close");
+    row(s, client_open(c, "/cellar/keys", 1), GUARD_REFUSED, GUARD_ABSENT, "open /cellar/keys, read");
+    guard_outcome o = client_readdir(c, "/cellar");
+    row(s, o, GUARD_DONE, 2, "readdir /cellar");
+    show_listing(s, o.length);
+    row(s, client_stat(c, "/cellar/log"), GUARD_DONE, 2500, "stat /cellar/log: its size");
+    save(s);
+    printf("  What an ordinary ls and cat see:\n");
+    disk_show("ls -l host/tree/cellar");
+    disk_show("cat " NOTE);
+}
+
+static void second_life(stage *s)
+{
+    client *c = &s->client;
+    load(s, IMAGE, GUARD_DONE, 0);
+    row(s, client_open(c, "/cellar/note", 3), GUARD_DONE, 4, "open /cellar/note, read and write");
+    row(s, client_read(c, 4, 4096), GUARD_DONE, 33, "read up to 4,096 bytes");
+    show_text(s, 33);
+    row(s, client_write(c, 4, "No: it is gone.\n", 16), GUARD_DONE, 16, "write on at the end");
+    row(s, client_close(c, 4), GUARD_DONE, 0, "close");
+    disk_move(IMAGE, OLD_IMAGE);
+    save(s);
+}
+
+/* ---- tampering */
+
+static void read_log(stage *s, int kind, uint64_t number)
+{
+    row(s, client_open(&s->client, "/cellar/log", 3), GUARD_DONE, 3, "open /cellar/log, read and write");
+    row(s, client_read(&s->client, 3, 4096), kind, number, "read up to 4,096 bytes");
+}
+
+static void byte_changed(stage *s)
+{
+    char byte;
+    load(s, IMAGE, GUARD_DONE, 0);
+    disk_read(LOG, 1500, &byte, 1);
+    disk_write(LOG, 1500, "!", 1);
+    read_log(s, GUARD_STOPPED, GUARD_STOP_PAGE);
+    row(s, client_stat(&s->client, "/"), GUARD_REFUSED, GUARD_STOPPED_FOR_GOOD, "stat /");
+    disk_write(LOG, 1500, &byte, 1);
+}
+
+static void old_page(stage *s)
+{
+    char page[GUARD_PAGE_LENGTH];
+    load(s, IMAGE, GUARD_DONE, 0);
+    disk_read(LOG, 0, page, sizeof page);
+    row(s, client_open(&s->client, "/cellar/log", 3), GUARD_DONE, 3, "open /cellar/log, read and write");
+    row(s, client_write(&s->client, 3, "day 001  cask 01  19.9 C\n", 25), GUARD_DONE, 25, "write 25 bytes");
+    disk_write(LOG, 0, page, sizeof page);
+    row(s, client_seek(&s->client, 3, 0), GUARD_DONE, 0, "seek to 0");
+    row(s, client_read(&s->client, 3, 25), GUARD_STOPPED, GUARD_STOP_PAGE, "read 25 bytes");
+}
+
+static void file_hidden(stage *s)
+{
+    load(s, IMAGE, GUARD_DONE, 0);
+    disk_move(NOTE, "aside");
+    row(s, client_readdir(&s->client, "/cellar"), GUARD_STOPPED, GUARD_STOP_LISTING, "readdir /cellar");
+    disk_move("aside", NOTE);
+}
+
+static void same_descriptor(stage *s)
+{
+    load(s, IMAGE, GUARD_DONE, 0);
+    s->same = 1;
+    row(s, client_open(&s->client, "/cellar/log", 1), GUARD_DONE, 3, "open /cellar/log, read");
+    row(s, client_open(&s->client, "/cellar/note", 2), GUARD_STOPPED, GUARD_STOP_DESCRIPTOR, "open /cellar/note, write");
+}
+
+static void files_swapped(stage *s)
+{
+    load(s, IMAGE, GUARD_DONE, 0);
+    disk_swap(LOG, NOTE);
+    read_log(s, GUARD_STOPPED, GUARD_STOP_PAGE);
+    disk_swap(LOG, NOTE);
+}
+
+static void old_image(stage *s) { load(s, OLD_IMAGE, GUARD_REFUSED, GUARD_WRONG_DIGEST); }
+
+static void untouched(stage *s)
+{
+    load(s, IMAGE, GUARD_DONE, 0);
+    read_log(s, GUARD_DONE, 2500);
+}
+
+/* ---- lives: each a process of its own, so that nothing goes on but what lies in files */
+
+static const struct { const char *title; void (*act)(stage *); } lives[] = {
+    {"The client makes files; the guard keeps names, sizes, modes and digests, and asks the host to keep the pages.", first_life},
+    {"The box is switched off and on: a new process, a fresh guard, and the image with the digest that the box kept.", second_life},
+    {"Someone changes byte 1,500 of the log on the disk.", byte_changed},
+    {"Someone puts an old page back, after the client has written a newer one.", old_page},
+    {"Someone takes the note out of the directory.", file_hidden},
+    {"The host gives one descriptor to two files.", same_descriptor},
+    {"Someone swaps log and note on the disk.", files_swapped},
+    {"The host hands out the image of the save before the last.", old_image},
+    {"Nobody does anything.", untouched},
+};
+
+static int live(int number)
+{
+    printf("\n%d. %s\n", number + 1, lives[number].title);
+    fflush(stdout);
+    pid_t child = fork();
+    if (child == 0) {
+        static stage s;
+        if (!(s.host = host_open("host/tree", "host/table"))) {
+            perror("host");
+            exit(2);
+        }
+        client_begin(&s.client, ask, &s);
+        lives[number].act(&s);
+        host_close(s.host);
+        exit(s.wrong);
+    }
+    int status = 1;
+    return child < 0 || waitpid(child, &status, 0) < 0 || status != 0;
+}
+
+int main(void)
+{
+    const char *base = getenv("TMPDIR");
+    char place[4096];
+    int wrong = 0;
+    signal(SIGPIPE, SIG_IGN); /* the directory goes away even if only the beginning is read */
+    snprintf(place, sizeof place, "%s/guard-demo.XXXXXX", base ? base : "/tmp");
+    if (!mkdtemp(place) || chdir(place) || mkdir("host", 0700) || mkdir("box", 0700)) {
+        perror(place);
+        return 2;
+    }
+    printf("A guard of %d bytes for a client, and a host that keeps the files in %s/host/tree.\n", GUARD_MEMORY_LENGTH, place);
+    printf("Each line: the call in words, its bytes, what the guard asks of the host, what comes back to the client.\n");
+    for (size_t i = 0; i < sizeof lives / sizeof *lives; i++)
+        wrong |= live((int)i);
+    if (chdir("/"))
+        perror("/");
+    disk_clear(place);
+    puts(wrong ? "\nNot everything came back as told." : "\nEach of the six was caught; what nobody touched is served.");
+    return wrong;
+}

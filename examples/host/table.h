@@ -1,0 +1,30 @@
+/* What the host knows of its nodes and the disk does not say: an id and a mode for each path. Kept in a file, so that it outlives the program. */
+#ifndef TABLE_H
+#define TABLE_H
+
+#include <stddef.h>
+#include <stdint.h>
+
+#include "guard.h"
+
+enum { TABLE_ROWS = 2 * GUARD_NODES }; /* a disk that others write to may hold more nodes than the guard does */
+
+typedef struct { uint32_t id; uint8_t mode; char path[GUARD_PATH_LENGTH + 1]; } table_row;
+
+typedef struct { const char *file; size_t count; table_row rows[TABLE_ROWS]; } table;
+
+/* Reads the file; where there is none, the table has the root alone. 0, or -1 and errno. */
+int table_read(table *t, const char *file);
+
+/* Writes the file anew and puts it in the place of the old one: whenever the program is killed, one of the two is there, whole. 0, or -1 and errno. */
+int table_write(const table *t);
+
+table_row *table_find(table *t, const char *path);
+
+/* A row with the lowest id that no other has, or null and errno where there is no room. */
+table_row *table_add(table *t, const char *path, uint8_t mode);
+
+/* Takes a row out, if it is there. */
+void table_remove(table *t, const char *path);
+
+#endif

@@ -1,0 +1,192 @@
+/* The file guard: files that an untrusted host keeps, and a guard that catches a host that lies.
+ *
+ * The guard keeps names, sizes, modes and one SHA-256 for each page of 1,024 bytes; the host keeps the pages. A client hands the guard a
+ * call. The guard refuses it, answers it, or asks for something of the host; the client carries the request to the host and the reply
+ * back, until the call is done:
+ *
+ *     static guard g;
+ *     static uint8_t answer[GUARD_ANSWER_LENGTH], request[GUARD_REQUEST_LENGTH], reply[GUARD_ANSWER_LENGTH];
+ *     guard_fresh(&g);
+ *     guard_outcome o = guard_call(&g, call, n, answer, sizeof answer, request, sizeof request);
+ *     while (o.kind == GUARD_ASK) {
+ *         size_t m = ask_the_host(request, o.length, reply);
+ *         o = guard_reply(&g, reply, m, answer, sizeof answer, request, sizeof request);
+ *     }
+ *
+ * A wrong reply stops the guard, for good: what it would have to believe is then not what it was told before.
+ *
+ * - A guard is a plain struct of bytes. It may stand anywhere, needs no alignment and holds no pointer: between two calls of these functions it may
+ *   be copied or moved. Nothing else is kept: two guards know nothing of each other, and two threads may use two guards.
+ * - Buffers may not overlap each other or the guard. A null pointer with length 0 is an empty one. What lies behind the bytes that are given out is
+ *   not touched, and neither is the buffer that nothing is given out in.
+ * - Link with -lguard (pkg-config guard). The archive is for x86-64 and asks memcpy and memset of the C library, nothing else. */
+#ifndef GUARD_H
+#define GUARD_H
+
+#include <stddef.h>
+#include <stdint.h>
+
+#ifdef __cplusplus
+extern "C" {
+#endif
+
+enum {
+    GUARD_MEMORY_LENGTH = 52672,
+    GUARD_ANSWER_LENGTH = 9690,  /* the least length of an answer buffer: the longest listing */
+    GUARD_REQUEST_LENGTH = 1037, /* the least length of a request buffer: a page to be stored */
+    GUARD_IMAGE_LENGTH = 44776,  /* the longest image */
+    GUARD_DIGEST_LENGTH = 32
+};
+
+/* Limits. A path is "/", or components each after one "/"; a component has no byte 0 and is neither "." nor "..". */
+enum {
+    GUARD_PAGE_LENGTH = 1024,
+    GUARD_FILE_LENGTH = 65536,    /* the longest file */
+    GUARD_TRANSFER_LENGTH = 4096, /* the most bytes of one read or write */
+    GUARD_NAME_LENGTH = 32,       /* the longest component of a path */
+    GUARD_PATH_LENGTH = 255,      /* the longest path */
+    GUARD_NODES = 256,            /* files and directories, the root among them */
+    GUARD_OPEN_FILES = 32,
+    GUARD_PAGES = 1024,           /* pages of all files */
+    GUARD_DESCRIPTORS = 1024      /* a host's descriptors are 0 to 1,023 */
+};
+
+typedef struct guard { uint8_t memory[GUARD_MEMORY_LENGTH]; } guard;
+
+/* What comes back. `length` bytes stand at the front of the answer (done), the request (ask) or the image (a save that is done). */
+typedef struct { int kind; uint64_t number; size_t length; } guard_outcome;
+
+/* The kind of an outcome. */
+enum {
+    GUARD_DONE = 0,    /* `number` is the call's result */
+    GUARD_ASK = 1,     /* a request for the host is pending; `number` is 0 */
+    GUARD_REFUSED = 2, /* nothing has changed, and a pending request still is; `number` says why, an errno value of Linux: strerror speaks */
+    GUARD_STOPPED = 3  /* the host's reply is wrong; `number` is the reason. From now on everything is refused GUARD_STOPPED_FOR_GOOD */
+};
+
+/* Calls: one byte for the kind, then exactly these fields; numbers are little-endian, their bytes stand in brackets. A path takes the rest.
+ * `handle` is what an open gave. Modes are 0 to 7, a sum of 4 read, 2 write, 1 search; rights are 1 read, 2 write, 3 both.
+ *
+ *                                                        done with                       asks the host for
+ *     create, mkdir   mode (1), path                     the new node's id               the call itself
+ *     chmod           mode (1), path                     0                               the call itself
+ *     open            rights (1), path                   the handle, the file's id       the call itself
+ *     close           handle (4)                         0                               close
+ *     seek            handle (4), position (8)           the position                    nothing
+ *     read            handle (4), count (4)              how many bytes, and the bytes   fetches
+ *     write           handle (4), the bytes              how many bytes                  fetches and stores
+ *     truncate        handle (4), size (8)               0                               a fetch and a store, or none, and a cut
+ *     remove, rmdir   path                               0                               the call itself
+ *     readdir         path                               the number of entries, and      the call itself
+ *                                                        the reply's bytes
+ *     stat            path                               the size, and the reply's bytes the call itself
+ *
+ * Reads and writes begin at the file's cursor and move it; a read ends at the end of the file. A position is at most the size, and a truncation makes
+ * no file longer. A read or write of no bytes and a truncation to the same size ask for nothing. */
+enum {
+    GUARD_CREATE = 1, GUARD_MKDIR = 2, GUARD_OPEN = 3, GUARD_CLOSE = 4, GUARD_SEEK = 5, GUARD_READ = 6, GUARD_WRITE = 7,
+    GUARD_TRUNCATE = 8, GUARD_REMOVE = 9, GUARD_RMDIR = 10, GUARD_CHMOD = 11, GUARD_READDIR = 12, GUARD_STAT = 13
+};
+
+/* Requests that are not the call itself, and the right replies to each. A host obeys a request before it replies.
+ *
+ *     close      4, descriptor (4)
+ *     fetch      6, descriptor (4), page (4)
+ *     store      7, descriptor (4), page (4), size (4), the page's 1,024 bytes: the file then has this size
+ *     cut        8, descriptor (4), size (4)
+ *
+ *     create, mkdir                                      an id (4), not 0, that no node has; the root has 1
+ *     open                                               a descriptor (4), 0 to 1,023, that no open file has
+ *     close, cut, remove, rmdir, chmod                   a status (4), 0; a status is signed
+ *     store                                              a status (4), 1,024
+ *     fetch                                              the page's 1,024 bytes, zeros past the end of the file
+ *     readdir                                            each child once, in any order: id (4), kind (1: 1 a file, 2 a directory),
+ *                                                        length of the name (1), name
+ *     stat                                               id (4), kind (1), mode (1), size (4; 0 for a directory) */
+enum { GUARD_FETCH = 6, GUARD_STORE = 7, GUARD_CUT = 8 };
+
+enum { GUARD_FILE = 1, GUARD_DIRECTORY = 2 };
+
+/* Why a call, reply, save or load is refused. */
+enum {
+    GUARD_STOPPED_FOR_GOOD = 5, /* EIO           the guard has stopped */
+    GUARD_PENDING = 114,        /* EALREADY      a call, save or load while a request is pending */
+    GUARD_NOT_PENDING = 61,     /* ENODATA       a reply, but no request is pending */
+    GUARD_SHORT_BUFFER = 34,    /* ERANGE        the answer, request or image buffer is too short */
+    GUARD_MALFORMED = 22,       /* EINVAL        the form of a call or path; seek or truncate beyond the size */
+    GUARD_TOO_LONG = 36,        /* ENAMETOOLONG  a component over 32 bytes, a path over 255 */
+    GUARD_NOT_DIRECTORY = 20,   /* ENOTDIR       a path leads through a file; rmdir or readdir of a file */
+    GUARD_BARRED = 13,          /* EACCES        the mode lacks a bit */
+    GUARD_ABSENT = 2,           /* ENOENT        there is no such node */
+    GUARD_PRESENT = 17,         /* EEXIST        create or mkdir of a node that is there */
+    GUARD_IS_DIRECTORY = 21,    /* EISDIR        open or remove of a directory */
+    GUARD_IN_USE = 16,          /* EBUSY         the file is open; rmdir of the root; save or load with open files */
+    GUARD_NOT_EMPTY = 39,       /* ENOTEMPTY     rmdir of a directory with children */
+    GUARD_TOO_MANY_OPEN = 24,   /* EMFILE        32 files are open */
+    GUARD_BAD_HANDLE = 9,       /* EBADF         not open, or without the right */
+    GUARD_TOO_BIG = 27,         /* EFBIG         a write would pass 65,536 bytes */
+    GUARD_FULL = 28,            /* ENOSPC        256 nodes, or more than 1,024 pages */
+    GUARD_WRONG_DIGEST = 74,    /* EBADMSG       a load: the image has another digest, or the digest has not 32 bytes */
+    GUARD_UNSOUND_IMAGE = 84    /* EILSEQ        a load: no guard saves such an image */
+};
+
+/* Why the guard stopped: what is wrong with the host's reply. */
+enum {
+    GUARD_STOP_LENGTH = 1,     /* its length */
+    GUARD_STOP_STATUS = 2,     /* a status that is not the right one */
+    GUARD_STOP_ID = 3,         /* an id that is 0 or that a node has */
+    GUARD_STOP_DESCRIPTOR = 4, /* a descriptor out of range or that an open file has */
+    GUARD_STOP_PAGE = 5,       /* a page that is not the one that was stored */
+    GUARD_STOP_STAT = 6,       /* a stat that differs from what the guard keeps */
+    GUARD_STOP_LISTING = 7     /* a listing that lacks a child, has one twice or one that is not there, or is malformed */
+};
+
+/* The archive's entries. A slice is a pointer and a length; use the functions below, which know the guard's length. */
+guard_outcome guard_entry_fresh(uint8_t *memory, size_t memory_length);
+guard_outcome guard_entry_call(uint8_t *memory, size_t memory_length, const uint8_t *call, size_t length, uint8_t *answer,
+                               size_t answer_length, uint8_t *request, size_t request_length);
+guard_outcome guard_entry_reply(uint8_t *memory, size_t memory_length, const uint8_t *reply, size_t length, uint8_t *answer,
+                                size_t answer_length, uint8_t *request, size_t request_length);
+guard_outcome guard_entry_save(uint8_t *memory, size_t memory_length, uint8_t *image, size_t image_length, uint8_t *digest);
+guard_outcome guard_entry_load(uint8_t *memory, size_t memory_length, const uint8_t *image, size_t length, const uint8_t *digest,
+                               size_t digest_length);
+
+/* Makes a guard of any bytes: it holds the root, a directory with id 1 and mode 7, and nothing else. */
+static inline void guard_fresh(guard *g)
+{
+    (void)guard_entry_fresh(g->memory, sizeof g->memory);
+}
+
+/* A call of `length` bytes, see above. Both buffers are lent with every call and reply, and must have their least lengths. */
+static inline guard_outcome guard_call(guard *g, const uint8_t *call, size_t length, uint8_t *answer, size_t answer_length,
+                                       uint8_t *request, size_t request_length)
+{
+    return guard_entry_call(g->memory, sizeof g->memory, call, length, answer, answer_length, request, request_length);
+}
+
+/* The host's reply to the pending request. */
+static inline guard_outcome guard_reply(guard *g, const uint8_t *reply, size_t length, uint8_t *answer, size_t answer_length,
+                                        uint8_t *request, size_t request_length)
+{
+    return guard_entry_reply(g->memory, sizeof g->memory, reply, length, answer, answer_length, request, request_length);
+}
+
+/* Writes all that the guard keeps to the front of `image`, and its SHA-256 to `digest`; done with the image's length. No file may be open. Only an
+ * image that is longer than the buffer is refused GUARD_SHORT_BUFFER. A save that is refused writes nothing. The image may lie anywhere, with the host too. The
+ * digest must be kept where the host cannot change it: whoever chooses the digest chooses which files the next guard believes in. */
+static inline guard_outcome guard_save(guard *g, uint8_t *image, size_t image_length, uint8_t digest[GUARD_DIGEST_LENGTH])
+{
+    return guard_entry_save(g->memory, sizeof g->memory, image, image_length, digest);
+}
+
+/* Takes an image back, in place of all that the guard holds, if it has this digest: that of the last save. No file may be open. Done with 0. */
+static inline guard_outcome guard_load(guard *g, const uint8_t *image, size_t length, const uint8_t *digest, size_t digest_length)
+{
+    return guard_entry_load(g->memory, sizeof g->memory, image, length, digest, digest_length);
+}
+
+#ifdef __cplusplus
+}
+#endif
+
+#endif

@@ -1,0 +1,78 @@
+/* Every function of guard.h once, in C and in C++: a file made, written, saved, and loaded by a second guard that stands at an odd address. */
+#include <guard.h>
+#include <stdio.h>
+#include <string.h>
+
+static guard first;
+static struct { char odd; guard second; } beside;
+static uint8_t answer[GUARD_ANSWER_LENGTH], request[GUARD_REQUEST_LENGTH], image[GUARD_IMAGE_LENGTH], digest[GUARD_DIGEST_LENGTH];
+static int step;
+
+static void expect(guard_outcome o, int kind, uint64_t number, size_t length)
+{
+    step++;
+    if (o.kind == kind && o.number == number && o.length == length)
+        return;
+    printf("header: step %d: %d %lu %lu, not %d %lu %lu\n", step, o.kind, (unsigned long)o.number, (unsigned long)o.length, kind,
+           (unsigned long)number, (unsigned long)length);
+    step = -1000;
+}
+
+static guard_outcome call(guard *g, const char *bytes, size_t n)
+{
+    return guard_call(g, (const uint8_t *)bytes, n, answer, sizeof answer, request, sizeof request);
+}
+
+static guard_outcome reply(guard *g, const char *bytes, size_t n)
+{
+    return guard_reply(g, (const uint8_t *)bytes, n, answer, sizeof answer, request, sizeof request);
+}
+
+static void make_file(guard *g)
+{
+    guard_fresh(g);
+    expect(call(g, "\1\7/a", 4), GUARD_ASK, 0, 4);
+    expect(call(g, "\1\7/a", 4), GUARD_REFUSED, GUARD_PENDING, 0);
+    expect(reply(g, "\2\0\0\0", 4), GUARD_DONE, 2, 0);
+    expect(reply(g, "\2\0\0\0", 4), GUARD_REFUSED, GUARD_NOT_PENDING, 0);
+    expect(call(g, "\3\3/a", 4), GUARD_ASK, 0, 4);
+    expect(reply(g, "\0\0\0\0", 4), GUARD_DONE, 2, 0);
+    expect(call(g, "\7\2\0\0\0hello", 10), GUARD_ASK, 0, GUARD_REQUEST_LENGTH);
+    expect(reply(g, "\0\4\0\0", 4), GUARD_DONE, 5, 0);
+}
+
+static void refusals(guard *g)
+{
+    expect(guard_call(g, NULL, 0, answer, sizeof answer - 1, request, sizeof request), GUARD_REFUSED, GUARD_SHORT_BUFFER, 0);
+    expect(guard_call(g, NULL, 0, answer, sizeof answer, request, sizeof request - 1), GUARD_REFUSED, GUARD_SHORT_BUFFER, 0);
+    expect(guard_entry_fresh(g->memory, GUARD_MEMORY_LENGTH - 1), GUARD_REFUSED, GUARD_SHORT_BUFFER, 0);
+    expect(guard_call(g, NULL, 0, answer, sizeof answer, request, sizeof request), GUARD_REFUSED, GUARD_MALFORMED, 0);
+    expect(guard_call(g, NULL, 0, NULL, 0, request, sizeof request), GUARD_REFUSED, GUARD_SHORT_BUFFER, 0);
+    expect(guard_save(g, image, sizeof image, digest), GUARD_REFUSED, GUARD_IN_USE, 0);
+    expect(call(g, "\4\2\0\0\0", 5), GUARD_ASK, 0, 5);
+    expect(reply(g, "\0\0\0\0", 4), GUARD_DONE, 0, 0);
+    expect(guard_save(g, NULL, 0, digest), GUARD_REFUSED, GUARD_SHORT_BUFFER, 0);
+}
+
+int main(void)
+{
+    guard *second = &beside.second;
+    uint8_t page[GUARD_PAGE_LENGTH] = "hello";
+    make_file(&first);
+    refusals(&first);
+    guard_outcome o = guard_save(&first, image, sizeof image, digest);
+    expect(o, GUARD_DONE, 4 + 15 + 16 + 4 + 32, 4 + 15 + 16 + 4 + 32);
+    guard_fresh(second);
+    expect(guard_load(second, image, o.length, digest, 31), GUARD_REFUSED, GUARD_WRONG_DIGEST, 0);
+    expect(guard_load(second, image, o.length, digest, sizeof digest), GUARD_DONE, 0, 0);
+    expect(call(second, "\3\1/a", 4), GUARD_ASK, 0, 4);
+    first = *second; /* a copy, between a request and its reply */
+    expect(reply(&first, "\0\0\0\0", 4), GUARD_DONE, 2, 0);
+    expect(call(&first, "\6\2\0\0\0\5\0\0\0", 9), GUARD_ASK, 0, 9);
+    expect(guard_reply(&first, page, sizeof page, answer, sizeof answer, request, sizeof request), GUARD_DONE, 5, 5);
+    expect(reply(second, "\377\377\377\377", 4), GUARD_STOPPED, GUARD_STOP_DESCRIPTOR, 0);
+    expect(call(second, "\15/", 2), GUARD_REFUSED, GUARD_STOPPED_FOR_GOOD, 0);
+    if (memcmp(answer, "hello", 5))
+        step = -1000;
+    return step < 0;
+}

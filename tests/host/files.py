@@ -1,0 +1,116 @@
+"""The thirteen calls by one set of names: behind the guard, and on the machine. An error is an OSError with its number, on both sides."""
+
+import os
+
+from model import calls
+
+from .beside import Different
+
+READ, WRITE, BOTH = 1, 2, 3
+
+
+class Guarded:
+    """The calls through the guard; `driver` runs drive.c."""
+
+    def __init__(self, driver):
+        self.driver = driver
+
+    def do(self, call):
+        word, number = self.driver.send(f"c {call.hex()}")[:2]
+        if word == "stopped":
+            raise Different(f"{call.hex()} stops with {number}")
+        if word == "refused":
+            raise OSError(int(number), "refused")
+        return int(number)
+
+    def create(self, path, mode=7):
+        self.do(calls.create(mode, path.encode()))
+
+    def mkdir(self, path, mode=7):
+        self.do(calls.mkdir(mode, path.encode()))
+
+    def open(self, path, rights):
+        return self.do(calls.open_(rights, path.encode()))
+
+    def close(self, handle):
+        self.do(calls.close(handle))
+
+    def seek(self, handle, position):
+        self.do(calls.seek(handle, position))
+
+    def read(self, handle, count):
+        self.do(calls.read(handle, count))
+
+    def write(self, handle, data):
+        self.do(calls.write(handle, data))
+
+    def truncate(self, handle, size):
+        self.do(calls.truncate(handle, size))
+
+    def remove(self, path):
+        self.do(calls.remove(path.encode()))
+
+    def rmdir(self, path):
+        self.do(calls.rmdir(path.encode()))
+
+    def chmod(self, path, mode=7):
+        self.do(calls.chmod(mode, path.encode()))
+
+    def readdir(self, path):
+        self.do(calls.readdir(path.encode()))
+
+    def stat(self, path):
+        self.do(calls.stat(path.encode()))
+
+
+class Planned(Guarded):
+    """Calls that are sent together, since none can fail."""
+
+    def __init__(self):
+        self.lines = []
+
+    def do(self, call):
+        self.lines.append(f"c {call.hex()}")
+
+
+class Plain:
+    """The same calls of the machine; the guard's modes are the owner's bits."""
+
+    def create(self, path, mode=7):
+        os.close(os.open(path, os.O_RDWR | os.O_CREAT | os.O_EXCL, mode << 6))
+
+    def mkdir(self, path, mode=7):
+        os.mkdir(path, mode << 6)
+
+    def open(self, path, rights):
+        return os.open(path, {READ: os.O_RDONLY, WRITE: os.O_WRONLY, BOTH: os.O_RDWR}[rights])
+
+    def close(self, handle):
+        os.close(handle)
+
+    def seek(self, handle, position):
+        os.lseek(handle, position, os.SEEK_SET)
+
+    def read(self, handle, count):
+        os.read(handle, count)
+
+    def write(self, handle, data):
+        os.write(handle, data)
+
+    def truncate(self, handle, size):
+        os.ftruncate(handle, size)
+
+    def remove(self, path):
+        os.unlink(path)
+
+    def rmdir(self, path):
+        os.rmdir(path)
+
+    def chmod(self, path, mode=7):
+        os.chmod(path, mode << 6)
+
+    def readdir(self, path):
+        os.listdir(path)
+
+    def stat(self, path):
+        os.stat(path)

@@ -1,0 +1,60 @@
+"""Random lists of calls through the archive and the real host: every outcome is the model's, none is a stop, and the directory is the model's tree at the end.
+
+    python3 -m host.honest PROGRAM PLACE LISTS      from tests/; PROGRAM is drive.c's, PLACE a directory that may be filled
+"""
+
+import shutil
+import sys
+from pathlib import Path
+from random import Random
+
+from model.generate import Generator
+
+from .beside import Beside, Driver, Different, in_model, on_disk
+
+CALLS = 120
+
+
+def honest_generator(random, recording):
+    """The model's lists for the desk, without lies and without replies that nobody asked for."""
+    generator = Generator(random, desk=True)
+    generator.recording, generator.guard = recording, recording.guard
+    generator.lie = generator.bad_time = 0
+    return generator
+
+
+def run_list(program, place, seed):
+    """How many calls were compared."""
+    random = Random(seed)
+    driver = Driver(program, place)
+    beside = Beside(driver)
+    generator = honest_generator(random, beside)
+    generator.start()
+    for _ in range(CALLS):
+        generator.event()
+        if random.random() < 0.02:
+            beside.save()
+            beside.start_again(driver)
+    if in_model(beside.host) != on_disk(place):
+        raise Different("the directory is not the model's tree")
+    if driver.end() != 0:
+        raise Different("the program's status is not 0")
+    return sum(1 for event, _ in beside.steps if hasattr(event, "answer_len"))
+
+
+def main():
+    program, place, lists = sys.argv[1], Path(sys.argv[2]), int(sys.argv[3])
+    total = 0
+    for seed in range(lists):
+        shutil.rmtree(place, ignore_errors=True)
+        place.mkdir(parents=True)
+        try:
+            total += run_list(program, place, seed)
+        except Exception:
+            print(f"host: seed {seed}")
+            raise
+    print(f"host: {lists} lists, {total} calls and replies, no stop, every outcome and each directory the model's")
+
+
+if __name__ == "__main__":
+    main()

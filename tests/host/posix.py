@@ -1,0 +1,292 @@
+"""POSIX beside the guard: the same calls behind the guard and on the machine, as an unprivileged user whose root directory holds the same tree.
+
+    python3 -m host.posix PROGRAM PLACE      from tests/, as root; PROGRAM is drive.c's, PLACE a directory that may be filled
+
+Each call is tried on each kind of path, and a list of trials on open files. The errors must be the same but for the rows of the two tables below, each with the rule
+that makes it; and what stands there must differ just so.
+"""
+
+import os
+import resource
+import shutil
+import sys
+from functools import partial
+from pathlib import Path
+
+from .beside import Different, Driver
+from .files import BOTH, READ, WRITE, Guarded, Plain, Planned
+from .house import PATHS, build
+
+NOBODY = 65534
+OPEN_FILES, FILE_SIZE, TRANSFER = 32, 65_536, 4096
+
+# ---- calls by path
+
+CALLS = {
+    "create": lambda files, path: files.create(path),
+    "mkdir": lambda files, path: files.mkdir(path),
+    "read": lambda files, path: files.open(path, READ),
+    "write": lambda files, path: files.open(path, WRITE),
+    "both": lambda files, path: files.open(path, BOTH),
+    "remove": lambda files, path: files.remove(path),
+    "rmdir": lambda files, path: files.rmdir(path),
+    "chmod": lambda files, path: files.chmod(path),
+    "readdir": lambda files, path: files.readdir(path),
+    "stat": lambda files, path: files.stat(path),
+}
+
+# Where the guard says another number: a kind of path, the guard's number, the machine's for each call, and the rule. `read`, `write` and `both` are opens with these
+# rights; 0 is no error, `=` the same error.
+BY_PATH = """
+kind                | guard | create mkdir read write both remove rmdir chmod readdir stat | rule
+33                  | 36    | 0      0     2    2     2    2      2     2     2       2    | a component has 32 bytes at most
+33 below missing    | 36    | 2      2     2    2     2    2      2     2     2       2    | 36 comes before the walk
+33 below a file     | 36    | 20     20    20   20    20   20     20    20    20      20   | 36 comes before the walk
+256                 | 36    | 0      0     2    2     2    2      2     2     2       2    | a path has 255 bytes at most
+no path             | 22    | 2      2     2    2     2    2      2     2     2       2    | a path has 1 byte at least
+relative            | 22    | 17     17    0    0     0    0      20    0     20      0    | there is no working directory: each component stands after one /
+file and slash      | 22    | 21     17    20   20    20   20     20    20    20      20   | a component has 1 byte at least
+directory and slash | 22    | 21     17    0    21    21   21     0     0     0       0    | a component has 1 byte at least
+missing and slash   | 22    | 21     0     2    2     2    2      2     2     2       2    | a component has 1 byte at least
+two slashes         | 22    | 17     17    0    21    21   21     39    0     0       0    | a component has 1 byte at least
+slashes within      | 22    | 17     17    0    0     0    0      20    0     20      0    | a component has 1 byte at least
+dot                 | 22    | 17     17    0    21    21   21     =     0     0       0    | a component is not .
+dot within          | 22    | 17     17    0    0     0    0      20    0     20      0    | a component is not .
+dots                | 22    | 17     17    0    21    21   21     39    0     0       0    | a component is not ..
+full                | 21    | =      =     0    =     =    =      =     =     =       =    | open is for files: 21 whatever the rights
+empty               | 21    | =      =     0    =     =    =      =     =     =       =    | open is for files: 21 whatever the rights
+root                | 21    | =      =     0    =     =    =      =     =     =       =    | open is for files: 21 whatever the rights
+unsearchable        | 21    | =      =     0    =     =    =      =     =     =       =    | open is for files: 21 whatever the rights
+unreadable          | 21    | =      =     13   =     =    =      =     =     =       =    | open: 21 comes before 13
+kept empty          | 21    | =      =     0    =     =    13     =     =     =       =    | open is for files; remove: 21 comes before 13
+kept full           | 21    | =      =     0    =     =    13     =     =     =       =    | open is for files; remove: 21 comes before 13
+kept file           | 20    | =      =     =    =     =    =      13    =     =       =    | rmdir: 20 comes before 13
+"""
+
+# ---- trials on open files
+
+
+def written(files, rights=BOTH, size=10):
+    """/file with so many bytes, open with these rights, its cursor at the beginning."""
+    handle = files.open("/file", BOTH)
+    for at in range(0, size, TRANSFER):
+        files.write(handle, bytes(min(TRANSFER, size - at)))
+    files.close(handle)
+    return files.open("/file", rights)
+
+
+def closed(files):
+    handle = written(files)
+    files.close(handle)
+    return handle
+
+
+def at_end(files, size):
+    handle = written(files, size=size)
+    files.seek(handle, size)
+    return handle
+
+
+def open_many(files, count):
+    for n in range(count):
+        files.create(f"/empty/{n}")
+    for n in range(count):
+        files.open(f"/empty/{n}", READ)
+
+
+def changed_mode(files, rights):
+    """/file open, and then without any bit."""
+    handle = written(files, rights)
+    files.chmod("/file", 0)
+    return handle
+
+
+TRIALS = {
+    "close, closed": lambda files: files.close(closed(files)),
+    "seek, closed": lambda files: files.seek(closed(files), 0),
+    "read, closed": lambda files: files.read(closed(files), 1),
+    "write, closed": lambda files: files.write(closed(files), b"x"),
+    "truncate, closed": lambda files: files.truncate(closed(files), 0),
+    "read, open to read": lambda files: files.read(written(files, READ), 10),
+    "read, open to write": lambda files: files.read(written(files, WRITE), 1),
+    "read of no bytes, open to write": lambda files: files.read(written(files, WRITE), 0),
+    "write, open to write": lambda files: files.write(written(files, WRITE), b"x"),
+    "write, open to read": lambda files: files.write(written(files, READ), b"x"),
+    "write of no bytes, open to read": lambda files: files.write(written(files, READ), b""),
+    "truncate, open to write": lambda files: files.truncate(written(files, WRITE), 5),
+    "truncate, open to read": lambda files: files.truncate(written(files, READ), 5),
+    "seek, open to write": lambda files: files.seek(written(files, WRITE), 5),
+    "seek to the size": lambda files: files.seek(written(files), 10),
+    "seek beyond the size": lambda files: files.seek(written(files), 11),
+    "truncate to the size": lambda files: files.truncate(written(files), 10),
+    "truncate beyond the size": lambda files: files.truncate(written(files), 11),
+    "read at the end": lambda files: files.read(at_end(files, 10), 5),
+    "read of 4,096": lambda files: files.read(written(files), TRANSFER),
+    "read of 4,097": lambda files: files.read(written(files), TRANSFER + 1),
+    "write of 4,096": lambda files: files.write(written(files), bytes(TRANSFER)),
+    "write of 4,097": lambda files: files.write(written(files), bytes(TRANSFER + 1)),
+    "write up to 65,536": lambda files: files.write(at_end(files, FILE_SIZE - 1), b"x"),
+    "write from 65,536 on": lambda files: files.write(at_end(files, FILE_SIZE), b"x"),
+    "write over 65,536": lambda files: files.write(at_end(files, FILE_SIZE - 1), b"xx"),
+    "32 files open": lambda files: open_many(files, OPEN_FILES),
+    "33 files open": lambda files: open_many(files, OPEN_FILES + 1),
+    "open, open": lambda files: (written(files), files.open("/file", READ)),
+    "remove, open": lambda files: (written(files), files.remove("/file")),
+    "chmod, open": lambda files: (written(files), files.chmod("/file", 4)),
+    "stat, open": lambda files: (written(files), files.stat("/file")),
+    "read after a chmod to 0": lambda files: files.read(changed_mode(files, READ), 1),
+    "write after a chmod to 0": lambda files: files.write(changed_mode(files, WRITE), b"x"),
+    "open after a chmod to 0": lambda files: (files.close(changed_mode(files, READ)), files.open("/file", READ)),
+    "rmdir of a directory with an open file": lambda files: (files.open("/full/x", READ), files.rmdir("/full")),
+}
+
+BY_HANDLE = """
+trial                    | guard | machine | rule
+truncate, open to read   | 9     | 22      | a truncation needs right 2
+seek beyond the size     | 22    | 0       | a cursor lies between 0 and the size
+truncate beyond the size | 22    | 0       | a truncation makes no file longer
+read of 4,097            | 22    | 0       | a read has a count of 4,096 at most
+write of 4,097           | 22    | 0       | a write has 4,096 bytes at most
+write over 65,536        | 27    | 0       | a write is done as a whole or not at all
+open, open               | 16    | 0       | a file is open once at most
+remove, open             | 16    | 0       | a file that is open is not removed
+"""
+
+
+# ---- the two sides: the error of each act, or 0, on the tree of house.py, which is built anew after an act that may have changed it
+
+
+def errors(acts, renew, files):
+    found, fresh = [], False
+    for _, act, changes in acts:
+        if not fresh:
+            renew()
+        found.append(error_of(act, files))
+        fresh = found[-1] != 0 and not changes
+    return found
+
+
+def error_of(act, files):
+    try:
+        act(files)
+    except OSError as error:
+        return error.errno
+    return 0
+
+
+def behind_the_guard(program, place, acts):
+    place.mkdir()
+    driver = Driver(program, place)
+    driver.send("f")
+
+    def renew():
+        shutil.rmtree(place / "tree")
+        (place / "table").unlink(missing_ok=True)
+        build(planned := Planned())
+        driver.send("f", *planned.lines)
+
+    found = errors(acts, renew, Guarded(driver))
+    driver.end()
+    return found
+
+
+def on_the_machine(place, acts):
+    """In a process whose root is the tree, that is nobody and has the guard's limits."""
+    place.mkdir()
+    os.chown(place, NOBODY, NOBODY)
+    reader, writer = os.pipe()
+    child = os.fork()
+    if child == 0:
+        try:
+            become_nobody(place, writer)
+            os.write(WRITER, bytes(errors(acts, renew_machine, Plain())))
+        finally:
+            os._exit(0)
+    os.close(writer)
+    with open(reader, "rb") as results:
+        found = list(results.read())
+    os.waitpid(child, 0)
+    return found
+
+
+WRITER = 3
+
+
+def become_nobody(root, writer):
+    os.dup2(writer, WRITER)
+    os.closerange(WRITER + 1, 1024)
+    resource.setrlimit(resource.RLIMIT_NOFILE, (WRITER + 1 + OPEN_FILES,) * 2)
+    resource.setrlimit(resource.RLIMIT_FSIZE, (FILE_SIZE,) * 2)
+    os.chroot(root)
+    os.chdir("/")
+    os.setgroups([])
+    os.setgid(NOBODY)
+    os.setuid(NOBODY)
+
+
+def renew_machine():
+    os.closerange(WRITER + 1, 1024)
+    clear("/")
+    build(Plain())
+
+
+def clear(directory):
+    os.chmod(directory, 0o700)
+    for entry in list(os.scandir(directory)):
+        if entry.is_dir():
+            clear(entry.path)
+            os.rmdir(entry.path)
+        else:
+            os.unlink(entry.path)
+
+
+# ---- comparison
+
+
+def rows(table):
+    """The lines of a table, each as its cells."""
+    return [[cell.strip() for cell in line.split("|")] for line in table.strip().split("\n")]
+
+
+def known_by_path():
+    """(call, kind) to both numbers."""
+    (_, _, names, _), *lines = rows(BY_PATH)
+    known = {}
+    for kind, guard, numbers, _ in lines:
+        for call, number in zip(names.split(), numbers.split(), strict=True):
+            if number != "=":
+                known[call, kind] = [int(guard), int(number)]
+    return known
+
+
+def known_by_handle():
+    return {trial: [int(guard), int(machine)] for trial, guard, machine, _ in rows(BY_HANDLE)[1:]}
+
+
+def acts():
+    """The name of each trial, what is done, and whether it may change the tree even where it ends in an error."""
+    for call, act in CALLS.items():
+        for kind, path in PATHS.items():
+            yield (call, kind), partial(act, path=path), False
+    for trial, act in TRIALS.items():
+        yield trial, act, True
+
+
+def main():
+    program, place = sys.argv[1], Path(sys.argv[2])
+    shutil.rmtree(place, ignore_errors=True)
+    place.mkdir(parents=True)
+    all_acts = list(acts())
+    ours, theirs = behind_the_guard(program, place / "guarded", all_acts), on_the_machine(place / "plain", all_acts)
+    if len(theirs) != len(ours):
+        raise Different("the machine's side is not to be had")
+    known = {**known_by_path(), **known_by_handle()}
+    differences = {name: numbers for (name, _, _), *numbers in zip(all_acts, ours, theirs) if numbers[0] != numbers[1]}
+    for name in {**known, **differences}:
+        if differences.get(name) != known.get(name):
+            raise Different(f"{name}: guard and machine give {differences.get(name)}; the table has {known.get(name)}")
+    print(f"posix: {len(all_acts)} trials, {len(known)} differences, each by a rule of the guard")
+
+
+if __name__ == "__main__":
+    main()
