@@ -1,6 +1,5 @@
 """The archive for C beside the model: every answer, and every byte that no answer promises.
 
-    entries.h               the exported entries
     driver.c, places.c      lists of events through the archive, everything that is lent against unreadable pages
     changes.c               entries with a fault each, which the driver must see
     lists, lengths          lists from seeds, two side by side; calls, replies and images of every length

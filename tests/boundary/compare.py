@@ -83,6 +83,7 @@ def compare_lengths(pool, driver):
         total += events
         if said:
             print(said)
+            print(f"repeat, in tests: python3 -m boundary.compare --count 0 --lengths {driver}")
             sys.exit(1)
     print(f"boundary: {total} calls, replies and images of every length, each as by the model")
 

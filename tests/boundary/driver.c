@@ -9,7 +9,7 @@
  *
  * Ends with status 1 at the first difference. */
 #define _GNU_SOURCE
-#include "entries.h"
+#include "guard.h"
 #include "places.h"
 
 #include <signal.h>
@@ -21,17 +21,18 @@
 
 enum { INPUT = (1 << 20) + 4096, NAME = 200 };
 
-struct guard {
+/* A list as it runs on its guard. */
+struct run {
     struct place memory[2]; /* where it is, and where it was */
-    uint8_t kept[MEMORY];
+    uint8_t kept[GUARD_MEMORY_LENGTH];
     char name[NAME];
     size_t answer, request; /* the lengths of the buffers for calls and replies */
 };
 
-static struct guard guards[2], *g = guards;
+static struct run runs[2], *run = runs;
 static struct place answer, request, image, digest, input, seal;
 static unsigned long line_number, events, lists;
-static char *line;
+static char *line, last_event[120];
 static uint8_t *bytes[2]; /* the bytes of a line's fields */
 static size_t lengths[2];
 static char *text; /* an outcome in words */
@@ -40,7 +41,7 @@ static void differ(const char *format, ...)
 {
     va_list words;
     va_start(words, format);
-    printf("driver: list %s, line %lu: ", g->name, line_number);
+    printf("driver: list %s, line %lu (%.100s): ", run->name, line_number, last_event);
     vprintf(format, words);
     va_end(words);
     printf("\n");
@@ -51,7 +52,7 @@ static void differ(const char *format, ...)
 static void on_fault(int number, siginfo_t *info, void *context)
 {
     (void)context;
-    printf("driver: list %s, line %lu: signal %d at %p\n", g->name, line_number, number, info->si_addr);
+    printf("driver: list %s, line %lu (%.100s): signal %d at %p\n", run->name, line_number, last_event, number, info->si_addr);
     fflush(stdout);
     _exit(1);
 }
@@ -108,15 +109,15 @@ static char *write_hex(char *to, const uint8_t *from, size_t n)
 /* How many bytes an outcome puts to the front of each place. */
 struct given { size_t answer, request, image, digest; };
 
-static struct given given_by(char letter, outcome o)
+static struct given given_by(char letter, guard_outcome o)
 {
     struct given n = {0, 0, 0, 0};
-    if (o.kind == DONE && letter == 's') {
+    if (o.kind == GUARD_DONE && letter == 's') {
         n.image = o.length;
-        n.digest = DIGEST;
-    } else if (o.kind == DONE && letter != 'l') {
+        n.digest = GUARD_DIGEST_LENGTH;
+    } else if (o.kind == GUARD_DONE && letter != 'l') {
         n.answer = o.length;
-    } else if (o.kind == ASK) {
+    } else if (o.kind == GUARD_ASK) {
         n.request = o.length;
     } else if (o.length) {
         differ("%zu bytes of an outcome that has none", o.length);
@@ -138,18 +139,18 @@ static void check_places(struct given n)
     untouched(&request, n.request);
     untouched(&image, n.image);
     untouched(&digest, n.digest);
-    untouched(&g->memory[0], g->memory[0].length);
-    untouched(&g->memory[1], 0);
+    untouched(&run->memory[0], run->memory[0].length);
+    untouched(&run->memory[1], 0);
 }
 
 /* The outcome in deskrun's words; a save's digest stands behind its image. */
-static void write_outcome(outcome o, struct given n)
+static void write_outcome(guard_outcome o, struct given n)
 {
     static const char *const words[] = {"done", "ask", "refused", "stopped"};
-    if (o.kind < DONE || o.kind > STOPPED)
+    if (o.kind < GUARD_DONE || o.kind > GUARD_STOPPED)
         differ("an outcome of kind %d", o.kind);
     char *to = text + sprintf(text, "%s", words[o.kind]);
-    if (o.kind != ASK)
+    if (o.kind != GUARD_ASK)
         to += sprintf(to, " %llu", (unsigned long long)o.number);
     else if (o.number)
         differ("a request with number %llu", (unsigned long long)o.number);
@@ -176,11 +177,11 @@ static void restore_places(struct given n)
 /* To another address, with `length` bytes of it; the old place is overwritten. */
 static void move_guard(size_t length)
 {
-    struct place old = g->memory[0];
-    g->memory[0] = g->memory[1];
-    g->memory[1] = old;
-    place_hold(&g->memory[0], old.at, length);
-    place_clear(&g->memory[1]);
+    struct place old = run->memory[0];
+    run->memory[0] = run->memory[1];
+    run->memory[1] = old;
+    place_hold(&run->memory[0], old.at, length);
+    place_clear(&run->memory[1]);
 }
 
 static void lend(size_t answer_length, size_t request_length, size_t image_length)
@@ -188,12 +189,12 @@ static void lend(size_t answer_length, size_t request_length, size_t image_lengt
     place_lend(&answer, answer_length);
     place_lend(&request, request_length);
     place_lend(&image, image_length);
-    place_lend(&digest, DIGEST);
+    place_lend(&digest, GUARD_DIGEST_LENGTH);
 }
 
-static outcome enter(char letter)
+static guard_outcome enter(char letter)
 {
-    struct place *m = &g->memory[0];
+    struct place *m = &run->memory[0];
     switch (letter) {
     case 'c': return guard_entry_call(m->at, m->length, input.at, input.length, answer.at, answer.length, request.at, request.length);
     case 'r': return guard_entry_reply(m->at, m->length, input.at, input.length, answer.at, answer.length, request.at, request.length);
@@ -206,7 +207,7 @@ static outcome enter(char letter)
 /* What an event comes to, in `text`. */
 static void hand_in(char letter)
 {
-    outcome o = enter(letter);
+    guard_outcome o = enter(letter);
     struct given n = given_by(letter, o);
     check_places(n);
     write_outcome(o, n);
@@ -217,6 +218,7 @@ static void hand_in(char letter)
 static void event(char letter)
 {
     size_t room = 0;
+    snprintf(last_event, sizeof last_event, "%s", line);
     if (letter == 's')
         room = strtoul(line + 2, NULL, 10);
     else {
@@ -227,8 +229,8 @@ static void event(char letter)
             place_input(&seal, bytes[1], lengths[1]);
         }
     }
-    lend(g->answer, g->request, room);
-    move_guard(MEMORY);
+    lend(run->answer, run->request, room);
+    move_guard(GUARD_MEMORY_LENGTH);
     hand_in(letter);
 }
 
@@ -241,29 +243,29 @@ static void compare(const char *expected)
 /* Every entry on a memory that is too short: 34 before anything else, and no byte is changed. */
 static void try_short(size_t length)
 {
-    static uint8_t kept[MEMORY];
-    memcpy(kept, g->memory[0].at, MEMORY);
+    static uint8_t kept[GUARD_MEMORY_LENGTH];
+    memcpy(kept, run->memory[0].at, GUARD_MEMORY_LENGTH);
     place_input(&input, (const uint8_t *)"\1\7/a", 4);
-    place_input(&seal, kept, DIGEST);
-    lend(ANSWER, REQUEST, LONGEST_IMAGE);
+    place_input(&seal, kept, GUARD_DIGEST_LENGTH);
+    lend(GUARD_ANSWER_LENGTH, GUARD_REQUEST_LENGTH, GUARD_IMAGE_LENGTH);
     for (const char *letter = "crslf"; *letter; letter++) {
         move_guard(length);
         hand_in(*letter);
         compare("refused 34");
-        if (length && memcmp(g->memory[0].at, kept, length))
+        if (length && memcmp(run->memory[0].at, kept, length))
             differ("a memory of %zu bytes is changed", length);
-        place_clear(&g->memory[0]);
-        place_hold(&g->memory[0], kept, MEMORY);
+        place_clear(&run->memory[0]);
+        place_hold(&run->memory[0], kept, GUARD_MEMORY_LENGTH);
     }
 }
 
 static void end_list(void)
 {
-    if (!g->name[0])
+    if (!run->name[0])
         return;
     try_short(0);
     try_short(1);
-    try_short(MEMORY - 1);
+    try_short(GUARD_MEMORY_LENGTH - 1);
     lists++;
 }
 
@@ -271,10 +273,10 @@ static void end_list(void)
 static void begin_list(const char *name)
 {
     end_list();
-    snprintf(g->name, NAME, "%s", name);
-    g->answer = ANSWER;
-    g->request = REQUEST;
-    move_guard(MEMORY);
+    snprintf(run->name, NAME, "%s", name);
+    run->answer = GUARD_ANSWER_LENGTH;
+    run->request = GUARD_REQUEST_LENGTH;
+    move_guard(GUARD_MEMORY_LENGTH);
     hand_in('f');
     compare("done 0");
 }
@@ -285,13 +287,13 @@ static void do_line(void)
 {
     switch (line[0]) {
     case 'f': begin_list(line + 2); break;
-    case 'g': g = &guards[line[2] == '1']; break;
+    case 'g': run = &runs[line[2] == '1']; break;
     case 'b':
-        if (sscanf(line + 2, "%zu %zu", &g->answer, &g->request) != 2)
+        if (sscanf(line + 2, "%zu %zu", &run->answer, &run->request) != 2)
             malformed();
         break;
-    case 'k': memcpy(g->kept, g->memory[0].at, MEMORY); break;
-    case 'a': memcpy(g->memory[0].at, g->kept, MEMORY); break;
+    case 'k': memcpy(run->kept, run->memory[0].at, GUARD_MEMORY_LENGTH); break;
+    case 'a': memcpy(run->memory[0].at, run->kept, GUARD_MEMORY_LENGTH); break;
     case 'c': case 'r': case 's': case 'l': event(line[0]); break;
     case '=': compare(line + 2); break;
     default: malformed();
@@ -304,19 +306,19 @@ static void set_up(int high)
     sigaction(SIGSEGV, &fault, NULL);
     sigaction(SIGBUS, &fault, NULL);
     places_begin(high);
-    answer = place_for("the answer", 2 * ANSWER);
-    request = place_for("the request", 2 * REQUEST);
+    answer = place_for("the answer", 2 * GUARD_ANSWER_LENGTH);
+    request = place_for("the request", 2 * GUARD_REQUEST_LENGTH);
     image = place_for("the image", 1 << 16);
-    digest = place_for("the digest", DIGEST);
+    digest = place_for("the digest", GUARD_DIGEST_LENGTH);
     input = place_for("the input", INPUT);
     seal = place_for("the digest handed in", INPUT);
     for (int i = 0; i < 4; i++) {
-        guards[i / 2].memory[i % 2] = place_for("a place of the guard", MEMORY);
-        place_lend(&guards[i / 2].memory[i % 2], MEMORY);
+        runs[i / 2].memory[i % 2] = place_for("a place of the guard", GUARD_MEMORY_LENGTH);
+        place_lend(&runs[i / 2].memory[i % 2], GUARD_MEMORY_LENGTH);
     }
     for (int i = 0; i < 2; i++)
         bytes[i] = malloc(INPUT);
-    text = malloc(4 * LONGEST_IMAGE);
+    text = malloc(4 * GUARD_IMAGE_LENGTH);
 }
 
 int main(int n, char **words)
@@ -332,7 +334,7 @@ int main(int n, char **words)
             line[got - 1] = 0;
         do_line();
     }
-    for (g = guards; g < guards + 2; g++)
+    for (run = runs; run < runs + 2; run++)
         end_list();
     printf("%lu lists, %lu events\n", lists, events);
     return 0;
