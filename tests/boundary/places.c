@@ -21,6 +21,11 @@ void places_begin(int high)
     }
 }
 
+void places_turn(int high)
+{
+    is_high = high;
+}
+
 static void fail(const char *what)
 {
     perror(what);

@@ -19,6 +19,9 @@ struct place {
 /* From now on things lie at this end; the two ends have two patterns that differ in every byte. */
 void places_begin(int high);
 
+/* The other end, or the same; the pattern stays. */
+void places_turn(int high);
+
 /* A place with room for so many bytes, full of the pattern. */
 struct place place_for(const char *name, size_t bytes);
 
