@@ -10,15 +10,27 @@ with the command that repeats it; the status is then 1.
 import argparse
 import subprocess
 import sys
+from collections import Counter
 from concurrent.futures import ProcessPoolExecutor
 from functools import partial
 
 from model.compare import shortened
+from model.events import Call, Done, Load, Refused, Reply, Save, Stopped
 
 from . import lengths, lists
 
 AT_ONCE = 20  # pairs of lists that one driver gets
 ENDS = "low", "high"
+
+# the numbers that document 01 has for each event, in its order, and its stop reasons
+EVENTS = Call, Reply, Save, Load
+NUMBERS = {
+    Call: [5, 114, 34, 22, 36, 20, 13, 2, 17, 21, 16, 39, 24, 9, 27, 28],
+    Reply: [5, 61, 34],
+    Save: [5, 114, 16, 34],
+    Load: [5, 114, 16, 74, 84],
+}
+STOPS = range(1, 8)
 
 
 def difference(driver, lines):
@@ -37,15 +49,21 @@ def pair_difference(driver, turns, name="shortened"):
 
 
 def seeds_differ(driver, seeds):
-    """Of some pairs of lists: how many events they have, and the first pair that differs with what the driver says."""
+    """Of some pairs of lists: what they have, and the first pair that differs with what the driver says."""
     pairs = {seed: lists.pair(seed) for seed in seeds}
     lines = [line for seed, turns in pairs.items() for line in lists.lines_of(f"seeds {seed} and {seed + 1}", turns)]
-    total = sum(map(len, pairs.values()))
+    had = Counter(what(event, outcome) for turns in pairs.values() for _, event, outcome in turns)
     whole = difference(driver, lines)
     if not whole:
-        return total, None
+        return had, None
     alone = (seed for seed, turns in pairs.items() if pair_difference(driver, turns))
-    return total, (next(alone, None), whole)
+    return had, (next(alone, None), whole)
+
+
+def what(event, outcome):
+    """What happened, in three words."""
+    number = {Refused: "number", Stopped: "reason"}.get(type(outcome))
+    return type(event), type(outcome), getattr(outcome, number) if number else None
 
 
 def lengths_differ(driver, number):
@@ -66,15 +84,33 @@ def report(driver, seed):
 
 def compare_seeds(pool, driver, first, count):
     chunks = [range(at, min(at + 2 * AT_ONCE, first + count), 2) for at in range(first, first + count, 2 * AT_ONCE)]
-    total = 0
-    for events, differing in pool.map(partial(seeds_differ, driver), chunks):
-        total += events
+    had = Counter()
+    for some, differing in pool.map(partial(seeds_differ, driver), chunks):
+        had += some
         if differing:
             seed, said = differing
             print(said)
             report(driver, seed) if seed is not None else print("no pair differs alone")
             sys.exit(1)
-    print(f"boundary: {count} lists, {total} events, each as by the model; seeds from {first}")
+    print(
+        f"boundary: {count} lists, {had.total()} events, each as by the model; seeds from {first}; "
+        f"{had[Save, Done, None]} saves, {had[Load, Done, None]} loads, {of(had, Refused, 34)} short buffers, "
+        f"{sum(of(had, Stopped, reason) for reason in STOPS)} wrong replies, {of(had, Refused, 5)} events after a stop"
+    )
+    return had
+
+
+def of(had, outcome, number):
+    """How often anything came to this."""
+    return sum(had[event, outcome, number] for event in EVENTS)
+
+
+def check_all_came(had):
+    """Every number and every reason, each with all events that it is for."""
+    lacking = [(event.__name__, number) for event in EVENTS for number in NUMBERS[event] if not had[event, Refused, number]]
+    lacking += [("stop", reason) for reason in STOPS if not had[Reply, Stopped, reason]]
+    if lacking:
+        sys.exit(f"boundary: these never came: {lacking}")
 
 
 def compare_lengths(pool, driver):
@@ -91,12 +127,14 @@ def compare_lengths(pool, driver):
 def main():
     parser = argparse.ArgumentParser(prog="python3 -m boundary.compare")
     parser.add_argument("--first", type=int, default=0)
-    parser.add_argument("--count", type=int, default=3000)
+    parser.add_argument("--count", type=int, default=2500)
     parser.add_argument("--lengths", action="store_true")
     parser.add_argument("driver")
     options = parser.parse_args()
     with ProcessPoolExecutor() as pool:
-        compare_seeds(pool, options.driver, options.first, options.count)
+        had = compare_seeds(pool, options.driver, options.first, options.count)
+        if options.count >= 1000:
+            check_all_came(had)
         if options.lengths:
             compare_lengths(pool, options.driver)
 

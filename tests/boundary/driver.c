@@ -3,9 +3,12 @@
  *     driver low|high < LISTS
  *
  * LISTS are lines of tests/model/transcripts.py, and more: `g N` says which of two guards gets what follows, `k` keeps it, `a` goes back to what
- * was kept, and `HH*N` within bytes is the byte HH in all N times. All that is lent lies between two pages that nobody may touch (places.h), at their low or at their high end; bytes
- * that are handed in cannot be written. Before each event the guard moves to another address, and what it leaves is overwritten. At the end of
- * each list every entry is tried on the guard's memory cut short.
+ * was kept, and `HH*N` within bytes is the byte HH in all N times.
+ *
+ * - All that is lent lies between two pages that nobody may touch (places.h), at their low or at their high end; at every other eight events a few
+ *   bytes behind the low one, since nothing needs an alignment. Bytes that are handed in cannot be written.
+ * - Before each event the guard moves to another address, and what it leaves is overwritten.
+ * - At the end of each list every entry is tried on the guard's memory cut short.
  *
  * Ends with status 1 at the first difference. */
 #define _GNU_SOURCE
@@ -31,6 +34,7 @@ struct run {
 
 static struct run runs[2], *run = runs;
 static struct place answer, request, image, digest, input, seal;
+static int is_high;
 static unsigned long line_number, events, lists;
 static char *line, last_event[120];
 static uint8_t *bytes[2]; /* the bytes of a line's fields */
@@ -219,6 +223,7 @@ static void event(char letter)
 {
     size_t room = 0;
     snprintf(last_event, sizeof last_event, "%s", line);
+    places_turn(is_high, events % 16 < 8 ? 0 : events % 8);
     if (letter == 's')
         room = strtoul(line + 2, NULL, 10);
     else {
@@ -300,12 +305,12 @@ static void do_line(void)
     }
 }
 
-static void set_up(int high)
+static void set_up(void)
 {
     static const struct sigaction fault = {.sa_sigaction = on_fault, .sa_flags = SA_SIGINFO};
     sigaction(SIGSEGV, &fault, NULL);
     sigaction(SIGBUS, &fault, NULL);
-    places_begin(high);
+    places_begin(is_high);
     answer = place_for("the answer", 2 * GUARD_ANSWER_LENGTH);
     request = place_for("the request", 2 * GUARD_REQUEST_LENGTH);
     image = place_for("the image", 1 << 16);
@@ -327,7 +332,8 @@ int main(int n, char **words)
     ssize_t got;
     if (n != 2 || (strcmp(words[1], "low") && strcmp(words[1], "high")))
         return 2;
-    set_up(!strcmp(words[1], "high"));
+    is_high = !strcmp(words[1], "high");
+    set_up();
     while ((got = getline(&line, &room, stdin)) > 0) {
         line_number++;
         if (line[got - 1] == '\n')

@@ -25,6 +25,11 @@ def filled(head, fill, length):
     return (head + fill * (length // len(fill) + 1))[:length]
 
 
+def fills(length, near):
+    """Both bytes at lengths that fit something, either at others."""
+    return FILLS if length in near else [FILLS[length % 2]]
+
+
 # calls
 
 def fresh(s):
@@ -46,9 +51,10 @@ def stopped(s):
 
 def some_calls():
     """Calls of every length, each kind of byte first; the handle of a file behind it; paths."""
+    near = {*range(65), *LARGE}
     for kind in KINDS:
-        for fill in FILLS:
-            yield from (filled(bytes([kind]), fill, n) for n in [*MANY, *LARGE, *LARGEST])
+        for n in [*MANY, *LARGE, *LARGEST]:
+            yield from (filled(bytes([kind]), fill, n) for fill in fills(n, near))
     for kind in range(256):
         for fill in FILLS:
             yield from (filled(bytes([kind]), fill, n) for n in [1, 2, 3, 5, 9, 13, 14, 300, 1100, *LARGE])
@@ -70,10 +76,10 @@ def few_call_events():
 # replies
 
 def reply_events(truth):
-    """Both bytes at lengths that fit something, either at others; each first byte of a reply that has the right length."""
+    """Replies of every length; each first byte of one that has the right length; that one."""
     near = {*range(65), *range(len(truth) - 20, len(truth) + 20), *LARGE, *LARGEST}
     for n in [*MANY, *LARGE, *LARGEST]:
-        yield from (Reply(filled(b"", fill, n)) for fill in (FILLS if n in near else [FILLS[n % 2]]))
+        yield from (Reply(filled(b"", fill, n)) for fill in fills(n, near))
     yield from (Reply(bytes([first]) + truth[1:]) for first in range(256))
     yield Reply(truth)
 

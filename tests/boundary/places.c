@@ -11,19 +11,21 @@ enum { LONGEST = 1 << 21 };
 
 static uint8_t pattern[LONGEST];
 static int is_high;
+static size_t behind_low;
+
+void places_turn(int high, size_t shift)
+{
+    is_high = high;
+    behind_low = shift;
+}
 
 void places_begin(int high)
 {
-    is_high = high;
+    places_turn(high, 0);
     for (size_t i = 0; i < LONGEST; i++) {
         uint8_t byte = (uint8_t)(i * 167 + i / 256 * 31 + 90);
         pattern[i] = high ? (uint8_t)~byte : byte;
     }
-}
-
-void places_turn(int high)
-{
-    is_high = high;
 }
 
 static void fail(const char *what)
@@ -54,7 +56,7 @@ void place_lend(struct place *p, size_t length)
     if (is_high)
         p->at = p->start + p->room - length;
     else
-        p->at = length ? p->start : NULL;
+        p->at = length ? p->start + (length + behind_low <= p->room ? behind_low : 0) : NULL;
 }
 
 void place_hold(struct place *p, const uint8_t *bytes, size_t length)

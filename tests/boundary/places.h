@@ -19,8 +19,8 @@ struct place {
 /* From now on things lie at this end; the two ends have two patterns that differ in every byte. */
 void places_begin(int high);
 
-/* The other end, or the same; the pattern stays. */
-void places_turn(int high);
+/* The other end, or the same, and at the low end so many bytes behind it: nothing that is lent needs an alignment. The pattern stays. */
+void places_turn(int high, size_t shift);
 
 /* A place with room for so many bytes, full of the pattern. */
 struct place place_for(const char *name, size_t bytes);

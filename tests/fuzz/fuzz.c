@@ -1,7 +1,7 @@
 /* Records of bytes (records.h) through the archive, each outcome held against what document 01 says of every outcome, whatever was handed in.
  *
  * The archive has no coverage of its own: what came back to what is counted for libFuzzer in `seen`. All that is lent lies against unreadable
- * pages (tests/boundary/places.h), at the low or the high end by the input's first byte. */
+ * pages (tests/boundary/places.h), at the low or the high end by the input's first byte, or near the low one. */
 #include "guard.h"
 #include "host.h"
 #include "places.h"
@@ -341,7 +341,7 @@ int LLVMFuzzerTestOneInput(const uint8_t *data, size_t size)
     if (!size)
         return 0;
     put_back();
-    places_turn(data[0] & 1);
+    places_turn(data[0] & 1, data[0] / 2 % 8);
     memset(&known, 0, sizeof known);
     host_begin();
     place_clear(&memory);
