@@ -26,7 +26,7 @@ fresh-kept m r m′ h p = record {
 }
 
 -- what a step leaves
-step-kept : (m m′ : List ℕ) (e : Event) → EventBytes e → Kept m → length m′ ≡ length m → held m′ ≡ stepped m e .state → Kept m′
+pub step-kept : (m m′ : List ℕ) (e : Event) → EventBytes e → Kept m → length m′ ≡ length m → held m′ ≡ stepped m e .state → Kept m′
 step-kept m m′ e b k n s = record {
   long = omega (arith, n, k .long);
   consistent = subst (Consistent delivered) (sym s) (step-consistent delivered digest-fits (held m) e b (k .consistent));

@@ -4,19 +4,16 @@ use mathlib.Core.Path.{_≡_, refl, ap, ap₂, sym, _∙_, subst}
 use mathlib.Core.Logic.{_⊎_}
 use mathlib.Core.List.{List, [], _∷_, _++_, append-nil}
 use Prim.Native.Nat.{ℕ}
-use native.Mathlib.Omega.{arith}
 use lib.ListN.{length}
 use Rattle.lists.specs.All.{All, both, none, all-head}
 use Rattle.lists.specs.Or.{Or, ok, _>>=_}
 use Rattle.lists.specs.PartLaws.{overwrite-all}
 use Rattle.filesystem.specs.Tables.{DIGEST-BYTES}
-use Rattle.filesystem.specs.ImageLaws.{Digest}
 use Rattle.digest.specs.Sha256.{sha256}
 use Rattle.rules.specs.Skeleton.{Event, Buffers, save, EventBytes, Answer, done, plain, atFront}
 use Rattle.configuration.specs.Delivered.{delivered}
 use Rattle.machine.specs.Machine.{outcomes, final, fresh, guard as digestStore}
 use Rattle.machine.specs.History.{Collision}
-use Rattle.machine.specs.Consistent.{Consistent, step-consistent}
 use Rattle.machine.specs.Seen.{Seen, events, answers, pagesSeen, imagesSeen}
 use Rattle.machine.specs.SeenLaws.{NoSave, no-save-bare, save-ind}
 use Rattle.machine.specs.Restart.{Restarts, pagesOfLives, imagesOfLives, LoadsOfLives, HonestLives, OfFresh, BytesSeen, restarted, treeAfter, AgreeLives as SameLives, FirstHalfOfLives as FirstOfMachine, SecondHalfOfLives as SecondOfMachine}
@@ -26,11 +23,8 @@ use Rattle.outcomes.specs.declared.Outcome.the-variants.{Done, Ask, Refused, St
 use Rattle.outcomes.specs.Values.{kindOf, valueOf, lengthOf, answerIn}
 use Rattle.guard.specs.declared.GuardOutcome.{GuardOutcome}
 use Rattle.guard.specs.Promise.{Kept, held, stepped, buffers, Promise, shownAs, Shown}
-use Rattle.guard.specs.KeptLaws.{fresh-kept}
+use Rattle.guard.specs.KeptLaws.{fresh-kept, step-kept}
 use Rattle.guard_guarantee.specs.Chains.{readAs, answerRead, seenAs, digestSeen, Link, called, replied, saved, loaded, Chain, end, next, Life, Tree, freshTree, Agrees, FirstHalf, SecondHalf, allSeen, AgreeLives, FirstHalfOfLives, SecondHalfOfLives}
-
-digest-fits : (s : List ℕ) → Digest (delivered .digest s)
-digest-fits s = (delivered-fit .long s, delivered-fit .bytes s)
 
 -- what C reads is the code's outcome
 reads-shown : (o : Outcome) (a q : List ℕ) → answerRead (shownAs o) a q ≡ answerIn o a q
@@ -63,7 +57,7 @@ module _ (m m′ : List ℕ) (k : Kept m) where
       ∙ save-ind delivered (digestStore delivered) (λ o. record { answer = o .answer; digest = digestSeen (o .answer) (atFront (o .digest) d) } ≡ o) (held m) n
       (λ k. unfold digestSeen in refl)
       (λ image. unfold digestSeen in ap (λ x. record { answer = done (length image) image; digest = x })
-      (overwrite-all d (delivered .digest image) (l ∙ sym (digest-fits image .0))))
+      (overwrite-all d (delivered .digest image) (l ∙ sym (delivered-fit .long image))))
 
   entry-steps : (e : Event) → NoSave e → (r : GuardOutcome) (b b′ : Buffers) → Shown (λ o. Promise m e o m′ b b′) r
       → Steps m m′ (seenAs e (answerRead r (b′ .answer) (b′ .request)))
@@ -87,10 +81,7 @@ module _ (m m′ : List ℕ) (k : Kept m) where
       record { bytes = p .bytes; same-length = p .same-length; outcome = without-digest _ _ (p .bytes) tt (reads h [] [] ∙ p .answer k); state = p .state k }
 
   steps-kept : {x : Seen} → Steps m m′ x → Kept m′
-  steps-kept {x = x} s = record {
-    long = omega (arith, s .same-length, k .long);
-    consistent = subst (Consistent delivered) (sym (s .state)) (step-consistent delivered digest-fits (held m) (x .event) (s .bytes) (k .consistent));
-  }
+  steps-kept {x = x} s = step-kept m m′ (x .event) (s .bytes) k (s .same-length) (s .state)
 
 -- a chain is a run of the machine
 record Runs (m : List ℕ) (xs : List Seen) (n : List ℕ) : Type 0 where

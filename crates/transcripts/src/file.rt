@@ -5,9 +5,9 @@ ghost use lib.ListN.{length};
 use libc::STDOUT_FILENO;
 
 // A line that is longer is cut, and then no answer is the one below it.
-const LINE: usize = 98304;
+const LINE: usize = super::ANSWER_LINE;
 
-const TEXT: usize = 131072;
+const TEXT: usize = 262144;
 
 struct Progress {
     settings: super::Settings,
@@ -69,7 +69,7 @@ fn show(line: &[u8], said: &[u8], s: super::Settings) {
 }
 
 fn replay_line(memory: &mut [u8], line: &[u8], said: &mut [u8], p: Progress) -> Progress
-    requires { ⌜ 98304 ≤ length (now said) ⌝ }
+    requires { ⌜ 131072 ≤ length (now said) ⌝ }
 {
     if text::line::starts(line, b"= ") {
         return judge(line, said, p);
@@ -93,7 +93,7 @@ fn replay_line(memory: &mut [u8], line: &[u8], said: &mut [u8], p: Progress) -> 
 
 // Every line that ends in the text.
 fn replay_all(memory: &mut [u8], text: &[u8], said: &mut [u8], before: Progress) -> Replayed
-    requires { ⌜ 98304 ≤ length (now said) ⌝ }
+    requires { ⌜ 131072 ≤ length (now said) ⌝ }
     ensures { λ r. ⌜ r .at ≤ length (now (text .entry)) ⌝ }
 {
     let mut at = 0;
@@ -111,8 +111,8 @@ fn replay_all(memory: &mut [u8], text: &[u8], said: &mut [u8], before: Progress)
 
 // One read, and the lines that end in it.
 fn turn(fd: i32, memory: &mut [u8], text: &mut [u8], said: &mut [u8], r: Rest) -> Rest
-    requires { ⌜ (r .kept ≤ length (now text)) × (98304 ≤ length (now said)) ⌝ }
-    ensures { λ q. ⌜ q .kept ≤ 98304 ⌝ }
+    requires { ⌜ (r .kept ≤ length (now text)) × (131072 ≤ length (now said)) ⌝ }
+    ensures { λ q. ⌜ q .kept ≤ 131072 ⌝ }
 {
     let kept = r.kept;
     let p = r.progress;

@@ -5,6 +5,8 @@
 //     b ANSWER REQUEST    the lengths of both buffers for the calls and replies that follow
 //     c CALL              a call, in hexadecimal digits
 //     r REPLY             a reply
+//     s LENGTH            a save into a buffer of this length
+//     l IMAGE DIGEST      a load
 //     = ANSWER            the answer to the event above, in deskrun's words
 //     p WORDS             these words are printed, with the answer above
 ghost use mathlib.Core.Path.{_≡_};
@@ -16,10 +18,12 @@ use text::hex::Decoded;
 
 pub mod file;
 
-// The most bytes of an event, and the room for any answer's line.
+// The most bytes of an event, the longest buffer of a save, and the room for any answer's line.
 pub const EVENT_BYTES: usize = 49152;
 
-pub const ANSWER_LINE: usize = 98304;
+pub const IMAGE_BUFFER: usize = 60000;
+
+pub const ANSWER_LINE: usize = 131072;
 
 // The lengths of both buffers, and that of the last answer's line, with its line feed.
 pub struct Settings {
@@ -115,7 +119,7 @@ fn answer_event(
     s: Settings,
     is_reply: bool,
 ) -> usize
-    requires { ⌜ 98304 ≤ length (now said) ⌝ }
+    requires { ⌜ 131072 ≤ length (now said) ⌝ }
     ensures { λ r. ⌜ r ≤ length (now (said .exit)) ⌝ }
 {
     let mut bytes = [0u8; EVENT_BYTES];
@@ -135,6 +139,91 @@ fn answer_event(
     desk_lines::write_outcome(o, &answer, &request, said)
 }
 
+// What a save gives beside the image.
+struct Saved {
+    outcome: Outcome,
+    digest: [u8; 32],
+}
+
+// A save into the front of a buffer.
+fn save(memory: &mut [u8], image: &mut [u8], n: usize) -> Saved {
+    let k = line_input::at_most(n, image.len());
+    let mut digest = [0u8; 32];
+    let outcome = guard::on_save(memory, &mut image[..k], &mut digest);
+    Saved { outcome, digest }
+}
+
+// x put at `at`, where there is room for it: where it ends.
+fn put(said: &mut [u8], at: usize, x: &[u8]) -> usize
+    requires { ⌜ at ≤ length (now said) ⌝ }
+    ensures { λ r. ⌜ r ≤ length (now (said .exit)) ⌝ }
+{
+    if said.len() - at < x.len() {
+        return at;
+    }
+    buffers::put(said, at, x);
+    at + x.len()
+}
+
+// A digest behind the line that ends with the line feed at `at`.
+fn put_digest(said: &mut [u8], at: usize, digest: [u8; 32]) -> usize
+    requires { ⌜ at ≤ length (now said) ⌝ }
+    ensures { λ r. ⌜ r ≤ length (now (said .exit)) ⌝ }
+{
+    let mut digits = [0u8; 64];
+    text::hex::encode(&digest, &mut digits);
+    let mut next = put(said, at, b" ");
+    next = put(said, next, &digits);
+    put(said, next, b"\n")
+}
+
+fn answer_save(memory: &mut [u8], text: &[u8], said: &mut [u8]) -> usize
+    requires { ⌜ 131072 ≤ length (now said) ⌝ }
+    ensures { λ r. ⌜ r ≤ length (now (said .exit)) ⌝ }
+{
+    let mut image = [0u8; IMAGE_BUFFER];
+    let s = save(memory, &mut image, number(text, IMAGE_BUFFER));
+    let o = s.outcome;
+    let d = s.digest;
+    let n = desk_lines::write_outcome(o, &image, b"?", said);
+    let Outcome::Done { number, length } = o else {
+        return n;
+    };
+    if n == 0 {
+        return n;
+    }
+    put_digest(said, n - 1, d)
+}
+
+// The line of an outcome that has no bytes.
+fn write_plain(o: Outcome, said: &mut [u8]) -> usize
+    requires { ⌜ 131072 ≤ length (now said) ⌝ }
+    ensures { λ r. ⌜ r ≤ length (now (said .exit)) ⌝ }
+{
+    let none = [0u8; 1];
+    desk_lines::write_outcome(o, &none, &none, said)
+}
+
+fn answer_load(memory: &mut [u8], text: &[u8], said: &mut [u8]) -> usize
+    requires { ⌜ 131072 ≤ length (now said) ⌝ }
+    ensures { λ r. ⌜ r ≤ length (now (said .exit)) ⌝ }
+{
+    let mut image = [0u8; EVENT_BYTES];
+    let mut digest = [0u8; 64];
+    let Decoded::Bytes(n) = text::hex::decode(former(text), &mut image) else {
+        return desk_lines::write_bad(said);
+    };
+    let Decoded::Bytes(k) = text::hex::decode(latter(text), &mut digest) else {
+        return desk_lines::write_bad(said);
+    };
+    let o = guard::on_load(
+        memory,
+        desk_lines::first(&image, n),
+        desk_lines::first(&digest, k),
+    );
+    write_plain(o, said)
+}
+
 fn answered(s: Settings, said: usize) -> Settings {
     Settings {
         answer: s.answer,
@@ -145,13 +234,19 @@ fn answered(s: Settings, said: usize) -> Settings {
 
 // A line that is no answer: what it does to the guard and to the settings.
 pub fn feed(memory: &mut [u8], line: &[u8], said: &mut [u8], s: Settings) -> Settings
-    requires { ⌜ 98304 ≤ length (now said) ⌝ }
+    requires { ⌜ 131072 ≤ length (now said) ⌝ }
 {
     if text::line::starts(line, b"c ") {
         return answered(s, answer_event(memory, field(line), said, s, false));
     }
     if text::line::starts(line, b"r ") {
         return answered(s, answer_event(memory, field(line), said, s, true));
+    }
+    if text::line::starts(line, b"s ") {
+        return answered(s, answer_save(memory, field(line), said));
+    }
+    if text::line::starts(line, b"l ") {
+        return answered(s, answer_load(memory, field(line), said));
     }
     if text::line::starts(line, b"b ") {
         return lengths(field(line));

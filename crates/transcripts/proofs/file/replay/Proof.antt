@@ -9,7 +9,7 @@ use Rattle.transcripts.proofs.file.replay.Statement.{statement}
 use Rattle.transcripts.proofs.file.replay.Tie as tie
 
 abbrev Inv-loop : tie.InvT-loop
-Inv-loop fd memory₀ text₀ said₀ rest₀ turns₀ memory text said rest turns = (length memory ≡ 52672) × (length text ≡ 131072) × (length said ≡ 98304) × (rest .kept ≤ 98304)
+Inv-loop fd memory₀ text₀ said₀ rest₀ turns₀ memory text said rest turns = (length memory ≡ 52672) × (length text ≡ 262144) × (length said ≡ 131072) × (rest .kept ≤ 131072)
 
 abbrev μ-loop : tie.MeasureT-loop
 μ-loop fd memory₀ text₀ said₀ rest₀ turns₀ memory text said rest turns = turns

@@ -1,0 +1,17 @@
+-- `transcripts::save` is safe. Assumes nothing.
+use native.Mathlib.Omega.{arith}
+use mathlib.Core.Path.{sym}
+use lib.Seq.{length-take-le}
+use borrow.Author.Needs.{needs}
+use Rattle.transcripts.proofs.save.Statement.{statement}
+use Rattle.transcripts.proofs.save.Tie as tie
+
+slice-aggregate-on-save : tie.Need-slice-aggregate-on-save
+slice-aggregate-on-save c =
+    let k = c .before .before in
+    sym (length-take-le (k .at-most .result) (k .before .before .before .args .image .now) (omega arith))
+
+pub save-spec : {M : Type 1} → statement M
+save-spec =
+    tie.close
+    (tie.spec (λ c κs. search needs) (λ c. search needs) slice-aggregate-on-save (λ c κs. search needs) (λ c. search needs) (λ c. search needs) (λ c. search needs))
