@@ -184,10 +184,23 @@ static void on_call(void)
         MUST(known.call[0] >= GUARD_SEEK && known.call[0] <= GUARD_TRUNCATE && o.length == 0 && o.number <= GUARD_FILE_LENGTH);
 }
 
-static void on_reply(void)
+/* A reply that was taken is the host's own but for what a host may choose. */
+static void check_taken(const uint8_t *own, size_t n)
 {
+    switch (known.asked[0]) {
+    case GUARD_CREATE: case GUARD_MKDIR: case GUARD_OPEN: case GUARD_READDIR: MUST(input.length == n); break;
+    default:
+        if (known.asked[0] == GUARD_FETCH && !host_is_sure())
+            MUST(input.length == n);
+        else
+            MUST(input.length == n && same(input.at, own, n));
+    }
+}
+
+static void on_reply(int is_true)
+{
+    static uint8_t own[GUARD_ANSWER_LENGTH];
     unsigned first = first_number(REPLY);
-    int fetched = known.asked[0] == GUARD_FETCH;
     guard_outcome o = hand_in(REPLY);
     MUST(first ? o.kind == GUARD_REFUSED && o.number == first : o.kind != GUARD_REFUSED);
     if (first)
@@ -195,12 +208,12 @@ static void on_reply(void)
     known.pending = 0;
     if (o.kind == GUARD_STOPPED) {
         MUST(o.number >= 1 && o.number <= 7);
+        MUST(!is_true || (o.number == GUARD_STOP_PAGE && !host_is_sure()));
         known.stopped = 1;
         return;
     }
-    MUST(!fetched || (input.length == GUARD_PAGE_LENGTH && (known.loaded || host_knows(input.at))));
-    if (known.asked[0] == GUARD_STORE)
-        host_store(known.asked);
+    check_taken(own, host_reply(known.asked, known.asked_length, own));
+    host_obey(known.asked, known.asked_length, input.at);
     if (o.kind == GUARD_ASK)
         check_request(o);
     else
@@ -225,6 +238,7 @@ static void on_save(void)
     memcpy(known.digest, right, sizeof right);
     known.saved_length = o.length;
     known.saved = 1;
+    host_saved();
 }
 
 static void lend(struct record r, size_t image_length)
@@ -251,6 +265,10 @@ static void on_load(void)
     }
     MUST(o.kind == GUARD_DONE && o.number == 0 && o.length == 0 && is_right);
     known.loaded = 1;
+    if (known.saved && known.saved_length == input.length && same(known.image, input.at, input.length))
+        host_loaded();
+    else
+        host_loaded_image(input.at);
     lend((struct record){0}, GUARD_IMAGE_LENGTH);
     on_save();
     MUST(known.saved && known.saved_length == input.length && same(known.image, input.at, input.length));
@@ -285,10 +303,10 @@ static void load_bytes(struct record r)
 
 static void true_reply(void)
 {
-    uint8_t reply[GUARD_PAGE_LENGTH];
+    static uint8_t reply[GUARD_ANSWER_LENGTH];
     size_t n = known.pending ? host_reply(known.asked, known.asked_length, reply) : 0;
     place_input(&input, reply, n);
-    on_reply();
+    on_reply(1);
 }
 
 static void do_record(struct record r)
@@ -296,7 +314,7 @@ static void do_record(struct record r)
     lend(r, r.what == SAVE && r.length >= 2 ? (size_t)field(r.bytes, 2) : GUARD_IMAGE_LENGTH);
     switch (r.what) {
     case CALL: place_input(&input, r.bytes, r.length); on_call(); break;
-    case REPLY: place_input(&input, r.bytes, r.length); on_reply(); break;
+    case REPLY: place_input(&input, r.bytes, r.length); on_reply(0); break;
     case TRUE_REPLY: true_reply(); break;
     case SAVE: on_save(); break;
     case LOAD_SAVED: load(known.image, known.saved_length, known.digest, known.saved ? GUARD_DIGEST_LENGTH : 0); break;

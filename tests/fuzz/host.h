@@ -1,4 +1,5 @@
-/* A host without a tree, for true replies where that is enough: statuses, ids, descriptors by path, pages that were stored. */
+/* An honest host for the fuzzer. It keeps a plain tree: what it was asked for, as the guard took the replies. Its own replies are then right, and
+ * the guard may not stop at one. */
 #ifndef HOST_H
 #define HOST_H
 
@@ -7,13 +8,20 @@
 
 void host_begin(void);
 
-/* A page that is stored, by the request for it. */
-void host_store(const uint8_t *request);
+/* The right reply to a request; its length. */
+size_t host_reply(const uint8_t *request, size_t length, uint8_t *reply);
 
-/* The reply to a request; its length. Those to readdir and stat are for an empty directory, and for the root. */
-size_t host_reply(const uint8_t *request, size_t length, uint8_t reply[1024]);
+/* The guard took a reply, the host's or another: the request is obeyed. */
+void host_obey(const uint8_t *request, size_t length, const uint8_t *reply);
 
-/* Whether a page was stored since the beginning, or is more than is remembered. */
-int host_knows(const uint8_t page[1024]);
+/* A save, and a load of it. */
+void host_saved(void);
+void host_loaded(void);
+
+/* A load of a sound image that no save gave: its tree, the files taken to be of zeros. */
+void host_loaded_image(const uint8_t *image);
+
+/* Whether the host can be sure of its pages: none was lost, and all images were saved before. */
+int host_is_sure(void);
 
 #endif
