@@ -11,6 +11,7 @@ import argparse
 import shlex
 import subprocess
 import sys
+from functools import partial
 from random import Random, SystemRandom
 
 from .desk import MAX_BYTES, answers
@@ -77,29 +78,29 @@ def differs(command, lines):
     return answers(lines) != program_answers(command, lines)
 
 
-def shortened(command, lines):
-    """A list that still differs, and no longer does with any one line left out."""
-    before, size = None, len(lines)
-    while before != lines or size > 1:
-        before, size = lines, max(size // 2, 1)
-        lines = without_parts(command, lines, size)
-    return lines
+def shortened(differs, things):
+    """A list that still differs, and no longer does with any one thing left out."""
+    before, size = None, len(things)
+    while before != things or size > 1:
+        before, size = things, max(size // 2, 1)
+        things = without_parts(differs, things, size)
+    return things
 
 
-def without_parts(command, lines, size):
+def without_parts(differs, things, size):
     """The list without those parts of this size that a difference does not need."""
     at = 0
-    while at < len(lines):
-        shorter = lines[:at] + lines[at + size :]
-        if differs(command, shorter):
-            lines = shorter
+    while at < len(things):
+        shorter = things[:at] + things[at + size :]
+        if differs(shorter):
+            things = shorter
         else:
             at += size
-    return lines
+    return things
 
 
 def report(command, lines, repeat):
-    lines = shortened(command, lines)
+    lines = shortened(partial(differs, command), lines)
     ours, theirs = answers(lines), program_answers(command, lines)
     print(f"compare: a list of {len(lines)} lines differs")
     for i, line in enumerate(lines):

@@ -191,11 +191,11 @@ def entry(node):
 
 def split_listing(reply):
     """A listing's entries; of one that is cut short what is there, which is nobody's entry."""
-    entries = []
-    while reply:
-        length = ID + 2 + reply[ID + 1] if len(reply) > ID + 1 else len(reply)
-        entries.append(reply[:length])
-        reply = reply[length:]
+    entries, at = [], 0
+    while at < len(reply):
+        length = ID + 2 + reply[at + ID + 1] if len(reply) > at + ID + 1 else len(reply)
+        entries.append(reply[at : at + length])
+        at += length
     return entries
 
 

@@ -5,6 +5,7 @@ import io
 import sys
 import tempfile
 import unittest
+from functools import partial
 from pathlib import Path
 
 from .compare import differs, generated_lines, report, scripted_lists, shortened
@@ -29,7 +30,7 @@ class Compare(unittest.TestCase):
             Mutant("open is done with the descriptor", directory)
             command = desk(directory)
             lines = next(lines for lines in map(generated_lines, range(100)) if differs(command, lines))
-            short = shortened(command, lines)
+            short = shortened(partial(differs, command), lines)
             self.assertEqual([line[:1] for line in short], [b"c", b"r", b"c", b"r"])
             with contextlib.redirect_stdout(io.StringIO()) as out:
                 report(command, lines, "--first 1 --count 1")

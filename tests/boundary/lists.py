@@ -1,0 +1,72 @@
+"""Lists of events for the driver: those of model.generate, ended so that the tables are seen, two of them side by side.
+
+A turn is the number of a guard, an event and its outcome.
+"""
+
+from dataclasses import replace
+from random import Random
+
+from model import calls
+from model.events import Call, Reply, Save
+from model.generate import generate
+from model.image import LONGEST
+from model.rules import ANSWER, REQUEST
+from model.transcripts import event_line
+from model.tree import guard
+
+
+def pair(seed):
+    """The lists of two seeds in turns."""
+    steps = generated(seed), generated(seed + 1)
+    turns = []
+    for i in range(max(map(len, steps))):
+        for number in 0, 1:
+            turns += [(number, event, outcome) for event, outcome in steps[number][i : i + 1]]
+    return turns
+
+
+def generated(seed):
+    """A list from a seed, with its outcomes."""
+    recording = generate(seed)
+    if not recording.guard.stopped:
+        settle(recording)
+    random = Random(seed)
+    return [(lent_longer(random, event), outcome) for event, outcome in recording.steps]
+
+
+def settle(recording):
+    """The pending call ended, every file closed, all tables saved."""
+    recording.finish() if recording.guard.pending else None
+    for handle in list(recording.guard.open_files):
+        recording.do(calls.close(handle))
+    recording.send(Save(LONGEST))
+
+
+def lent_longer(random, event):
+    """Buffers that are long enough may as well be longer: the answer is the same."""
+    if not isinstance(event, (Call, Reply)) or lent(event) != (ANSWER, REQUEST) or random.random() < 0.8:
+        return event
+    return replace(event, answer_len=ANSWER + random.randrange(100), request_len=REQUEST + random.randrange(100))
+
+
+def lent(event):
+    return event.answer_len, event.request_len
+
+
+def answered(events):
+    """Turns of these pairs of a guard's number and an event: the outcomes are the model's, from fresh guards."""
+    guards = guard(), guard()
+    return [(number, event, guards[number].step(event)) for number, event in events]
+
+
+def lines_of(name, turns):
+    """The driver's lines."""
+    buffers = [(ANSWER, REQUEST)] * 2
+    yield from ("g 1", f"f {name}", "g 0", f"f {name}")
+    for number, event, outcome in turns:
+        yield f"g {number}"
+        if isinstance(event, (Call, Reply)) and buffers[number] != lent(event):
+            buffers[number] = lent(event)
+            yield "b {} {}".format(*lent(event))
+        yield event_line(event)
+        yield f"= {outcome}"

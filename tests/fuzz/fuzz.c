@@ -1,0 +1,376 @@
+/* Records of bytes (records.h) through the archive, each outcome held against what document 01 says of every outcome, whatever was handed in.
+ *
+ * The archive has no coverage of its own: what came back to what is counted for libFuzzer in `seen`. All that is lent lies against unreadable
+ * pages (tests/boundary/places.h), at the low or the high end by the input's first byte, or near the low one. */
+#include "guard.h"
+#include "host.h"
+#include "places.h"
+#include "records.h"
+
+#include <stdio.h>
+#include <stdlib.h>
+#include <string.h>
+
+int LLVMFuzzerInitialize(int *n, char ***words);
+int LLVMFuzzerTestOneInput(const uint8_t *data, size_t size);
+void plain_sha256(const uint8_t *message, size_t n, uint8_t out[32]);
+
+enum { INPUT = 1 << 16, EVENTS = 300 };
+
+__attribute__((section("__libfuzzer_extra_counters"))) static uint8_t seen[8192];
+
+static struct place memory, elsewhere, answer, request, image, digest, input, seal;
+
+/* What is known of the guard from its outcomes alone. */
+static struct {
+    int stopped, pending, loaded, saved;
+    size_t open_files, saved_length;
+    uint8_t call[GUARD_TRANSFER_LENGTH + 5]; /* the pending call */
+    size_t call_length;
+    uint8_t asked[GUARD_REQUEST_LENGTH]; /* the pending request */
+    size_t asked_length;
+    uint8_t image[GUARD_IMAGE_LENGTH], digest[GUARD_DIGEST_LENGTH]; /* the last save */
+} known;
+
+#define MUST(condition) ((condition) ? (void)0 : wrong(#condition, __LINE__))
+
+static void wrong(const char *what, int line)
+{
+    fprintf(stderr, "fuzz: line %d: not so: %s\n", line, what);
+    abort();
+}
+
+static int same(const uint8_t *a, const uint8_t *b, size_t n)
+{
+    return n == 0 || memcmp(a, b, n) == 0;
+}
+
+/* ---- handing in */
+
+static guard_outcome enter(enum what what)
+{
+    switch (what) {
+    case CALL: return guard_entry_call(memory.at, memory.length, input.at, input.length, answer.at, answer.length, request.at, request.length);
+    case REPLY: return guard_entry_reply(memory.at, memory.length, input.at, input.length, answer.at, answer.length, request.at, request.length);
+    case SAVE: return guard_entry_save(memory.at, memory.length, image.at, image.length, digest.at);
+    default: return guard_entry_load(memory.at, memory.length, input.at, input.length, seal.at, seal.length);
+    }
+}
+
+static size_t bits(uint64_t n)
+{
+    size_t count = 0;
+    for (; n; n /= 2)
+        count++;
+    return count;
+}
+
+/* Coverage: what was handed in, to what pending request, what came back. */
+static void count(enum what what, guard_outcome o)
+{
+    size_t kind = what == CALL ? (input.length ? input.at[0] % 16 : 15) : known.pending ? known.asked[0] : 0;
+    size_t number = o.kind == GUARD_REFUSED || o.kind == GUARD_STOPPED ? o.number : bits(o.number) + 16 * bits(o.length);
+    seen[(((what * 16 + kind) * 4 + (size_t)o.kind) * 251 + number * 7) % sizeof seen]++;
+    seen[(known.open_files * 61 + bits(known.call_length) * 13 + kind) % sizeof seen]++;
+}
+
+static void untouched(struct place *p, size_t first)
+{
+    MUST(first <= p->length);
+    MUST(place_untouched(p, first));
+}
+
+/* One event: no byte is touched that the outcome does not promise. What is given out stays where it is until `put_back`. */
+static guard_outcome hand_in(enum what what)
+{
+    guard_outcome o = enter(what);
+    MUST(o.kind >= GUARD_DONE && o.kind <= GUARD_STOPPED);
+    MUST(o.kind <= GUARD_ASK || o.length == 0);
+    untouched(&answer, o.kind == GUARD_DONE && what <= REPLY ? o.length : 0);
+    untouched(&request, o.kind == GUARD_ASK ? o.length : 0);
+    untouched(&image, o.kind == GUARD_DONE && what == SAVE ? o.length : 0);
+    untouched(&digest, o.kind == GUARD_DONE && what == SAVE ? GUARD_DIGEST_LENGTH : 0);
+    untouched(&memory, memory.length);
+    untouched(&elsewhere, 0);
+    count(what, o);
+    return o;
+}
+
+static void put_back(void)
+{
+    place_restore(&answer, answer.length);
+    place_restore(&request, request.length);
+    place_restore(&image, image.length);
+    place_restore(&digest, digest.length);
+}
+
+/* ---- what document 01 says of every outcome */
+
+/* The number that comes before what is handed in is looked at, or 0. */
+static unsigned first_number(enum what what)
+{
+    int is_short = answer.length < GUARD_ANSWER_LENGTH || request.length < GUARD_REQUEST_LENGTH;
+    if (known.stopped)
+        return GUARD_STOPPED_FOR_GOOD;
+    if (known.pending && what != REPLY)
+        return GUARD_PENDING;
+    if (!known.pending && what == REPLY)
+        return GUARD_NOT_PENDING;
+    if (known.open_files && what >= SAVE)
+        return GUARD_IN_USE;
+    return what <= REPLY && is_short ? GUARD_SHORT_BUFFER : 0;
+}
+
+static int is_call_number(uint64_t n)
+{
+    static const uint8_t numbers[] = {22, 36, 20, 13, 2, 17, 21, 16, 39, 24, 9, 27, 28};
+    return n < 256 && memchr(numbers, (int)n, sizeof numbers) != NULL;
+}
+
+static uint64_t field(const uint8_t *at, size_t bytes)
+{
+    uint64_t n = 0;
+    while (bytes-- > 0)
+        n = n * 256 + at[bytes];
+    return n;
+}
+
+/* A request has its kind's length, or is the call itself; it stands from now on. */
+static void check_request(guard_outcome o)
+{
+    static const size_t lengths[16] = {[4] = 5, [6] = 9, [7] = 1037, [8] = 9};
+    const uint8_t *q = request.at;
+    MUST(o.number == 0 && o.length > 0 && q[0] >= 1 && q[0] <= 13 && q[0] != 5);
+    if (lengths[q[0]])
+        MUST(o.length == lengths[q[0]] && field(q + 1, 4) < GUARD_DESCRIPTORS);
+    else
+        MUST(o.length == known.call_length && same(q, known.call, o.length));
+    memcpy(known.asked, q, o.length);
+    known.asked_length = o.length;
+    known.pending = 1;
+}
+
+/* A call that is done at the reply in the input. */
+static void check_done(guard_outcome o)
+{
+    switch (known.call[0]) {
+    case GUARD_CREATE: case GUARD_MKDIR: MUST(o.number == field(input.at, 4) && o.number > 1 && o.length == 0); break;
+    case GUARD_OPEN: MUST(o.number > 1 && o.length == 0 && ++known.open_files <= GUARD_OPEN_FILES); break;
+    case GUARD_CLOSE: MUST(o.number == 0 && o.length == 0 && known.open_files-- > 0); break;
+    case GUARD_READ: MUST(o.number == o.length && o.length > 0 && o.length <= field(known.call + 5, 4)); break;
+    case GUARD_WRITE: MUST(o.number == known.call_length - 5 && o.length == 0); break;
+    case GUARD_READDIR: MUST(o.number < GUARD_NODES && o.length == input.length && same(answer.at, input.at, o.length)); break;
+    case GUARD_STAT: MUST(o.number == field(input.at + 6, 4) && o.length == 10 && same(answer.at, input.at, 10)); break;
+    default: MUST(o.number == 0 && o.length == 0);
+    }
+}
+
+static void on_call(void)
+{
+    unsigned first = first_number(CALL);
+    guard_outcome o = hand_in(CALL);
+    MUST(!first || (o.kind == GUARD_REFUSED && o.number == first));
+    if (first)
+        return;
+    MUST(o.kind != GUARD_STOPPED && (o.kind != GUARD_REFUSED || is_call_number(o.number)));
+    if (o.kind == GUARD_REFUSED)
+        return;
+    MUST(input.length > 1 && input.length <= sizeof known.call);
+    memcpy(known.call, input.at, input.length);
+    known.call_length = input.length;
+    if (o.kind == GUARD_ASK)
+        check_request(o);
+    else /* seek, or nothing to read, write or cut */
+        MUST(known.call[0] >= GUARD_SEEK && known.call[0] <= GUARD_TRUNCATE && o.length == 0 && o.number <= GUARD_FILE_LENGTH);
+}
+
+/* A reply that was taken is the host's own but for what a host may choose. */
+static void check_taken(const uint8_t *own, size_t n)
+{
+    switch (known.asked[0]) {
+    case GUARD_CREATE: case GUARD_MKDIR: case GUARD_OPEN: case GUARD_READDIR: MUST(input.length == n); break;
+    default:
+        if (known.asked[0] == GUARD_FETCH && !host_is_sure())
+            MUST(input.length == n);
+        else
+            MUST(input.length == n && same(input.at, own, n));
+    }
+}
+
+static void on_reply(int is_true)
+{
+    static uint8_t own[GUARD_ANSWER_LENGTH];
+    unsigned first = first_number(REPLY);
+    guard_outcome o = hand_in(REPLY);
+    MUST(first ? o.kind == GUARD_REFUSED && o.number == first : o.kind != GUARD_REFUSED);
+    if (first)
+        return;
+    known.pending = 0;
+    if (o.kind == GUARD_STOPPED) {
+        MUST(o.number >= 1 && o.number <= 7);
+        MUST(!is_true || (o.number == GUARD_STOP_PAGE && !host_is_sure()));
+        known.stopped = 1;
+        return;
+    }
+    check_taken(own, host_reply(known.asked, known.asked_length, own));
+    host_obey(known.asked, known.asked_length, input.at);
+    if (o.kind == GUARD_ASK)
+        check_request(o);
+    else
+        check_done(o);
+}
+
+/* The last save, and its digest by other code. */
+static void on_save(void)
+{
+    unsigned first = first_number(SAVE);
+    uint8_t right[GUARD_DIGEST_LENGTH];
+    guard_outcome o = hand_in(SAVE);
+    MUST(!first || (o.kind == GUARD_REFUSED && o.number == first));
+    if (o.kind == GUARD_REFUSED) {
+        MUST(first || (o.number == GUARD_SHORT_BUFFER && image.length < GUARD_IMAGE_LENGTH));
+        return;
+    }
+    MUST(o.kind == GUARD_DONE && o.number == o.length && o.length >= 23);
+    plain_sha256(image.at, o.length, right);
+    MUST(same(right, digest.at, sizeof right));
+    memcpy(known.image, image.at, o.length);
+    memcpy(known.digest, right, sizeof right);
+    known.saved_length = o.length;
+    known.saved = 1;
+    host_saved();
+}
+
+static void lend(struct record r, size_t image_length)
+{
+    put_back();
+    place_lend(&answer, GUARD_ANSWER_LENGTH - (size_t)r.short_answer);
+    place_lend(&request, GUARD_REQUEST_LENGTH - (size_t)r.short_request);
+    place_lend(&image, image_length);
+    place_lend(&digest, GUARD_DIGEST_LENGTH);
+}
+
+/* An image whose digest is right is loaded just where it is one that a guard saves: it is then what is saved. */
+static void on_load(void)
+{
+    unsigned first = first_number(LOAD);
+    uint8_t right[GUARD_DIGEST_LENGTH];
+    plain_sha256(input.at, input.length, right);
+    int is_right = seal.length == sizeof right && same(seal.at, right, sizeof right);
+    guard_outcome o = hand_in(LOAD);
+    MUST(!first || (o.kind == GUARD_REFUSED && o.number == first));
+    if (o.kind == GUARD_REFUSED) {
+        MUST(first || o.number == (is_right ? GUARD_UNSOUND_IMAGE : GUARD_WRONG_DIGEST));
+        return;
+    }
+    MUST(o.kind == GUARD_DONE && o.number == 0 && o.length == 0 && is_right);
+    known.loaded = 1;
+    if (known.saved && known.saved_length == input.length && same(known.image, input.at, input.length))
+        host_loaded();
+    else
+        host_loaded_image(input.at);
+    lend((struct record){0}, GUARD_IMAGE_LENGTH);
+    on_save();
+    MUST(known.saved && known.saved_length == input.length && same(known.image, input.at, input.length));
+}
+
+/* ---- an input */
+
+static void move_guard(void)
+{
+    struct place old = memory;
+    memory = elsewhere;
+    elsewhere = old;
+    place_hold(&memory, old.at, GUARD_MEMORY_LENGTH);
+    place_clear(&elsewhere);
+}
+
+static void load(const uint8_t *bytes, size_t n, const uint8_t *of, size_t length)
+{
+    place_input(&input, bytes, n);
+    place_input(&seal, of, length);
+    on_load();
+}
+
+static void load_bytes(struct record r)
+{
+    uint8_t right[GUARD_DIGEST_LENGTH];
+    plain_sha256(r.bytes, r.length, right);
+    if (r.what == LOAD_BADLY)
+        right[r.length % GUARD_DIGEST_LENGTH] ^= 1;
+    load(r.bytes, r.length, right, sizeof right - (size_t)r.short_answer);
+}
+
+static void true_reply(void)
+{
+    static uint8_t reply[GUARD_ANSWER_LENGTH];
+    size_t n = known.pending ? host_reply(known.asked, known.asked_length, reply) : 0;
+    place_input(&input, reply, n);
+    on_reply(1);
+}
+
+static void do_record(struct record r)
+{
+    lend(r, r.what == SAVE && r.length >= 2 ? (size_t)field(r.bytes, 2) : GUARD_IMAGE_LENGTH);
+    switch (r.what) {
+    case CALL: place_input(&input, r.bytes, r.length); on_call(); break;
+    case REPLY: place_input(&input, r.bytes, r.length); on_reply(0); break;
+    case TRUE_REPLY: true_reply(); break;
+    case SAVE: on_save(); break;
+    case LOAD_SAVED: load(known.image, known.saved_length, known.digest, known.saved ? GUARD_DIGEST_LENGTH : 0); break;
+    case MOVE: move_guard(); break;
+    default: load_bytes(r);
+    }
+}
+
+/* What can be saved is loaded by a fresh guard. */
+static void come_back(void)
+{
+    known.saved = 0;
+    do_record((struct record){.what = SAVE});
+    if (!known.saved)
+        return;
+    MUST(guard_entry_fresh(memory.at, memory.length).kind == GUARD_DONE);
+    known.loaded = 0;
+    do_record((struct record){.what = LOAD_SAVED});
+    MUST(known.loaded);
+}
+
+int LLVMFuzzerInitialize(int *n, char ***words)
+{
+    (void)n;
+    (void)words;
+    places_begin(0);
+    memory = place_for("memory", GUARD_MEMORY_LENGTH);
+    elsewhere = place_for("memory", GUARD_MEMORY_LENGTH);
+    answer = place_for("answer", GUARD_ANSWER_LENGTH);
+    request = place_for("request", GUARD_REQUEST_LENGTH);
+    image = place_for("image", INPUT);
+    digest = place_for("digest", GUARD_DIGEST_LENGTH);
+    input = place_for("input", INPUT);
+    seal = place_for("seal", GUARD_DIGEST_LENGTH);
+    return 0;
+}
+
+int LLVMFuzzerTestOneInput(const uint8_t *data, size_t size)
+{
+    struct record r;
+    size_t took;
+    if (!size)
+        return 0;
+    put_back();
+    places_turn(data[0] & 1, data[0] / 2 % 8);
+    memset(&known, 0, sizeof known);
+    host_begin();
+    place_clear(&memory);
+    place_lend(&memory, GUARD_MEMORY_LENGTH);
+    MUST(guard_entry_fresh(memory.at, memory.length).kind == GUARD_DONE);
+    data++, size--;
+    for (int i = 0; i < EVENTS && (took = record_read(data, size, &r)); i++) {
+        do_record(r);
+        data += took;
+        size -= took;
+    }
+    come_back();
+    return 0;
+}

@@ -1,0 +1,223 @@
+#include "host.h"
+#include "guard.h"
+
+#include <string.h>
+
+enum { KEPT = 1024, NO_DESCRIPTOR = GUARD_DESCRIPTORS };
+
+struct node {
+    uint8_t path[GUARD_PATH_LENGTH];
+    size_t length; /* of the path; the root's is 0 */
+    uint32_t id, parent, size, descriptor;
+    uint8_t kind, mode, name_length;
+};
+
+struct tree {
+    struct node nodes[GUARD_NODES];
+    size_t count, stored; /* nodes, and pages in the log */
+    int is_sure;
+};
+
+static struct tree tree, saved;
+static struct { uint32_t id, number; uint8_t page[GUARD_PAGE_LENGTH]; } pages[KEPT]; /* every page that was stored, the latest last */
+static uint32_t next_id;
+
+static uint32_t field(const uint8_t *at)
+{
+    return at[0] + 256u * at[1] + 65536u * at[2] + 16777216u * at[3];
+}
+
+static size_t put(uint32_t n, uint8_t *to)
+{
+    for (int i = 0; i < 4; i++)
+        to[i] = (uint8_t)(n >> 8 * i);
+    return 4;
+}
+
+/* ---- nodes */
+
+static struct node *by_path(const uint8_t *path, size_t length)
+{
+    length = length == 1 ? 0 : length;
+    for (size_t i = 0; i < tree.count; i++)
+        if (tree.nodes[i].length == length && !memcmp(tree.nodes[i].path, path, length))
+            return &tree.nodes[i];
+    return tree.nodes;
+}
+
+static struct node *by_descriptor(uint32_t descriptor)
+{
+    for (size_t i = 0; i < tree.count; i++)
+        if (tree.nodes[i].descriptor == descriptor)
+            return &tree.nodes[i];
+    return NULL;
+}
+
+static struct node *by_id(uint32_t id)
+{
+    for (size_t i = 0; i < tree.count; i++)
+        if (tree.nodes[i].id == id)
+            return &tree.nodes[i];
+    return NULL;
+}
+
+static struct node *add(uint32_t id, uint8_t kind, uint8_t mode, const uint8_t *path, size_t length)
+{
+    size_t name = length;
+    if (tree.count == GUARD_NODES)
+        return tree.nodes;
+    while (name > 0 && path[name - 1] != '/')
+        name--;
+    uint32_t parent = length ? by_path(path, name > 1 ? name - 1 : 1)->id : 0;
+    struct node *n = &tree.nodes[tree.count++];
+    *n = (struct node){{0}, length, id, parent, 0, NO_DESCRIPTOR, kind, mode, (uint8_t)(length - name)};
+    memcpy(n->path, path, length);
+    return n;
+}
+
+static void take_out(struct node *n)
+{
+    size_t behind = (size_t)(tree.nodes + tree.count - n) - 1;
+    memmove(n, n + 1, behind * sizeof *n);
+    tree.count--;
+}
+
+void host_begin(void)
+{
+    memset(&tree, 0, sizeof tree);
+    saved = tree;
+    tree.is_sure = 1;
+    next_id = 2;
+    add(1, GUARD_DIRECTORY, 7, (const uint8_t *)"", 0);
+}
+
+/* ---- replies */
+
+static uint32_t new_id(void)
+{
+    while (by_id(next_id))
+        next_id++;
+    return next_id;
+}
+
+static uint32_t new_descriptor(void)
+{
+    uint32_t descriptor = 0;
+    while (by_descriptor(descriptor))
+        descriptor++;
+    return descriptor;
+}
+
+static size_t fetch(const struct node *n, uint32_t number, uint8_t *reply)
+{
+    size_t i = tree.stored < KEPT ? tree.stored : KEPT;
+    memset(reply, 0, GUARD_PAGE_LENGTH);
+    while (n && i-- > 0)
+        if (pages[i].id == n->id && pages[i].number == number) {
+            memcpy(reply, pages[i].page, GUARD_PAGE_LENGTH);
+            break;
+        }
+    return GUARD_PAGE_LENGTH;
+}
+
+static size_t list(const struct node *directory, uint8_t *reply)
+{
+    size_t at = 0;
+    for (struct node *n = tree.nodes; n < tree.nodes + tree.count; n++) {
+        if (n->parent != directory->id)
+            continue;
+        at += put(n->id, reply + at);
+        reply[at++] = n->kind;
+        reply[at++] = n->name_length;
+        memcpy(reply + at, n->path + n->length - n->name_length, n->name_length);
+        at += n->name_length;
+    }
+    return at;
+}
+
+static size_t stat_of(const struct node *n, uint8_t *reply)
+{
+    put(n->id, reply);
+    reply[4] = n->kind;
+    reply[5] = n->mode;
+    put(n->size, reply + 6);
+    return 10;
+}
+
+size_t host_reply(const uint8_t *request, size_t length, uint8_t *reply)
+{
+    switch (request[0]) {
+    case GUARD_CREATE: case GUARD_MKDIR: return put(new_id(), reply);
+    case GUARD_OPEN: return put(new_descriptor(), reply);
+    case GUARD_FETCH: return fetch(by_descriptor(field(request + 1)), field(request + 5), reply);
+    case GUARD_STORE: return put(GUARD_PAGE_LENGTH, reply);
+    case GUARD_READDIR: return list(by_path(request + 1, length - 1), reply);
+    case GUARD_STAT: return stat_of(by_path(request + 1, length - 1), reply);
+    default: return put(0, reply);
+    }
+}
+
+/* ---- requests that are obeyed */
+
+static void store(struct node *n, const uint8_t *request)
+{
+    if (!n)
+        return;
+    n->size = field(request + 9);
+    if (tree.stored == KEPT) {
+        tree.is_sure = 0;
+        return;
+    }
+    pages[tree.stored].id = n->id;
+    pages[tree.stored].number = field(request + 5);
+    memcpy(pages[tree.stored].page, request + 13, GUARD_PAGE_LENGTH);
+    tree.stored++;
+}
+
+void host_obey(const uint8_t *request, size_t length, const uint8_t *reply)
+{
+    struct node *opened = by_descriptor(field(request + 1));
+    switch (request[0]) {
+    case GUARD_CREATE: add(field(reply), GUARD_FILE, request[1], request + 2, length - 2); break;
+    case GUARD_MKDIR: add(field(reply), GUARD_DIRECTORY, request[1], request + 2, length - 2); break;
+    case GUARD_OPEN: by_path(request + 2, length - 2)->descriptor = field(reply); break;
+    case GUARD_CLOSE: if (opened) opened->descriptor = NO_DESCRIPTOR; break;
+    case GUARD_STORE: store(opened, request); break;
+    case GUARD_CUT: if (opened) opened->size = field(request + 5); break;
+    case GUARD_REMOVE: case GUARD_RMDIR: take_out(by_path(request + 1, length - 1)); break;
+    case GUARD_CHMOD: by_path(request + 2, length - 2)->mode = request[1]; break;
+    }
+}
+
+/* ---- saves and loads: the log of pages only grows, so a tree that comes back finds its pages by its own count */
+
+void host_saved(void)
+{
+    saved = tree;
+}
+
+void host_loaded(void)
+{
+    tree = saved;
+}
+
+void host_loaded_image(const uint8_t *image)
+{
+    uint32_t left = field(image);
+    host_begin();
+    tree.is_sure = 0;
+    tree.nodes[0].mode = image[13];
+    for (image += 4 + 15; --left > 0; image += 15 + image[14]) {
+        uint8_t path[GUARD_PATH_LENGTH + 1];
+        const struct node *parent = by_id(field(image + 4));
+        memcpy(path, parent->path, parent->length);
+        path[parent->length] = '/';
+        memcpy(path + parent->length + 1, image + 15, image[14]);
+        add(field(image), image[8], image[9], path, parent->length + 1 + image[14])->size = field(image + 10);
+    }
+}
+
+int host_is_sure(void)
+{
+    return tree.is_sure;
+}

@@ -1,0 +1,27 @@
+/* An honest host for the fuzzer. It keeps a plain tree: what it was asked for, as the guard took the replies. Its own replies are then right, and
+ * the guard may not stop at one. */
+#ifndef HOST_H
+#define HOST_H
+
+#include <stddef.h>
+#include <stdint.h>
+
+void host_begin(void);
+
+/* The right reply to a request; its length. */
+size_t host_reply(const uint8_t *request, size_t length, uint8_t *reply);
+
+/* The guard took a reply, the host's or another: the request is obeyed. */
+void host_obey(const uint8_t *request, size_t length, const uint8_t *reply);
+
+/* A save, and a load of it. */
+void host_saved(void);
+void host_loaded(void);
+
+/* A load of a sound image that no save gave: its tree, the files taken to be of zeros. */
+void host_loaded_image(const uint8_t *image);
+
+/* Whether the host can be sure of its pages: none was lost, and all images were saved before. */
+int host_is_sure(void);
+
+#endif

@@ -1,0 +1,29 @@
+/* The fuzzer's input: records of one byte that says what is handed in, a length (2, little-endian) and so many bytes, fewer at the end. */
+#ifndef RECORDS_H
+#define RECORDS_H
+
+#include <stddef.h>
+#include <stdint.h>
+
+enum what {
+    CALL,
+    REPLY,
+    TRUE_REPLY,   /* a reply that the host works out */
+    SAVE,         /* into a buffer whose length is the first two bytes, or into the longest */
+    LOAD,         /* the bytes as an image, with its digest */
+    LOAD_BADLY,   /* with another digest, or one that is cut short */
+    LOAD_SAVED,   /* what was saved last */
+    MOVE          /* the guard goes to another address */
+};
+
+struct record {
+    enum what what;
+    int short_answer, short_request; /* buffers one byte too short */
+    const uint8_t *bytes;
+    size_t length;
+};
+
+/* The first record of n bytes; how many it takes, 0 where there is none. */
+size_t record_read(const uint8_t *data, size_t n, struct record *r);
+
+#endif
