@@ -114,6 +114,8 @@ guard_outcome __wrap_guard_entry_call(uint8_t *memory, size_t n, const uint8_t *
 guard_outcome __wrap_guard_entry_reply(uint8_t *memory, size_t n, const uint8_t *reply, size_t l, uint8_t *answer, size_t a, uint8_t *request, size_t q)
 {
     guard_outcome o = __real_guard_entry_reply(memory, n, reply, l, answer, a, request, q);
+    if (o.kind == GUARD_DONE && !o.length && change_is("a stop at a right reply"))
+        o = (guard_outcome){GUARD_STOPPED, GUARD_STOP_STATUS, 0};
     to_memory(memory, n);
     to_input(reply, l);
     to_buffers(o, answer, a, request, q);

@@ -80,28 +80,46 @@ static void untouched(struct place *p, size_t first)
     MUST(place_untouched(p, first));
 }
 
-/* One event: no byte is touched that the outcome does not promise. What is given out stays where it is until `put_back`. */
+/* What the last event gave out: it stays where it is until `put_back`. */
+static struct { size_t answer, request, image, digest; } given;
+
+/* One event: no byte is touched that the outcome does not promise. */
 static guard_outcome hand_in(enum what what)
 {
     guard_outcome o = enter(what);
     MUST(o.kind >= GUARD_DONE && o.kind <= GUARD_STOPPED);
     MUST(o.kind <= GUARD_ASK || o.length == 0);
-    untouched(&answer, o.kind == GUARD_DONE && what <= REPLY ? o.length : 0);
-    untouched(&request, o.kind == GUARD_ASK ? o.length : 0);
-    untouched(&image, o.kind == GUARD_DONE && what == SAVE ? o.length : 0);
-    untouched(&digest, o.kind == GUARD_DONE && what == SAVE ? GUARD_DIGEST_LENGTH : 0);
+    given.answer = o.kind == GUARD_DONE && what <= REPLY ? o.length : 0;
+    given.request = o.kind == GUARD_ASK ? o.length : 0;
+    given.image = o.kind == GUARD_DONE && what == SAVE ? o.length : 0;
+    given.digest = o.kind == GUARD_DONE && what == SAVE ? GUARD_DIGEST_LENGTH : 0;
+    untouched(&answer, given.answer);
+    untouched(&request, given.request);
+    if (what == SAVE) {
+        untouched(&image, given.image);
+        untouched(&digest, given.digest);
+    }
     untouched(&memory, memory.length);
-    untouched(&elsewhere, 0);
     count(what, o);
     return o;
 }
 
 static void put_back(void)
 {
-    place_restore(&answer, answer.length);
-    place_restore(&request, request.length);
-    place_restore(&image, image.length);
-    place_restore(&digest, digest.length);
+    place_restore(&answer, given.answer);
+    place_restore(&request, given.request);
+    place_restore(&image, given.image);
+    place_restore(&digest, given.digest);
+    memset(&given, 0, sizeof given);
+}
+
+/* At the end: a byte that was touched where nothing was lent is still so. */
+static void nothing_touched(void)
+{
+    put_back();
+    untouched(&image, 0);
+    untouched(&digest, 0);
+    untouched(&elsewhere, 0);
 }
 
 /* ---- what document 01 says of every outcome */
@@ -279,6 +297,7 @@ static void on_load(void)
 static void move_guard(void)
 {
     struct place old = memory;
+    untouched(&elsewhere, 0);
     memory = elsewhere;
     elsewhere = old;
     place_hold(&memory, old.at, GUARD_MEMORY_LENGTH);
@@ -372,5 +391,6 @@ int LLVMFuzzerTestOneInput(const uint8_t *data, size_t size)
         size -= took;
     }
     come_back();
+    nothing_touched();
     return 0;
 }

@@ -3,7 +3,7 @@
 #include <stdlib.h>
 #include <string.h>
 
-enum { HEAD = 3, MOST = 64 };
+enum { HEAD = 3, MOST = 300 };
 
 size_t record_read(const uint8_t *data, size_t n, struct record *r)
 {
@@ -73,10 +73,10 @@ static size_t copy_record(uint8_t *data, size_t size, size_t most, size_t at, si
     return size;
 }
 
-size_t LLVMFuzzerCustomMutator(uint8_t *data, size_t size, size_t most, unsigned seed)
+static size_t mutate_records(uint8_t *data, size_t size, size_t most, unsigned seed)
 {
     size_t count = find_records(data, size);
-    if (!count || seed % 16 == 0)
+    if (!count)
         return LLVMFuzzerMutate(data, size, most);
     size_t i = seed / 16 % count, at = starts[i], end = starts[i + 1];
     switch (seed % 5) {
@@ -85,4 +85,12 @@ size_t LLVMFuzzerCustomMutator(uint8_t *data, size_t size, size_t most, unsigned
     case 2: data[at] = (uint8_t)(seed / 1024 % 8 | (seed % 7 ? 0 : seed / 8192 % 4 << 6)); return size;
     default: return mutate_bytes(data, size, most, at, end);
     }
+}
+
+/* The first byte is no record's. */
+size_t LLVMFuzzerCustomMutator(uint8_t *data, size_t size, size_t most, unsigned seed)
+{
+    if (size < 2 || seed % 16 == 0)
+        return LLVMFuzzerMutate(data, size, most);
+    return 1 + mutate_records(data + 1, size - 1, most - 1, seed);
 }
