@@ -106,19 +106,27 @@ pub fn pages_for(size: u32) -> usize
     (size as usize + LAST_BYTE) / limits::PAGE_BYTES
 }
 
+// How many pages the first n nodes have, where the first k have s.
+fn pages_on(m: &[u8], k: usize, s: usize, n: usize) -> usize
+    requires { ⌜ (k ≤ n) × (n ≤ NODES) × (s ≡ pageTotal (take k (memOf (now m) .nodes))) × (s ≤ k * 4194304) × (memorySize ≤ length (now m)) ⌝ }
+    ensures { λ r. ⌜ (r ≡ pageTotal (take n (memOf (now (m .entry)) .nodes))) × (r ≤ n * 4194304) ⌝ }
+{
+    let mut t = s;
+    let mut i = k;
+    // t pages in the first i nodes
+    while i < n {
+        t += pages_for(memory::node_size(m, i));
+        i += 1;
+    }
+    t
+}
+
 // How many pages the first k nodes have: where the digests of node k begin.
 pub fn first_page(m: &[u8], k: usize) -> usize
     requires { ⌜ (k ≤ NODES) × (memorySize ≤ length (now m)) ⌝ }
     ensures { λ r. ⌜ (r ≡ pageTotal (take k (memOf (now (m .entry)) .nodes))) × (r ≤ k * 4194304) ⌝ }
 {
-    let mut s = 0;
-    let mut i = 0;
-    // s pages in the first i nodes
-    while i < k {
-        s += pages_for(memory::node_size(m, i));
-        i += 1;
-    }
-    s
+    pages_on(m, 0, 0, k)
 }
 
 // ---- changes of nodes and open files
@@ -140,7 +148,7 @@ pub fn remove_node(m: &mut [u8], n: usize, k: usize)
 {
     let first = first_page(m, k);
     let next = first + pages_for(memory::node_size(m, k));
-    let total = first_page(m, n);
+    let total = pages_on(m, k + 1, next, n);
     memory::move_digests(m, next, first, total - next);
     memory::move_nodes(m, k + 1, k, n - (k + 1));
 }
@@ -199,15 +207,15 @@ pub fn can_change(m: &[u8], n: usize, k: usize, size: u32, from: usize, count: u
         return false;
     }
     let old = pages_for(memory::node_size(m, k));
+    let new = pages_for(size);
     let total = first_page(m, n);
-    let after = pages_with(m, n, k, size);
     if limits::PAGES < total {
         return false;
     }
-    if limits::PAGES < after {
+    if limits::PAGES < total - old + new {
         return false;
     }
-    pages_change(old, pages_for(size), from, count)
+    pages_change(old, new, from, count)
 }
 
 // The same of the page counts alone.
@@ -242,7 +250,7 @@ pub fn finish_change(m: &mut [u8], n: usize, k: usize, size: u32, from: usize, c
     let first = first_page(m, k);
     let next = first + pages_for(memory::node_size(m, k));
     let end = first + pages_for(size);
-    let total = first_page(m, n);
+    let total = pages_on(m, k + 1, next, n);
     memory::move_digests(m, next, end, total - next);
     memory::keep_digests(m, first + from, count);
     memory::set_size(m, k, size);
