@@ -6,7 +6,7 @@ ghost use mathlib.Core.List.{List, []};
 ghost use lib.ListN.{length, getD, take};
 ghost use Rattle.lists.specs.Equal.{equal};
 ghost use Rattle.digest.specs.Sha256.{sha256};
-ghost use Rattle.filesystem.specs.Tables.{NODES, PAGES, DIGEST-BYTES, findId, findChild, children, findHandle, findDescriptor, nodeAt, pagesFor, pageTotal, setSize};
+ghost use Rattle.filesystem.specs.Tables.{NODES, PAGES, findId, findChild, children, findHandle, findDescriptor, nodeAt, pagesFor, pageTotal, setSize};
 ghost use Rattle.filesystem.specs.Image.{divide};
 ghost use Rattle.memory.specs.Records.{nodeOf, openOf};
 ghost use Rattle.memory.specs.Layout.{memOf, memorySize, openRows};
@@ -171,22 +171,17 @@ pub fn remove_open(m: &mut [u8], o: usize, k: usize)
     memory::move_opens(m, k + 1, k, o - (k + 1));
 }
 
-// The kept digest of page i of node k.
-pub fn page_digest(m: &[u8], n: usize, k: usize, i: usize) -> &[u8]
-    requires { ⌜ (k < n) × (n ≤ NODES) × (i < pagesFor (nodeAt (memOf (now m) .nodes) k .size)) × (pageTotal (take n (memOf (now m) .nodes)) ≤ PAGES) × (memorySize ≤ length (now m)) ⌝ }
-    ensures { λ r. ⌜ (now r ≡ getD (getD (divide (take n (memOf (now (m .entry)) .nodes)) (memOf (now (m .entry)) .digests)) k []) i []) × (length (now r) ≡ DIGEST-BYTES) ⌝ }
+// Whether these bytes are page i of node k: their SHA-256 is the kept one. Where no digest can stand, none is kept.
+pub fn is_page(m: &[u8], k: usize, i: usize, page: &[u8]) -> bool
+    requires { ⌜ (k < NODES) × (i < 4194304) × (memorySize ≤ length (now m)) ⌝ }
+    ensures { λ r. ⌜ ((n : ℕ) → k < n → n ≤ NODES → i < pagesFor (nodeAt (memOf (now (m .entry)) .nodes) k .size) → pageTotal (take n (memOf (now (m .entry)) .nodes)) ≤ PAGES → r ≡ equal (sha256 (now (page .entry))) (getD (getD (divide (take n (memOf (now (m .entry)) .nodes)) (memOf (now (m .entry)) .digests)) k []) i [])) ⌝ }
 {
-    let first = first_page(m, k);
-    memory::digest(m, first + i)
-}
-
-// Whether these bytes are page i of node k: their SHA-256 is the kept one.
-pub fn is_page(m: &[u8], n: usize, k: usize, i: usize, page: &[u8]) -> bool
-    requires { ⌜ (k < n) × (n ≤ NODES) × (i < pagesFor (nodeAt (memOf (now m) .nodes) k .size)) × (pageTotal (take n (memOf (now m) .nodes)) ≤ PAGES) × (memorySize ≤ length (now m)) ⌝ }
-    ensures { λ r. ⌜ r ≡ equal (sha256 (now (page .entry))) (getD (getD (divide (take n (memOf (now (m .entry)) .nodes)) (memOf (now (m .entry)) .digests)) k []) i []) ⌝ }
-{
+    let at = first_page(m, k) + i;
+    if limits::PAGES <= at {
+        return false;
+    }
     let d = digest::sha256(page);
-    buffers::same(&d, page_digest(m, n, k, i))
+    buffers::same(&d, memory::digest(m, at))
 }
 
 // How many pages all files have where node k is of this size.
