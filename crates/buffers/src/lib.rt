@@ -227,6 +227,10 @@ pub fn shift(m: &mut [u8], from: usize, to: usize, n: usize)
     requires { ⌜ (from + n ≤ length (now m)) × (to + n ≤ length (now m)) ⌝ }
     ensures { λ _. ⌜ now (m .exit) ≡ overwrite (now (m .entry)) to (part from n (now (m .entry))) ⌝ }
 {
+    // a file that keeps its count of pages moves nothing behind it
+    if from == to {
+        return;
+    }
     if to <= from {
         shift_down(m, from, to, n);
     } else {

@@ -115,10 +115,7 @@ pub fn judge_page(m: &[u8], n: usize, k: usize, i: usize, reply: &[u8]) -> u8
     if tables::pages_for(memory::node_size(m, k)) <= i {
         return 5;
     }
-    if limits::PAGES < tables::first_page(m, n) {
-        return 5;
-    }
-    if tables::is_page(m, n, k, i, reply) {
+    if tables::is_page(m, k, i, reply) {
         return 0;
     }
     5

@@ -3,17 +3,17 @@
 use mathlib.Core.Path.{_≡_, refl, ap, ap₂, sym, _∙_}
 use mathlib.Core.List.{List, [], _∷_, _++_, map, head-eq-of-cons-eq, tail-eq-of-cons-eq, nil≢cons, cons≢nil}
 use Prim.Native.Nat.{ℕ, suc, _+_, _-_, _/_, _≤_, _<_}
-use native.Mathlib.Nat.{zero-add, add-assoc, add-zero}
+use native.Mathlib.Nat.{add-zero}
+use native.Mathlib.Numerals.{add-one}
 use native.Mathlib.Omega.{arith}
 use lib.ListN.{length, getD, take, drop, set}
-use lib.Seq.{take-take, getD-take, drop-drop, split-at, set-at, getD-at, set-split, length-take-le, take-at, drop-append-add}
+use lib.Seq.{take-suc, take-take, getD-take, drop-drop, split-at, set-at, getD-at, set-split, length-take-le, take-at, drop-append-add}
 use Rattle.lists.specs.Parts.{part, overwrite}
 use Rattle.lists.specs.PartLaws.{drop-take, getD-part, length-part, part-before, part-within, overwrite-all}
 use Rattle.lists.specs.Search.{without}
 use Rattle.filesystem.specs.Tables.{Node, noNode, nodeAt, pagesFor, pageTotal}
 use Rattle.filesystem.specs.SoundLaws.{pageTotal-append}
 use Rattle.filesystem.specs.Image.{divide}
-use Rattle.lists.specs.Scans.{rest, rest-none}
 
 -- only the first digests count, as many as there are pages
 divide-front : (ns : List Node) (ds : List (List ℕ)) → divide ns (take (pageTotal ns) ds) ≡ divide ns ds
@@ -56,16 +56,10 @@ pub divide-snoc : (ns : List Node) (x : Node) (ds : List (List ℕ)) → x .size
 unfolding divide pagesFor
 divide-snoc ns x ds e = divide-append ns (x ∷ []) ds ∙ ap (λ s. divide ns ds ++ (take ((s + 1023) / 1024) (drop (pageTotal ns) ds) ∷ [])) e
 
--- the pages of the first k nodes, counted one node more
-module _ (l : List Node) (k i s : ℕ) (fits : k ≤ length l) (inv : pageTotal (take k l) ≡ s + pageTotal (drop i (take k l))) where
-  pub total-more : i < k → pageTotal (take k l) ≡ s + pagesFor (nodeAt l i .size) + pageTotal (drop (i + 1) (take k l))
-  unfolding pageTotal nodeAt
-  total-more h =
-      inv ∙ ap (λ r. s + pageTotal r) (rest noNode l k i fits h) ∙ sym (add-assoc s (pagesFor (getD l i noNode .size)) (pageTotal (drop (i + 1) (take k l))))
-
-  pub total-end : k ≤ i → pageTotal (take k l) ≡ s
-  unfolding pageTotal
-  total-end h = inv ∙ ap (λ r. s + pageTotal r) (rest-none noNode l k i fits h) ∙ add-zero s
+-- the pages of the first i nodes and of one more
+pub total-next : (l : List Node) (i : ℕ) → i < length l → pageTotal (take (i + 1) l) ≡ pageTotal (take i l) + pagesFor (nodeAt l i .size)
+unfolding pageTotal nodeAt
+total-next l i h = rw (add-one i, take-suc l i noNode h, pageTotal-append (take i l) (getD l i noNode ∷ [])) (omega arith)
 
 -- Node k among the others: its digests stand between those of the nodes before it and those of the nodes behind it.
 module _ (ns : List Node) (k : ℕ) (known : k < length ns) where

@@ -6,7 +6,7 @@ ghost use mathlib.Core.List.{List, []};
 ghost use lib.ListN.{length, getD, take};
 ghost use Rattle.lists.specs.Equal.{equal};
 ghost use Rattle.digest.specs.Sha256.{sha256};
-ghost use Rattle.filesystem.specs.Tables.{NODES, PAGES, DIGEST-BYTES, findId, findChild, children, findHandle, findDescriptor, nodeAt, pagesFor, pageTotal, setSize};
+ghost use Rattle.filesystem.specs.Tables.{NODES, PAGES, findId, findChild, children, findHandle, findDescriptor, nodeAt, pagesFor, pageTotal, setSize};
 ghost use Rattle.filesystem.specs.Image.{divide};
 ghost use Rattle.memory.specs.Records.{nodeOf, openOf};
 ghost use Rattle.memory.specs.Layout.{memOf, memorySize, openRows};
@@ -106,19 +106,27 @@ pub fn pages_for(size: u32) -> usize
     (size as usize + LAST_BYTE) / limits::PAGE_BYTES
 }
 
+// How many pages the first n nodes have, where the first k have s.
+fn pages_on(m: &[u8], k: usize, s: usize, n: usize) -> usize
+    requires { ⌜ (k ≤ n) × (n ≤ NODES) × (s ≡ pageTotal (take k (memOf (now m) .nodes))) × (s ≤ k * 4194304) × (memorySize ≤ length (now m)) ⌝ }
+    ensures { λ r. ⌜ (r ≡ pageTotal (take n (memOf (now (m .entry)) .nodes))) × (r ≤ n * 4194304) ⌝ }
+{
+    let mut t = s;
+    let mut i = k;
+    // t pages in the first i nodes
+    while i < n {
+        t += pages_for(memory::node_size(m, i));
+        i += 1;
+    }
+    t
+}
+
 // How many pages the first k nodes have: where the digests of node k begin.
 pub fn first_page(m: &[u8], k: usize) -> usize
     requires { ⌜ (k ≤ NODES) × (memorySize ≤ length (now m)) ⌝ }
     ensures { λ r. ⌜ (r ≡ pageTotal (take k (memOf (now (m .entry)) .nodes))) × (r ≤ k * 4194304) ⌝ }
 {
-    let mut s = 0;
-    let mut i = 0;
-    // s pages in the first i nodes
-    while i < k {
-        s += pages_for(memory::node_size(m, i));
-        i += 1;
-    }
-    s
+    pages_on(m, 0, 0, k)
 }
 
 // ---- changes of nodes and open files
@@ -140,7 +148,7 @@ pub fn remove_node(m: &mut [u8], n: usize, k: usize)
 {
     let first = first_page(m, k);
     let next = first + pages_for(memory::node_size(m, k));
-    let total = first_page(m, n);
+    let total = pages_on(m, k + 1, next, n);
     memory::move_digests(m, next, first, total - next);
     memory::move_nodes(m, k + 1, k, n - (k + 1));
 }
@@ -163,22 +171,17 @@ pub fn remove_open(m: &mut [u8], o: usize, k: usize)
     memory::move_opens(m, k + 1, k, o - (k + 1));
 }
 
-// The kept digest of page i of node k.
-pub fn page_digest(m: &[u8], n: usize, k: usize, i: usize) -> &[u8]
-    requires { ⌜ (k < n) × (n ≤ NODES) × (i < pagesFor (nodeAt (memOf (now m) .nodes) k .size)) × (pageTotal (take n (memOf (now m) .nodes)) ≤ PAGES) × (memorySize ≤ length (now m)) ⌝ }
-    ensures { λ r. ⌜ (now r ≡ getD (getD (divide (take n (memOf (now (m .entry)) .nodes)) (memOf (now (m .entry)) .digests)) k []) i []) × (length (now r) ≡ DIGEST-BYTES) ⌝ }
+// Whether these bytes are page i of node k: their SHA-256 is the kept one. Where no digest can stand, none is kept.
+pub fn is_page(m: &[u8], k: usize, i: usize, page: &[u8]) -> bool
+    requires { ⌜ (k < NODES) × (i < 4194304) × (memorySize ≤ length (now m)) ⌝ }
+    ensures { λ r. ⌜ ((n : ℕ) → k < n → n ≤ NODES → i < pagesFor (nodeAt (memOf (now (m .entry)) .nodes) k .size) → pageTotal (take n (memOf (now (m .entry)) .nodes)) ≤ PAGES → r ≡ equal (sha256 (now (page .entry))) (getD (getD (divide (take n (memOf (now (m .entry)) .nodes)) (memOf (now (m .entry)) .digests)) k []) i [])) ⌝ }
 {
-    let first = first_page(m, k);
-    memory::digest(m, first + i)
-}
-
-// Whether these bytes are page i of node k: their SHA-256 is the kept one.
-pub fn is_page(m: &[u8], n: usize, k: usize, i: usize, page: &[u8]) -> bool
-    requires { ⌜ (k < n) × (n ≤ NODES) × (i < pagesFor (nodeAt (memOf (now m) .nodes) k .size)) × (pageTotal (take n (memOf (now m) .nodes)) ≤ PAGES) × (memorySize ≤ length (now m)) ⌝ }
-    ensures { λ r. ⌜ r ≡ equal (sha256 (now (page .entry))) (getD (getD (divide (take n (memOf (now (m .entry)) .nodes)) (memOf (now (m .entry)) .digests)) k []) i []) ⌝ }
-{
+    let at = first_page(m, k) + i;
+    if limits::PAGES <= at {
+        return false;
+    }
     let d = digest::sha256(page);
-    buffers::same(&d, page_digest(m, n, k, i))
+    buffers::same(&d, memory::digest(m, at))
 }
 
 // How many pages all files have where node k is of this size.
@@ -199,15 +202,15 @@ pub fn can_change(m: &[u8], n: usize, k: usize, size: u32, from: usize, count: u
         return false;
     }
     let old = pages_for(memory::node_size(m, k));
+    let new = pages_for(size);
     let total = first_page(m, n);
-    let after = pages_with(m, n, k, size);
     if limits::PAGES < total {
         return false;
     }
-    if limits::PAGES < after {
+    if limits::PAGES < total - old + new {
         return false;
     }
-    pages_change(old, pages_for(size), from, count)
+    pages_change(old, new, from, count)
 }
 
 // The same of the page counts alone.
@@ -242,7 +245,7 @@ pub fn finish_change(m: &mut [u8], n: usize, k: usize, size: u32, from: usize, c
     let first = first_page(m, k);
     let next = first + pages_for(memory::node_size(m, k));
     let end = first + pages_for(size);
-    let total = first_page(m, n);
+    let total = pages_on(m, k + 1, next, n);
     memory::move_digests(m, next, end, total - next);
     memory::keep_digests(m, first + from, count);
     memory::set_size(m, k, size);

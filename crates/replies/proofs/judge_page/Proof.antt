@@ -19,30 +19,24 @@ returns-3 c = (
   λ e. absurd (omega arith),
 )
 
-returns-4 : tie.Need-returns-4
-returns-4 c = (λ h f g. absurd (omega (arith, c .if4 .taken, g, c .before .first-page .ensures .0)), λ e. absurd (omega arith))
-
 is-page-requires : tie.Need-is-page-requires
-is-page-requires c κs =
-    let p = c .before .before .before in (
-      omega (arith, p .before .before .if2 .left),
-      omega arith,
-      omega (arith, c .before .before .if3 .left, p .pages-for .ensures .0 ∙ ap pagesFor (p .before .node-size .ensures)),
-      omega (arith, c .if4 .left, c .before .first-page .ensures .0),
-      omega arith,
+is-page-requires c κs = (omega (arith, c .before .before .before .if2 .left), omega (arith, c .if3 .left, c .before .pages-for .ensures .1), omega arith)
+
+returns-4 : tie.Need-returns-4
+returns-4 c =
+    let i = c .before .before .before .before .before .before in
+    let a = i .before .before .before .args in (
+      λ h f g. page-right _ (a .reply .now) (i .if1 .left) (sym (c .before .is-page .ensures (a .n) h (omega arith) f g) ∙ c .if4 .taken),
+      λ e. i .if1 .left,
     )
 
 returns-5 : tie.Need-returns-5
 returns-5 c =
-    let i = c .before .before .before .before .before .before .before .before in
-    let a = i .before .before .before .args in
-    (λ h f g. page-right _ (a .reply .now) (i .if1 .left) (sym (c .before .is-page .ensures) ∙ c .if5 .taken), λ e. i .if1 .left)
-
-returns-6 : tie.Need-returns-6
-returns-6 c =
-    let i = c .before .before .before .before .before .before .before .before in
-    let a = i .before .before .before .args in
-    (λ h f g. page-wrong _ (a .reply .now) (i .if1 .left) (sym (c .before .is-page .ensures) ∙ c .if5 .left), λ e. absurd (omega arith))
+    let i = c .before .before .before .before .before .before in
+    let a = i .before .before .before .args in (
+      λ h f g. page-wrong _ (a .reply .now) (i .if1 .left) (sym (c .before .is-page .ensures (a .n) h (omega arith) f g) ∙ c .if4 .left),
+      λ e. absurd (omega arith),
+    )
 
 pub judge-page-spec : {M : Type 1} → statement M
-judge-page-spec = tie.close (tie.spec returns returns-2 (λ c κs. search needs) (λ c κs. search needs) returns-3 (λ c κs. search needs) returns-4 is-page-requires returns-5 returns-6)
+judge-page-spec = tie.close (tie.spec returns returns-2 (λ c κs. search needs) (λ c κs. search needs) returns-3 is-page-requires returns-4 returns-5)

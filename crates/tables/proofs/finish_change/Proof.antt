@@ -10,6 +10,7 @@ use Rattle.filesystem.specs.Tables.{nodeAt, pagesFor, pageTotal}
 use Rattle.memory.specs.Layout.{memOf, digestWidth, dataSize}
 use Rattle.memory.specs.MemLaws.{length-nodes, length-digests}
 use Rattle.tables.specs.View.{viewOf, stagedDigests}
+use Rattle.tables.specs.ContentLaws.{total-next}
 use Rattle.tables.specs.ChangeLaws.{room, room-in, view-change}
 use borrow.Author.Needs.{needs}
 use Rattle.tables.proofs.finish_change.Statement.{statement}
@@ -51,6 +52,30 @@ add-end c =
     let k = c .before .before .before .before .before .before .before .pre .0 .known in
     omega arith
 
+add-pages-on : tie.Need-add-pages-on
+add-pages-on c =
+    let a = c .before .before .before .before .before .before .before .before .args in
+    let ns = memOf (a .m .now) .nodes in
+    let l : length ns ≡ 256 = length-nodes (a .m .now) in
+    let e : length (take (a .n) ns) ≡ a .n = length-take-le (a .n) ns (omega arith) in
+    let k = c .before .before .before .before .before .before .before .before .pre .0 .known in
+    omega arith
+
+pages-on-requires : tie.Need-pages-on-requires
+pages-on-requires c κs =
+    let pages-for = c .before .before .pages-for in
+    let node-size = c .before .before .before .node-size in
+    let first-page = c .before .before .before .before .before .first-page in
+    let a = c .before .before .before .before .before .before .before .before .args in
+    let ns = memOf (a .m .now) .nodes in
+    let l : length ns ≡ 256 = length-nodes (a .m .now) in
+    let e : length (take (a .n) ns) ≡ a .n = length-take-le (a .n) ns (omega arith) in
+    let k = c .before .before .before .before .before .before .before .before .pre .0 .known in
+    let x : first-page .result ≡ pageTotal (take (a .k) ns) = first-page .ensures .0 in
+    let y : pages-for .result ≡ pagesFor (nodeAt ns (a .k) .size) = pages-for .ensures .0 ∙ ap pagesFor (node-size .ensures) in
+    let t = total-next ns (a .k) (omega arith) in
+    (omega arith, omega arith, omega arith, omega arith, omega arith)
+
 sub-move-digests : tie.Need-sub-move-digests
 sub-move-digests c =
     let pages-for2 = c .before .before .before .pages-for2 in
@@ -60,7 +85,7 @@ sub-move-digests c =
     let pre = c .before .before .before .before .before .before .before .before .before .before .pre in
     let a = c .before .before .before .before .before .before .before .before .before .before .args in
     let r = room-in (a .m .now) (a .n) (omega arith) (pre .0) (first-page .ensures .0) (node-size .ensures) (pages-for .ensures .0)
-    (pages-for2 .ensures .0) (c .before .first-page2 .ensures .0) in
+    (pages-for2 .ensures .0) (c .before .pages-on .ensures .0) in
     omega arith
 
 move-digests-requires : tie.Need-move-digests-requires
@@ -72,12 +97,12 @@ move-digests-requires c κs =
     let pre = c .before .before .before .before .before .before .before .before .before .before .pre in
     let a = c .before .before .before .before .before .before .before .before .before .before .args in
     let r = room-in (a .m .now) (a .n) (omega arith) (pre .0) (first-page .ensures .0) (node-size .ensures) (pages-for .ensures .0)
-    (pages-for2 .ensures .0) (c .before .first-page2 .ensures .0) in
+    (pages-for2 .ensures .0) (c .before .pages-on .ensures .0) in
     (omega arith, omega arith, omega arith)
 
 add-keep-digests : tie.Need-add-keep-digests
 add-keep-digests c =
-    let first-page2 = c .before .before .before .before .before .first-page2 in
+    let pages-on = c .before .before .before .before .before .pages-on in
     let pages-for2 = c .before .before .before .before .before .before .before .pages-for2 in
     let pages-for = c .before .before .before .before .before .before .before .before .pages-for in
     let node-size = c .before .before .before .before .before .before .before .before .before .node-size in
@@ -86,12 +111,12 @@ add-keep-digests c =
     let pre = b13 .before .pre in
     let a = c .before .before .before .before .before .before .before .before .before .before .before .before .before .before .args in
     let r = room-in (a .m .now) (a .n) (omega arith) (pre .0) (first-page .ensures .0) (node-size .ensures) (pages-for .ensures .0)
-    (pages-for2 .ensures .0) (first-page2 .ensures .0) in
+    (pages-for2 .ensures .0) (pages-on .ensures .0) in
     omega arith
 
 keep-digests-requires : tie.Need-keep-digests-requires
 keep-digests-requires c κs =
-    let first-page2 = c .before .before .before .before .before .first-page2 in
+    let pages-on = c .before .before .before .before .before .pages-on in
     let pages-for2 = c .before .before .before .before .before .before .before .pages-for2 in
     let pages-for = c .before .before .before .before .before .before .before .before .pages-for in
     let node-size = c .before .before .before .before .before .before .before .before .before .node-size in
@@ -100,12 +125,12 @@ keep-digests-requires c κs =
     let pre = b13 .before .pre in
     let a = c .before .before .before .before .before .before .before .before .before .before .before .before .before .before .args in
     let r = room-in (a .m .now) (a .n) (omega arith) (pre .0) (first-page .ensures .0) (node-size .ensures) (pages-for .ensures .0)
-    (pages-for2 .ensures .0) (first-page2 .ensures .0) in
+    (pages-for2 .ensures .0) (pages-on .ensures .0) in
     (omega arith, omega arith, omega arith)
 
 set-size-requires : tie.Need-set-size-requires
 set-size-requires c κs =
-    let first-page2 = c .before .before .before .before .before .before .before .before .before .first-page2 in
+    let pages-on = c .before .before .before .before .before .before .before .before .before .pages-on in
     let pages-for2 = c .before .before .before .before .before .before .before .before .before .before .before .pages-for2 in
     let pages-for = c .before .before .before .before .before .before .before .before .before .before .before .before .pages-for in
     let node-size = c .before .before .before .before .before .before .before .before .before .before .before .before .before .node-size in
@@ -114,7 +139,7 @@ set-size-requires c κs =
     let pre = b13 .before .before .before .before .before .pre in
     let a = c .before .before .before .before .before .before .before .before .before .before .before .before .before .before .before .before .before .before .args in
     let r = room-in (a .m .now) (a .n) (omega arith) (pre .0) (first-page .ensures .0) (node-size .ensures) (pages-for .ensures .0)
-    (pages-for2 .ensures .0) (first-page2 .ensures .0) in
+    (pages-for2 .ensures .0) (pages-on .ensures .0) in
     (omega arith, omega arith)
 
 returns : tie.Need-returns
@@ -122,7 +147,7 @@ unfolding stagedDigests
 returns c =
     let keep-digests = c .before .before .before .before .before .before .keep-digests in
     let move-digests = c .before .before .before .before .before .before .before .before .before .before .move-digests in
-    let first-page2 = c .before .before .before .before .before .before .before .before .before .before .before .before .first-page2 in
+    let pages-on = c .before .before .before .before .before .before .before .before .before .before .before .before .pages-on in
     let b13 = c .before .before .before .before .before .before .before .before .before .before .before .before .before in
     let pages-for2 = b13 .before .pages-for2 in
     let pages-for = b13 .before .before .pages-for in
@@ -135,8 +160,8 @@ returns c =
     let x : first-page .result ≡ pageTotal (take (a .k) ns) = first-page .ensures .0 in
     let y : pages-for .result ≡ pagesFor (nodeAt ns (a .k) .size) = pages-for .ensures .0 ∙ ap pagesFor (node-size .ensures) in
     let w : pages-for2 .result ≡ pagesFor (a .size) = pages-for2 .ensures .0 in
-    let z : first-page2 .result ≡ pageTotal (take (a .n) ns) = first-page2 .ensures .0 in
-    let r = room ns (a .n) (a .k) (a .size) (a .from) (a .count) (first-page .result) (pages-for .result) (pages-for2 .result) (first-page2 .result)
+    let z : pages-on .result ≡ pageTotal (take (a .n) ns) = pages-on .ensures .0 in
+    let r = room ns (a .n) (a .k) (a .size) (a .from) (a .count) (first-page .result) (pages-for .result) (pages-for2 .result) (pages-on .result)
     (omega arith) (pre .0) x y w z in
     let m = memOf (a .m .now) in
     let new = stagedDigests (a .count) (m .staged) in
@@ -144,11 +169,11 @@ returns c =
       λ q o.
           ap (viewOf (a .n) o) (c .before .before .set-size .ensures .0 ∙ rw (keep-digests .ensures .0, move-digests .ensures .0))
           ∙ view-change q m (a .n) o (a .k) (a .size) (a .from) new (first-page .result) (pages-for .result) (pages-for2 .result)
-          (first-page2 .result) (omega arith) (length-digests (a .m .now)) (rw g (pre .0)) x y w z,
+          (pages-on .result) (omega arith) (length-digests (a .m .now)) (rw g (pre .0)) x y w z,
       omega arith,
     )
 
 pub finish-change-spec : {M : Type 1} → statement M
 finish-change-spec =
-    tie.close (tie.spec first-page-requires node-size-requires (λ c κs. search needs) add-next (λ c κs. search needs) add-end (λ c κs. search needs) sub-move-digests
+    tie.close (tie.spec first-page-requires node-size-requires (λ c κs. search needs) add-next (λ c κs. search needs) add-end add-pages-on pages-on-requires sub-move-digests
     move-digests-requires add-keep-digests keep-digests-requires set-size-requires (λ c. search needs) returns)
