@@ -143,26 +143,26 @@ fn entry_end(reply: &[u8], at: usize) -> usize
     end
 }
 
-// The place of the child that the entry at `at` names, or n where there is none or its id or kind is another.
+// The place of the node with the id of the entry at `at`, or n where there is none or it is not the child that the entry names.
 fn entry_place(m: &[u8], n: usize, id: u64, reply: &[u8], at: usize, end: usize) -> usize
     requires { ⌜ (n ≤ NODES) × (memorySize ≤ length (now m)) × (end ≡ entryEnd ID-BYTES (now reply) at) × (end ≤ length (now reply)) ⌝ }
     ensures { λ r. ⌜ r ≡ entryPlace (take n (memOf (now (m .entry)) .nodes)) id (entryAt ID-BYTES (now (reply .entry)) at) ⌝ }
 {
-    let start = at + ENTRY_FRONT;
-    let k = tables::find_child(m, n, id, &reply[start..end]);
+    let k = tables::find_id(m, n, numbers::number_at(reply, at, limits::ID_BYTES));
     if n <= k {
-        return n;
-    }
-    if numbers::number_at(reply, at, limits::ID_BYTES) != memory::node_id(m, k) {
         return n;
     }
     if reply[at + limits::ID_BYTES] != memory::node_kind(m, k) {
         return n;
     }
+    let start = at + ENTRY_FRONT;
+    if !memory::is_child(m, k, id, &reply[start..end]) {
+        return n;
+    }
     k
 }
 
-// A listing of the children of the node with this id: 7 unless each has one entry. Names differ among sound nodes, so each entry has one place.
+// A listing of the children of the node with this id: 7 unless each has one entry. Ids differ among sound nodes, so each entry has one place.
 pub fn judge_listing(m: &[u8], n: usize, id: u64, reply: &[u8]) -> u8
     requires { ⌜ (n ≤ NODES) × (memorySize ≤ length (now m)) ⌝ }
     ensures { λ r. ⌜ (soundNodes ID-BYTES (take n (memOf (now (m .entry)) .nodes)) ≡ true → (k o : ℕ) → nodeAt (take n (memOf (now (m .entry)) .nodes)) k .id ≡ id → r ≡ reasonFor (tablesIn n o (memOf (now (m .entry)))) (now (reply .entry)) (asked (listing k))) ⌝ }
