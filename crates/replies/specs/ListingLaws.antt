@@ -257,6 +257,10 @@ module _ (p : ℕ) where
       go true e a = or-both _ _ (h 0 (omega arith) (and-fst _ _ e) (eqb-true _ _ (and-snd (hasParent p n) _ e))) a
       go false e a = a
 
+-- Ids differ, so a place with the id is the place.
+pub place-with-id : (ns : List Node) (j x : ℕ) → Sound ID-BYTES ns → j < length ns → nodeAt ns j .id ≡ x → j ≡ findId ns x
+place-with-id ns j x s h e = sym (ap (findId ns) (sym e) ∙ findId-only ns j h (λ i l q. s .ids i j l h q))
+
 -- The place that an entry names.
 module _ (ns : List Node) (p : ℕ) (x : Entry) where
   abbrev named : ℕ
@@ -296,7 +300,7 @@ module _ (ns : List Node) (p : ℕ) (x : Entry) where
       go : Is (sameEntry x (entryOf (getD ns j noNode))) → sameEntry x (entryOf (getD ns j noNode)) ≡ false
       go (isF e) = e
       go (isT e) =
-          let i : named ≡ j = ap (λ (y : Entry). findId ns (y .0)) (same-entry _ _ e) ∙ findId-only ns j h (λ i g q. s .ids i j g h q) in
+          let i : named ≡ j = sym (place-with-id ns j (x .0) s h (ap (λ (y : Entry). y .0) (sym (same-entry _ _ e)))) in
           let t : namesChild p x (getD ns named noNode) ≡ true = ap (λ (k : ℕ). namesChild p x (getD ns k noNode)) i ∙ and-both _ _ c e in
           let u : entryPlace ns p x ≡ named = pick-true _ _ _ t in
           absurd (omega arith)
