@@ -143,7 +143,7 @@ fn entry_end(reply: &[u8], at: usize) -> usize
     end
 }
 
-// The place of the node with this id, or n. The place `next` is tried before the search: ids differ among sound nodes, so it is the one.
+// The place of the node with this id, or n. `next` is tried first: ids differ among sound nodes, so where it has the id, the search would find it too.
 fn place_of_id(m: &[u8], n: usize, id: u64, next: usize) -> usize
     requires { ⌜ (n ≤ NODES) × (memorySize ≤ length (now m)) ⌝ }
     ensures { λ r. ⌜ (soundNodes ID-BYTES (take n (memOf (now (m .entry)) .nodes)) ≡ true → r ≡ findId (take n (memOf (now (m .entry)) .nodes)) id) ⌝ }
@@ -184,7 +184,7 @@ fn entry_place(
 }
 
 // A listing of the children of the node with this id: 7 unless each has one entry. Ids differ among sound nodes, so each entry has one place.
-// Entries in the order of the nodes need no search: `next` is the place behind the last entry's.
+// `next` is the place behind the last entry's: children that stand together, listed in their order, need one search.
 pub fn judge_listing(m: &[u8], n: usize, id: u64, reply: &[u8]) -> u8
     requires { ⌜ (n ≤ NODES) × (memorySize ≤ length (now m)) ⌝ }
     ensures { λ r. ⌜ (soundNodes ID-BYTES (take n (memOf (now (m .entry)) .nodes)) ≡ true → (k o : ℕ) → nodeAt (take n (memOf (now (m .entry)) .nodes)) k .id ≡ id → r ≡ reasonFor (tablesIn n o (memOf (now (m .entry)))) (now (reply .entry)) (asked (listing k))) ⌝ }
