@@ -23,7 +23,6 @@ EXPLAINED = {
     "write 1,024, not aligned": SUMS,
     "truncate, on an edge": SUMS,
     "truncate, inside a page": SUMS,
-    "readdir, 255 children": "an entry's node is searched by its name; plain C searches by its id",
     "refused 2, absent, 256 nodes": "15 instructions a node beside 10: where the row stands and whether the name's length is within its limit",
     "geometric mean": "by these rows",
 }

@@ -1,14 +1,14 @@
 -- A listing's entries by their places in the reply, and the children that no entry has named yet.
 -- Assumes nothing.
 use Prim.Native.Nat.{ℕ, suc, _+_}
-use mathlib.Core.Bool.{_&&_}
+use mathlib.Core.Bool.{Bool, _&&_}
 use mathlib.Core.List.{List, [], _∷_}
 use lib.Dec.{eqb, leb}
 use lib.ListN.{length, getD}
 use Rattle.lists.specs.Pick.{pick}
 use Rattle.lists.specs.Parts.{part}
 use Rattle.lists.specs.LittleEndian.{decode}
-use Rattle.filesystem.specs.Tables.{Node, nodeAt, hasParent, findChild}
+use Rattle.filesystem.specs.Tables.{Node, nodeAt, hasParent, findId}
 use Rattle.rules.specs.Rules.{Entry, entryOf, sameEntry}
 
 -- the entry that stands at a place, and the place behind it
@@ -22,9 +22,13 @@ entryEnd w s at = at + w + 2 + getD s (at + w + 1) 0
 unfoldable pub endWithin : ℕ → List ℕ → ℕ → ℕ
 endWithin w s at = pick (leb (entryEnd w s at) (length s)) (entryEnd w s at) 0
 
--- the place of the child of p that an entry names; past the end where there is none, or its id or kind is another
+-- the node is the child of p that an entry names
+abbrev pub namesChild : ℕ → Entry → Node → Bool
+namesChild p x n = hasParent p n && sameEntry x (entryOf n)
+
+-- the place of the node with an entry's id; past the end where there is none, or it is not the child of p that the entry names
 unfoldable pub entryPlace : List Node → ℕ → Entry → ℕ
-entryPlace ns p x = pick (sameEntry x (entryOf (nodeAt ns (findChild ns p (x .1 .1))))) (findChild ns p (x .1 .1)) (length ns)
+entryPlace ns p x = pick (namesChild p x (nodeAt ns (findId ns (x .0)))) (findId ns (x .0)) (length ns)
 
 -- the children of p with mark 0
 unfoldable pub unseen : ℕ → List Node → (ℕ → ℕ) → List Node

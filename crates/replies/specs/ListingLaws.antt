@@ -1,7 +1,7 @@
 -- A listing judged entry by entry.
 -- Assumes nothing.
 use mathlib.Core.Path.{_≡_, refl, ap, sym, _∙_}
-use mathlib.Core.Bool.{Bool, true, false, _&&_, not}
+use mathlib.Core.Bool.{Bool, true, false, _&&_, not, true≢false}
 use mathlib.Core.List.{List, [], _∷_, map}
 use mathlib.Core.Option.{Option, some, none}
 use Prim.Native.Nat.{ℕ, zero, suc, _+_, _-_, _≤_, _<_}
@@ -9,7 +9,7 @@ use native.Mathlib.Omega.{arith}
 use lib.Dec.{eqb, leb, ltb}
 use lib.ListN.{length, getD, take, drop, set, replicate, length-drop, drop-of-length-le}
 use lib.Seq.{drop-drop, getD-set-same, getD-set-other}
-use borrow.Author.Tests.{eqb-true, eq-eqb, ne-eqb, le-leb, lt-leb, leb-true, leb-false, lt-ltb, le-ltb}
+use borrow.Author.Tests.{eqb-true, eq-eqb, le-leb, lt-leb, leb-true, leb-false, lt-ltb, le-ltb}
 use Rattle.lists.specs.Pick.{pick, pick-true, pick-false}
 use Rattle.lists.specs.Equal.{Is, isT, isF, is, equal, equal-true, equal-refl, equal-yes, and-fst, and-snd, and-both, or-both}
 use Rattle.lists.specs.Parts.{part}
@@ -17,17 +17,17 @@ use Rattle.lists.specs.LittleEndian.{decode}
 use Rattle.lists.specs.NumberParts.{decode-first, decode-none}
 use Rattle.lists.specs.Form.{front, bind, get₂, get-as, get-all, whole, ended}
 use Rattle.lists.specs.Formats.{times}
-use Rattle.lists.specs.Search.{any, select, place, place-most, place-passes, without}
-use Rattle.lists.specs.Places.{any-at, place-least, place-none}
+use Rattle.lists.specs.Search.{any, select, place, place-most, without}
+use Rattle.lists.specs.Places.{any-at, place-none}
 use Rattle.lists.specs.Rearranged.{Inserted, front as at-front, behind, isRearranged, inserted-length, found-again}
-use Rattle.filesystem.specs.Tables.{ID-BYTES, Node, Tables, noNode, nodeAt, hasParent, isChild, findChild, children}
+use Rattle.filesystem.specs.Tables.{ID-BYTES, Node, Tables, noNode, nodeAt, hasId, hasParent, isChild, findId, children}
 use Rattle.filesystem.specs.Image.{soundNodes}
-use Rattle.filesystem.specs.Sound.{Sound, to-sound}
+use Rattle.filesystem.specs.Sound.{Sound, to-sound, findId-only, findId-has}
 use Rattle.rules.specs.Requests.{asked, listing}
 use Rattle.rules.specs.Rules.{Entry, entryForm, entryOf, sameEntry, isListing, replyChecks}
 use Rattle.replies.specs.Judged.{reasonFor}
 use Rattle.lists.specs.Checks.{check-last, check-stops}
-use Rattle.replies.specs.Listing.{entryAt, entryEnd, endWithin, entryPlace, unseen, marks}
+use Rattle.replies.specs.Listing.{entryAt, entryEnd, endWithin, namesChild, entryPlace, unseen, marks}
 
 -- Entries that are the same.
 same-entry : (a b : Entry) → sameEntry a b ≡ true → a ≡ b
@@ -257,30 +257,30 @@ module _ (p : ℕ) where
       go true e a = or-both _ _ (h 0 (omega arith) (and-fst _ _ e) (eqb-true _ _ (and-snd (hasParent p n) _ e))) a
       go false e a = a
 
+-- Ids differ, so a place with the id is the place.
+pub place-with-id : (ns : List Node) (j x : ℕ) → Sound ID-BYTES ns → j < length ns → nodeAt ns j .id ≡ x → j ≡ findId ns x
+place-with-id ns j x s h e = sym (ap (findId ns) (sym e) ∙ findId-only ns j h (λ i l q. s .ids i j l h q))
+
 -- The place that an entry names.
 module _ (ns : List Node) (p : ℕ) (x : Entry) where
   abbrev named : ℕ
-  named = findChild ns p (x .1 .1)
+  named = findId ns (x .0)
 
   -- where it is one of the nodes, the entry is that node's, and the node a child
   module _ (k : ℕ) (found : k ≡ entryPlace ns p x) (known : k < length ns) where
-    entry-is : (k ≡ named) × (sameEntry x (entryOf (nodeAt ns named)) ≡ true)
-    unfolding entryPlace
-    entry-is = go (is (sameEntry x (entryOf (nodeAt ns named))))
+    entry-is : namesChild p x (getD ns k noNode) ≡ true
+    unfolding entryPlace nodeAt
+    entry-is = go (is (namesChild p x (getD ns named noNode)))
       where
-        go : Is (sameEntry x (entryOf (nodeAt ns named))) → (k ≡ named) × (sameEntry x (entryOf (nodeAt ns named)) ≡ true)
-        go (isT e) = (found ∙ pick-true _ _ _ e, e)
+        go : Is (namesChild p x (getD ns named noNode)) → namesChild p x (getD ns k noNode) ≡ true
+        go (isT e) = ap (λ (j : ℕ). namesChild p x (getD ns j noNode)) (found ∙ pick-true _ _ _ e) ∙ e
         go (isF e) = let q : k ≡ length ns = found ∙ pick-false _ _ _ e in absurd (omega arith)
 
     pub entry-same : sameEntry x (entryOf (getD ns k noNode)) ≡ true
-    unfolding nodeAt
-    entry-same = ap (λ (j : ℕ). sameEntry x (entryOf (getD ns j noNode))) (entry-is .0) ∙ entry-is .1
+    entry-same = and-snd (hasParent p (getD ns k noNode)) _ entry-is
 
     pub entry-child : hasParent p (getD ns k noNode) ≡ true
-    unfolding findChild
-    entry-child =
-        let q = entry-is .0 in
-        ap (λ (j : ℕ). hasParent p (getD ns j noNode)) q ∙ and-fst _ _ (place-passes (isChild p (x .1 .1)) ns noNode (omega arith))
+    entry-child = and-fst _ _ entry-is
 
     -- and no other child has it
     pub entry-only : Sound ID-BYTES ns → (j : ℕ) → j < length ns → (j ≡ k → ⊥) → sameEntry x (entryOf (getD ns j noNode)) ≡ false
@@ -294,22 +294,15 @@ module _ (ns : List Node) (p : ℕ) (x : Entry) where
   -- where it is none of them, the entry is no child's
   entry-missing : Sound ID-BYTES ns → length ns ≤ entryPlace ns p x → (j : ℕ) → j < length ns → hasParent p (getD ns j noNode) ≡ true
       → sameEntry x (entryOf (getD ns j noNode)) ≡ false
-  unfolding nodeAt findChild entryPlace
+  unfolding nodeAt entryPlace
   entry-missing s l j h c = go (is (sameEntry x (entryOf (getD ns j noNode))))
     where
       go : Is (sameEntry x (entryOf (getD ns j noNode))) → sameEntry x (entryOf (getD ns j noNode)) ≡ false
       go (isF e) = e
       go (isT e) =
-          let q : x ≡ entryOf (getD ns j noNode) = same-entry _ _ e in
-          let n : getD ns j noNode .name ≡ x .1 .1 = ap (λ (y : Entry). y .1 .1) (sym q) in
-          let f = isChild p (x .1 .1) in
-          let least = place-least f noNode ns j (and-both _ _ c (equal-yes _ _ n)) in
-          let passes = place-passes f ns noNode (omega arith) in
-          let a : getD ns (place f ns) noNode .parent ≡ p = eqb-true _ _ (and-fst _ _ passes) in
-          let b : getD ns (place f ns) noNode .name ≡ x .1 .1 = equal-true _ _ (and-snd (hasParent p (getD ns (place f ns) noNode)) _ passes) in
-          let i : place f ns ≡ j = s .siblings (place f ns) j (omega arith) h (a ∙ sym (eqb-true _ _ c)) (b ∙ sym n) in
-          let t : sameEntry x (entryOf (getD ns (place f ns) noNode)) ≡ true = ap (λ (k : ℕ). sameEntry x (entryOf (getD ns k noNode))) i ∙ e in
-          let u : entryPlace ns p x ≡ place f ns = pick-true _ _ _ t in
+          let i : named ≡ j = sym (place-with-id ns j (x .0) s h (ap (λ (y : Entry). y .0) (sym (same-entry _ _ e)))) in
+          let t : namesChild p x (getD ns named noNode) ≡ true = ap (λ (k : ℕ). namesChild p x (getD ns k noNode)) i ∙ and-both _ _ c e in
+          let u : entryPlace ns p x ≡ named = pick-true _ _ _ t in
           absurd (omega arith)
 
 -- The listing r of p's children, of which the entries before `at` are marked.
@@ -421,39 +414,42 @@ module _ (w : ℕ) (s : List ℕ) (at : ℕ) where
         go (isF t) = absurd (d (is-end ∙ pick-false _ _ _ t))
 
 -- The place that an entry names, by its fields.
-module _ (ns : List Node) (p : ℕ) (x : Entry) (k : ℕ) (named-is : k ≡ findChild ns p (x .1 .1)) where
+module _ (ns : List Node) (p : ℕ) (x : Entry) (k : ℕ) (named-is : k ≡ findId ns (x .0)) where
   pub place-gone : length ns ≤ k → length ns ≡ entryPlace ns p x
-  unfolding entryPlace findChild
+  unfolding entryPlace findId
   place-gone l =
-      let m = place-most (isChild p (x .1 .1)) ns in
-      let e : length ns ≡ findChild ns p (x .1 .1) = omega arith in
-      sym (go (is (sameEntry x (entryOf (nodeAt ns (findChild ns p (x .1 .1)))))) (sym e))
+      let m = place-most (hasId (x .0)) ns in
+      let e : findId ns (x .0) ≡ length ns = omega arith in
+      sym (go (is (namesChild p x (nodeAt ns (findId ns (x .0))))) e)
     where
-      go : Is (sameEntry x (entryOf (nodeAt ns (findChild ns p (x .1 .1))))) → findChild ns p (x .1 .1) ≡ length ns → entryPlace ns p x ≡ length ns
+      go : Is (namesChild p x (nodeAt ns (findId ns (x .0)))) → findId ns (x .0) ≡ length ns → entryPlace ns p x ≡ length ns
       go (isT t) e = pick-true _ _ _ t ∙ e
       go (isF t) e = pick-false _ _ _ t
 
-  differs : sameEntry x (entryOf (nodeAt ns k)) ≡ false → length ns ≡ entryPlace ns p x
+  differs : (namesChild p x (nodeAt ns k) ≡ true → ⊥) → length ns ≡ entryPlace ns p x
   unfolding entryPlace
-  differs e = sym (pick-false _ _ _ (ap (λ (j : ℕ). sameEntry x (entryOf (nodeAt ns j))) (sym named-is) ∙ e))
+  differs d = go (is (namesChild p x (nodeAt ns k)))
+    where
+      go : Is (namesChild p x (nodeAt ns k)) → length ns ≡ entryPlace ns p x
+      go (isT e) = absurd (d e)
+      go (isF e) = sym (pick-false _ _ _ (ap (λ (j : ℕ). namesChild p x (nodeAt ns j)) (sym named-is) ∙ e))
 
-  pub place-other-id : (x .0 ≡ nodeAt ns k .id → ⊥) → length ns ≡ entryPlace ns p x
-  unfolding sameEntry
-  place-other-id d = differs (rw (ne-eqb (x .0) (nodeAt ns k .id) d))
+  pub place-other-kind : (x .1 .0 ≡ nodeAt ns k .kind → ⊥) → length ns ≡ entryPlace ns p x
+  place-other-kind d = differs (λ e. d (ap (λ (y : Entry). y .1 .0) (same-entry _ _ (and-snd (hasParent p (nodeAt ns k)) _ e))))
 
-  pub place-other-kind : x .0 ≡ nodeAt ns k .id → (x .1 .0 ≡ nodeAt ns k .kind → ⊥) → length ns ≡ entryPlace ns p x
-  unfolding sameEntry
-  place-other-kind i d = differs (rw (eq-eqb (x .0) (nodeAt ns k .id) i, ne-eqb (x .1 .0) (nodeAt ns k .kind) d))
+  pub place-no-child : isChild p (x .1 .1) (nodeAt ns k) ≡ false → length ns ≡ entryPlace ns p x
+  place-no-child f = differs (λ e.
+      let q = same-entry _ _ (and-snd (hasParent p (nodeAt ns k)) _ e) in
+      true≢false (sym (and-both _ _ (and-fst (hasParent p (nodeAt ns k)) _ e) (equal-yes _ _ (ap (λ (y : Entry). y .1 .1) (sym q)))) ∙ f))
 
-  pub place-same : k < length ns → x .0 ≡ nodeAt ns k .id → x .1 .0 ≡ nodeAt ns k .kind → k ≡ entryPlace ns p x
-  unfolding sameEntry entryPlace findChild nodeAt
-  place-same h i q =
-      let c = place-passes (isChild p (x .1 .1)) ns noNode (omega arith) in
-      let e : equal (getD ns k noNode .name) (x .1 .1) ≡ true =
-      ap (λ (j : ℕ). equal (getD ns j noNode .name) (x .1 .1)) named-is ∙ and-snd (hasParent p (getD ns (place (isChild p (x .1 .1)) ns) noNode)) _ c in
-      let t : sameEntry x (entryOf (getD ns k noNode)) ≡ true =
-      and-both _ _ (eq-eqb (x .0) _ i) (and-both _ _ (eq-eqb (x .1 .0) _ q) (equal-yes _ _ (sym (equal-true _ _ e)))) in
-      named-is ∙ sym (pick-true _ _ _ (ap (λ (j : ℕ). sameEntry x (entryOf (getD ns j noNode))) (sym named-is) ∙ t))
+  pub place-same : k < length ns → x .1 .0 ≡ nodeAt ns k .kind → isChild p (x .1 .1) (nodeAt ns k) ≡ true → k ≡ entryPlace ns p x
+  unfolding sameEntry entryPlace
+  place-same h q c =
+      let i : x .0 ≡ nodeAt ns k .id = sym (ap (λ (j : ℕ). nodeAt ns j .id) named-is ∙ findId-has ns (x .0) (omega arith)) in
+      let n : x .1 .1 ≡ nodeAt ns k .name = sym (equal-true _ _ (and-snd (hasParent p (nodeAt ns k)) _ c)) in
+      let s : sameEntry x (entryOf (nodeAt ns k)) ≡ true = and-both _ _ (eq-eqb (x .0) _ i) (and-both _ _ (eq-eqb (x .1 .0) _ q) (equal-yes _ _ n)) in
+      let t : namesChild p x (nodeAt ns k) ≡ true = and-both _ _ (and-fst (hasParent p (nodeAt ns k)) _ c) s in
+      named-is ∙ sym (pick-true _ _ _ (ap (λ (j : ℕ). namesChild p x (nodeAt ns j)) (sym named-is) ∙ t))
 
 -- The stop reason.
 module _ (t : Tables) (r : List ℕ) (k p : ℕ) (is-id : nodeAt (t .nodes) k .id ≡ p) where

@@ -6,7 +6,7 @@ ghost use lib.IntN.{pos};
 ghost use mathlib.Core.Bool.{true};
 ghost use lib.ListN.{length, getD, take};
 ghost use Rattle.lists.specs.LittleEndian.{encode};
-ghost use Rattle.filesystem.specs.Tables.{NODES, PAGES, PAGE-BYTES, ID-BYTES, nodeAt, pagesFor, pageTotal};
+ghost use Rattle.filesystem.specs.Tables.{NODES, PAGES, PAGE-BYTES, ID-BYTES, nodeAt, findId, pagesFor, pageTotal};
 ghost use Rattle.filesystem.specs.Image.{soundNodes, divide};
 ghost use Rattle.memory.specs.Layout.{memOf, memorySize, openRows};
 ghost use Rattle.tables.specs.View.{tablesIn};
@@ -140,26 +140,48 @@ fn entry_end(reply: &[u8], at: usize) -> usize
     end
 }
 
-// The place of the child that the entry at `at` names, or n where there is none or its id or kind is another.
-fn entry_place(m: &[u8], n: usize, id: u64, reply: &[u8], at: usize, end: usize) -> usize
-    requires { ⌜ (n ≤ NODES) × (memorySize ≤ length (now m)) × (end ≡ entryEnd ID-BYTES (now reply) at) × (end ≤ length (now reply)) ⌝ }
-    ensures { λ r. ⌜ r ≡ entryPlace (take n (memOf (now (m .entry)) .nodes)) id (entryAt ID-BYTES (now (reply .entry)) at) ⌝ }
+// The place of the node with this id, or n. `next` is tried first: ids differ among sound nodes, so where it has the id, the search would find it too.
+fn place_of_id(m: &[u8], n: usize, id: u64, next: usize) -> usize
+    requires { ⌜ (n ≤ NODES) × (memorySize ≤ length (now m)) ⌝ }
+    ensures { λ r. ⌜ (soundNodes ID-BYTES (take n (memOf (now (m .entry)) .nodes)) ≡ true → r ≡ findId (take n (memOf (now (m .entry)) .nodes)) id) ⌝ }
 {
-    let start = at + ENTRY_FRONT;
-    let k = tables::find_child(m, n, id, &reply[start..end]);
-    if n <= k {
-        return n;
+    if next < n {
+        if memory::node_id(m, next) == id {
+            return next;
+        }
     }
-    if numbers::number_at(reply, at, limits::ID_BYTES) != memory::node_id(m, k) {
+    tables::find_id(m, n, id)
+}
+
+// The place of the node with the id of the entry at `at`, or n where there is none or it is not the child that the entry names.
+fn entry_place(
+    m: &[u8],
+    n: usize,
+    id: u64,
+    reply: &[u8],
+    at: usize,
+    end: usize,
+    next: usize,
+) -> usize
+    requires { ⌜ (n ≤ NODES) × (memorySize ≤ length (now m)) × (end ≡ entryEnd ID-BYTES (now reply) at) × (end ≤ length (now reply)) ⌝ }
+    ensures { λ r. ⌜ (soundNodes ID-BYTES (take n (memOf (now (m .entry)) .nodes)) ≡ true → r ≡ entryPlace (take n (memOf (now (m .entry)) .nodes)) id (entryAt ID-BYTES (now (reply .entry)) at)) ⌝ }
+{
+    let k = place_of_id(m, n, numbers::number_at(reply, at, limits::ID_BYTES), next);
+    if n <= k {
         return n;
     }
     if reply[at + limits::ID_BYTES] != memory::node_kind(m, k) {
         return n;
     }
+    let start = at + ENTRY_FRONT;
+    if !memory::is_child(m, k, id, &reply[start..end]) {
+        return n;
+    }
     k
 }
 
-// A listing of the children of the node with this id: 7 unless each has one entry. Names differ among sound nodes, so each entry has one place.
+// A listing of the children of the node with this id: 7 unless each has one entry. Ids differ among sound nodes, so each entry has one place.
+// `next` is the place behind the last entry's: children that stand together, listed in their order, need one search.
 pub fn judge_listing(m: &[u8], n: usize, id: u64, reply: &[u8]) -> u8
     requires { ⌜ (n ≤ NODES) × (memorySize ≤ length (now m)) ⌝ }
     ensures { λ r. ⌜ (soundNodes ID-BYTES (take n (memOf (now (m .entry)) .nodes)) ≡ true → (k o : ℕ) → nodeAt (take n (memOf (now (m .entry)) .nodes)) k .id ≡ id → r ≡ reasonFor (tablesIn n o (memOf (now (m .entry)))) (now (reply .entry)) (asked (listing k))) ⌝ }
@@ -167,12 +189,13 @@ pub fn judge_listing(m: &[u8], n: usize, id: u64, reply: &[u8]) -> u8
     let mut seen = [0u8; limits::NODES];
     let mut count = 0;
     let mut at = 0;
+    let mut next = 0;
     while at < reply.len() {
         let end = entry_end(reply, at);
         if end == 0 {
             return 7;
         }
-        let k = entry_place(m, n, id, reply, at, end);
+        let k = entry_place(m, n, id, reply, at, end, next);
         if n <= k {
             return 7;
         }
@@ -182,6 +205,7 @@ pub fn judge_listing(m: &[u8], n: usize, id: u64, reply: &[u8]) -> u8
         seen[k] = 1;
         count += 1;
         at = end;
+        next = k + 1;
     }
     if count != tables::count_children(m, n, id) {
         return 7;

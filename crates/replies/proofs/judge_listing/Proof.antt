@@ -7,7 +7,9 @@ use lib.ListN.{length, take, replicate, length-set}
 use Rattle.memory.specs.Layout.{memOf}
 use Rattle.tables.specs.View.{tablesIn}
 use Rattle.tables.specs.RowsInUse.{count-nodes}
+use mathlib.Core.Bool.{true}
 use Rattle.filesystem.specs.Tables.{ID-BYTES, NODES, children}
+use Rattle.filesystem.specs.Image.{soundNodes}
 use Rattle.replies.specs.Listing.{unseen, marks}
 use Rattle.replies.specs.ListingLaws.{Left, left-first, count-first, no-marks, left-next, count-next, cut-end, there-end, end-front, listing-cut, listing-missing, listing-twice, listing-few, listing-whole, listing-stops, listing-passes}
 use borrow.Author.Needs.{needs}
@@ -15,19 +17,19 @@ use Rattle.replies.proofs.judge_listing.Statement.{statement}
 use Rattle.replies.proofs.judge_listing.Tie as tie
 
 abbrev Inv-loop : tie.InvT-loop
-Inv-loop m n id reply seen₀ count₀ at₀ seen count at =
+Inv-loop m n id reply seen₀ count₀ at₀ next₀ seen count at next =
     (at ≤ length reply) × (count ≤ at) × (length seen ≡ NODES)
-    × (count + length (unseen id (take n (memOf m .nodes)) (marks seen)) ≡ length (children (take n (memOf m .nodes)) id))
+    × (soundNodes ID-BYTES (take n (memOf m .nodes)) ≡ true → count + length (unseen id (take n (memOf m .nodes)) (marks seen)) ≡ length (children (take n (memOf m .nodes)) id))
     × Left (take n (memOf m .nodes)) id reply seen at
 
 abbrev μ-loop : tie.MeasureT-loop
-μ-loop m n id reply seen₀ count₀ at₀ seen count at = length reply - at
+μ-loop m n id reply seen₀ count₀ at₀ next₀ seen count at next = length reply - at
 
 loop-holds : tie.Need-loop-holds Inv-loop μ-loop
 loop-holds c =
     let a = c .before .before .args in
     let ns = take (a .n) (memOf (a .m .now) .nodes) in
-    (omega arith, omega arith, refl, count-first ns (a .id) (a .reply .now) (replicate NODES 0) (no-marks NODES), left-first ns (a .id) (a .reply .now) (replicate NODES 0) (no-marks NODES))
+    (omega arith, omega arith, refl, λ v. count-first ns (a .id) (a .reply .now) (replicate NODES 0) (no-marks NODES), left-first ns (a .id) (a .reply .now) (replicate NODES 0) (no-marks NODES))
 
 entry-end-requires : tie.Need-entry-end-requires Inv-loop μ-loop
 entry-end-requires c κs = omega arith
@@ -58,7 +60,7 @@ returns-2 c v k o q =
     let e : length ns ≡ a .n = count-nodes (a .m .now) (a .n) (omega arith) in
     let (i, j, z, t, g) = l .inv in
     let (p, f) = there-end ID-BYTES s (l .at) _ (c .before .before .before .entry-end .ensures) (c .before .before .if1 .left) in
-    let h = c .before .entry-place .ensures in
+    let h = c .before .entry-place .ensures v in
     sym (listing-stops (tablesIn (a .n) o (memOf (a .m .now))) s k (a .id) q (listing-missing ns (a .id) s (l .seen) (l .at) g (omega arith) f (omega arith) v))
 
 array-read-if3 : tie.Need-array-read-if3 Inv-loop μ-loop
@@ -74,7 +76,7 @@ returns-3 c v k o q =
     let e : length ns ≡ a .n = count-nodes (a .m .now) (a .n) (omega arith) in
     let (i, j, z, t, g) = l .inv in
     let (p, f) = there-end ID-BYTES s (l .at) _ (c .before .before .before .before .entry-end .ensures) (c .before .before .before .if1 .left) in
-    sym (listing-stops (tablesIn (a .n) o (memOf (a .m .now))) s k (a .id) q (listing-twice ns (a .id) s (l .seen) (l .at) g (omega arith) f _ (c .before .before .entry-place .ensures) (omega arith) (c .if3 .taken) v))
+    sym (listing-stops (tablesIn (a .n) o (memOf (a .m .now))) s k (a .id) q (listing-twice ns (a .id) s (l .seen) (l .at) g (omega arith) f _ (c .before .before .entry-place .ensures v) (omega arith) (c .if3 .taken) v))
 
 array-write-seen : tie.Need-array-write-seen Inv-loop μ-loop
 array-write-seen c = search needs
@@ -88,6 +90,9 @@ add-count c =
     let e : length ns ≡ a .n = count-nodes (a .m .now) (a .n) (omega arith) in
     let (i, j, z, t, g) = l .inv in
     omega arith
+
+add-next : tie.Need-add-next Inv-loop μ-loop
+add-next c = omega arith
 
 loop-less : tie.Need-loop-less Inv-loop μ-loop
 loop-less c =
@@ -116,8 +121,8 @@ loop-again c =
       omega arith,
       omega arith,
       length-set (l .seen) k _ ∙ z,
-      count-next ns (a .id) s (l .seen) (l .at) g (omega arith) f k h (omega arith) (c .if3 .left) (omega arith) (l .count) _ t,
-      rw p (left-next ns (a .id) s (l .seen) (l .at) g (omega arith) f k h (omega arith) (c .if3 .left) (omega arith)),
+      λ v. count-next ns (a .id) s (l .seen) (l .at) g (omega arith) f k (h v) (omega arith) (c .if3 .left) (omega arith) (l .count) _ (t v),
+      rw p (λ v. left-next ns (a .id) s (l .seen) (l .at) g (omega arith) f k (h v) (omega arith) (c .if3 .left) (omega arith) v),
     )
 
 count-children-requires : tie.Need-count-children-requires Inv-loop μ-loop
@@ -133,7 +138,7 @@ returns-4 c v k o q =
     let e : length ns ≡ a .n = count-nodes (a .m .now) (a .n) (omega arith) in
     let (i, j, z, t, g) = l .inv in
     let h = c .before .count-children .ensures in
-    sym (listing-stops (tablesIn (a .n) o (memOf (a .m .now))) s k (a .id) q (listing-few ns (a .id) s (l .seen) (l .at) (l .count) g (omega arith) t (λ y. c .if4 .taken (y ∙ sym h)) v))
+    sym (listing-stops (tablesIn (a .n) o (memOf (a .m .now))) s k (a .id) q (listing-few ns (a .id) s (l .seen) (l .at) (l .count) g (omega arith) (t v) (λ y. c .if4 .taken (y ∙ sym h)) v))
 
 returns-5 : tie.Need-returns-5 Inv-loop μ-loop
 unfolding tablesIn
@@ -145,7 +150,7 @@ returns-5 c v k o q =
     let e : length ns ≡ a .n = count-nodes (a .m .now) (a .n) (omega arith) in
     let (i, j, z, t, g) = l .inv in
     let h = c .before .count-children .ensures in
-    sym (listing-passes (tablesIn (a .n) o (memOf (a .m .now))) s k (a .id) q (listing-whole ns (a .id) s (l .seen) (l .at) (l .count) g (omega arith) t (c .if4 .left ∙ h) v))
+    sym (listing-passes (tablesIn (a .n) o (memOf (a .m .now))) s k (a .id) q (listing-whole ns (a .id) s (l .seen) (l .at) (l .count) g (omega arith) (t v) (c .if4 .left ∙ h) v))
 
 pub judge-listing-spec : {M : Type 1} → statement M
 judge-listing-spec =
@@ -162,6 +167,7 @@ judge-listing-spec =
     returns-3
     array-write-seen
     add-count
+    add-next
     loop-less
     loop-again
     count-children-requires

@@ -1,0 +1,32 @@
+-- `replies::place_of_id` meets its contract. Assumes nothing.
+use native.Mathlib.Omega.{arith}
+use mathlib.Core.Path.{_≡_, sym, ap, _∙_}
+use borrow.Author.Needs.{needs}
+use lib.ListN.{length, take}
+use Rattle.memory.specs.Layout.{memOf}
+use Rattle.tables.specs.RowsInUse.{count-nodes, node-front}
+use Rattle.filesystem.specs.Tables.{ID-BYTES, Node}
+use Rattle.filesystem.specs.Sound.{to-sound}
+use Rattle.replies.specs.ListingLaws.{place-with-id}
+use Rattle.replies.proofs.place_of_id.Statement.{statement}
+use Rattle.replies.proofs.place_of_id.Tie as tie
+
+node-id-requires : tie.Need-node-id-requires
+node-id-requires c κs = search needs
+
+returns : tie.Need-returns
+returns c v =
+    let a = c .before .before .before .before .args in
+    let ns = take (a .n) (memOf (a .m .now) .nodes) in
+    let e : length ns ≡ a .n = count-nodes (a .m .now) (a .n) (omega arith) in
+    let g = node-front (a .n) (memOf (a .m .now) .nodes) (a .next) (omega arith) in
+    place-with-id ns (a .next) (a .id) (to-sound ID-BYTES ns v) (omega arith) (ap (λ (y : Node). y .id) g ∙ sym (c .before .node-id .ensures) ∙ c .if2 .taken)
+
+find-id-requires : tie.Need-find-id-requires
+find-id-requires c κs = search needs
+
+returns-2 : tie.Need-returns-2
+returns-2 c v = c .find-id .ensures
+
+pub place-of-id-spec : {M : Type 1} → statement M
+place-of-id-spec = tie.close (tie.spec node-id-requires returns find-id-requires returns-2)
