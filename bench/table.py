@@ -15,15 +15,9 @@ HASH = "digest::sha256"  # in the archive
 SUMS = "pages are summed over the nodes once for each page judged and two or three times for a change, where plain C keeps in each node where its digests begin"
 EXPLAINED = {
     "seek, 256 nodes": "the file's node is searched by its id; plain C keeps its place in the open file",
-    "read 1": SUMS,
-    "read 1,024, aligned": SUMS,
-    "write 1": SUMS,
     "write 1,024, aligned": SUMS,
-    "write 1,024, not aligned": SUMS,
     "truncate, on an edge": SUMS,
-    "truncate, inside a page": SUMS,
     "refused 2, absent, 256 nodes": "15 instructions a node beside 10: where the row stands and whether the name's length is within its limit",
-    "geometric mean": "by these rows",
 }
 
 
