@@ -1,4 +1,4 @@
-/* The file guard in plain C (guard.h). In document 01's order: tables, paths, calls, replies, saves and loads. */
+/* The file guard in plain C (guard.h). In the specification's order: tables, paths, calls, replies, saves and loads. */
 #include "guard.h"
 #include <stdbool.h>
 #include <string.h>

@@ -1,4 +1,4 @@
-/* Records of bytes (records.h) through the archive, each outcome held against what document 01 says of every outcome, whatever was handed in.
+/* Records of bytes (records.h) through the archive, each outcome held against what the specification says of every outcome, whatever was handed in.
  *
  * The archive has no coverage of its own: what came back to what is counted for libFuzzer in `seen`. All that is lent lies against unreadable
  * pages (tests/boundary/places.h), at the low or the high end by the input's first byte, or near the low one. */
@@ -122,7 +122,7 @@ static void nothing_touched(void)
     untouched(&elsewhere, 0);
 }
 
-/* ---- what document 01 says of every outcome */
+/* ---- what the specification says of every outcome */
 
 /* The number that comes before what is handed in is looked at, or 0. */
 static unsigned first_number(enum what what)
