@@ -1,24 +1,20 @@
 -- What a call's bytes were read as is what the machine makes of them; and what a consistent state has for every call.
 -- Assumes nothing.
 use mathlib.Core.Path.{_≡_, refl, ap, sym, _∙_, subst}
-use mathlib.Core.Bool.{Bool, true, false}
 use mathlib.Core.List.{List}
 use mathlib.Core.Option.{some}
 use Prim.Native.Nat.{ℕ, _-_, _<_, _≤_}
 use native.Mathlib.Omega.{arith}
-use lib.Dec.{leb}
 use lib.ListN.{length, take, drop, length-drop}
 use lib.Seq.{take-all}
-use borrow.Author.Tests.{leb-true, leb-false}
-use Rattle.lists.specs.Equal.{Is, isT, isF, is}
-use Rattle.filesystem.specs.Tables.{ID-BYTES, FILE-BYTES, nodeAt}
-use Rattle.filesystem.specs.Sound.{Sound, to-sound, by-kind, limits-at}
+use Rattle.lists.specs.Equal.{is}
+use Rattle.filesystem.specs.Tables.{ID-BYTES}
+use Rattle.filesystem.specs.Sound.{to-sound}
 use Rattle.rules.specs.Calls.{Call, write, readCall}
 use Rattle.rules.specs.Skeleton.{Config}
 use Rattle.rules.specs.Rules.{refuse}
 use Rattle.machine.specs.Machine.{State, Result, guard as digestStore}
 use Rattle.machine.specs.Consistent.{Consistent}
-use Rattle.handle_calls.specs.HandledLaws.{size-past}
 use Rattle.call_reader.specs.declared.ParsedCall.{ParsedCall}
 use Rattle.call_reader.specs.declared.ParsedCall.the-variants.{ByPath, Write, Malformed}
 use Rattle.call_reader.specs.Meaning.{madeBy, meant}
@@ -66,17 +62,6 @@ module _ (c : Config) (wide : c .width ≡ ID-BYTES) (s : State (digestStore c))
       subst (λ (y : Result (digestStore c)). Sends c y (Refused 22) m x x) (sym (read-as ∙ ap (λ (z : ParsedCall). called c s (meant z b)) e ∙ called-none c s))
       (refusal-sends c s (refuse 22) 22 m x refl g)
 
--- there is a root, and no file is too large
-module _ (c : Config) (s : State (digestStore c)) (h : Consistent c s) where
-  sound : Sound (c .width) (s .skeleton .tables .nodes)
-  sound = to-sound (c .width) (s .skeleton .tables .nodes) (h .holds .valid .tables .nodes-valid .sound)
-
-  pub some-node : 0 < length (s .skeleton .tables .nodes)
-  some-node = sound .has-root
-
-  pub size-most : (k : ℕ) → nodeAt (s .skeleton .tables .nodes) k .size ≤ FILE-BYTES
-  size-most k = go (is (leb (length (s .skeleton .tables .nodes)) k))
-    where
-      go : Is (leb (length (s .skeleton .tables .nodes)) k) → nodeAt (s .skeleton .tables .nodes) k .size ≤ FILE-BYTES
-      go (isT e) = omega (arith, size-past (s .skeleton .tables .nodes) k (leb-true _ _ e))
-      go (isF e) = by-kind (nodeAt (s .skeleton .tables .nodes) k .size ≤ FILE-BYTES) (limits-at (c .width) (s .skeleton .tables .nodes) sound k (leb-false _ _ e)) (λ x y. y) (λ x y. omega arith)
+-- there is a root
+pub some-node : (c : Config) (s : State (digestStore c)) → Consistent c s → 0 < length (s .skeleton .tables .nodes)
+some-node c s h = to-sound (c .width) (s .skeleton .tables .nodes) (h .holds .valid .tables .nodes-valid .sound) .has-root

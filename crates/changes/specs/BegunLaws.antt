@@ -8,7 +8,6 @@ use native.Mathlib.Omega.{arith}
 use lib.ListN.{length}
 use borrow.Author.Tests.{eqb-true}
 use Rattle.lists.specs.All.{all-get}
-use Rattle.lists.specs.Checks.{Passed}
 use Rattle.lists.specs.Search.{place-passes}
 use Rattle.filesystem.specs.Tables.{Tables, hasHandle, noOpenFile, openAt, findId, findHandle}
 use Rattle.memory.specs.Layout.{memOf}
@@ -16,7 +15,7 @@ use Rattle.rules.specs.Calls.{Call}
 use Rattle.rules.specs.Pages.{Change, first}
 use Rattle.rules.specs.Requests.{Pending}
 use Rattle.rules.specs.Skeleton.{Config}
-use Rattle.rules.specs.Rules.{Move, begin, callChecks, callAction}
+use Rattle.rules.specs.Rules.{Move, begin, callAction}
 use Rattle.rules.specs.Valid.{ValidOpen, ValidTables}
 use Rattle.machine.specs.Machine.{State, askStore, onPage, pagesStored, pagesFrom, finishChange, apply, guard as digestStore}
 use Rattle.machine.specs.Consistent.{Consistent}
@@ -46,13 +45,7 @@ file-known w t v h l =
     let x : ValidOpen (t .nodes) (openAt (t .opens) o) = all-get o noOpenFile (t .opens) l (v .opened) in
     subst (λ (y : ℕ). findId (t .nodes) y < length (t .nodes)) e (x .known)
 
--- one that was judged
-pub call-place : (t : Tables) (h : ℕ) (q : Call) → (Passed (callChecks t q) → findHandle (t .opens) h < length (t .opens)) → (r : Handled) → r ≡ handledFor t h q
-    → (i j : ℕ) → r ≡ Open i j → i < length (t .opens)
-call-place t h q f r known i j e =
-    let p = passed-at t h q r known i j e in
-    subst (λ (x : ℕ). x < length (t .opens)) (p .open-place) (f (p .checks))
-
+-- a call that was judged
 module _ (c : Config) (s : State (digestStore c)) (h : ℕ) (q : Call) (r : Handled) (known : r ≡ handledFor (s .skeleton .tables) h q) where
   pub call-refused : (b : ℕ) (m l : List ℕ) → r ≡ refusedHandle b → stateOf c m ≡ s → Sends c (startedBy c s q) (Refused b) m l l
   unfolding startedBy

@@ -83,6 +83,10 @@ findId-only ns j h only =
     place-only (hasId (nodeAt ns j .id)) noNode ns j h (eq-eqb (nodeAt ns j .id) (nodeAt ns j .id) refl)
     (λ i l e. only i l (eqb-true (nodeAt ns i .id) (nodeAt ns j .id) e))
 
+-- and so, where ids differ, a place that has the id is the one that is found
+pub place-with-id : {w : ℕ} (ns : List Node) (j x : ℕ) → Sound w ns → j < length ns → nodeAt ns j .id ≡ x → j ≡ findId ns x
+place-with-id ns j x s h e = sym (ap (findId ns) (sym e) ∙ findId-only ns j h (λ i l q. s .ids i j l h q))
+
 pub nodeAt-append : (ns ms : List Node) (k : ℕ) → k < length ns → nodeAt (ns ++ ms) k ≡ nodeAt ns k
 unfolding nodeAt
 nodeAt-append ns ms k h = List·getD-append ns ms noNode k h

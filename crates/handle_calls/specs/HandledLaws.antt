@@ -1,6 +1,6 @@
 -- The calls by handle check after check, and the tables of a memory read through the rows in use.
 -- Assumes nothing.
-use mathlib.Core.Path.{_≡_, ap, ap₂, sym, _∙_}
+use mathlib.Core.Path.{_≡_, ap, ap₂, sym, subst, _∙_}
 use mathlib.Core.Bool.{Bool, true, false, not}
 use mathlib.Core.List.{List, [], _∷_}
 use Prim.Native.Nat.{ℕ, _+_, _/_, _%_, _≤_, _<_, max}
@@ -11,13 +11,31 @@ use lib.Seq.{getD-take, set-out}
 use borrow.Author.Tests.{leb-false, le-leb, lt-leb, lt-ltb, le-ltb}
 use Rattle.lists.specs.Equal.{or-fst}
 use Rattle.lists.specs.Checks.{decide, check-last, check-passes, check-stops}
-use Rattle.filesystem.specs.Tables.{FILE-BYTES, Node, OpenFile, Tables, noNode, nodeAt, openAt, absent, findId, findHandle, pageTotal, setSize}
+use Rattle.filesystem.specs.Tables.{FILE-BYTES, PAGES, Node, OpenFile, Tables, noNode, nodeAt, openAt, absent, findId, findHandle, pagesFor, pageTotal, setSize}
+use Rattle.filesystem.specs.Image.{soundNodes}
+use Rattle.filesystem.specs.Sound.{to-sound}
 use Rattle.memory.specs.Layout.{memOf, openRows}
-use Rattle.rules.specs.Calls.{close, seek, read, write, truncate}
+use Rattle.rules.specs.Calls.{Call, close, seek, read, write, truncate}
 use Rattle.rules.specs.Rules.{noRoom, callChecks}
-use Rattle.handle_calls.specs.Judged.{handledFor, lacksRight, endChecked}
+use Rattle.handle_calls.specs.Judged.{handledFor, Judgement, lacksRight, endChecked}
+use Rattle.handle_calls.specs.declared.Handled.{Handled}
 use Rattle.handle_calls.specs.declared.Handled.the-variants.{Open, Refused}
+use Rattle.tables.specs.View.{tablesIn}
 use Rattle.tables.specs.RowsInUse.{count-opens, open-front}
+use Rattle.tables.specs.ContentLaws.{total-split}
+use Rattle.tables.specs.ChangeLaws.{total-set}
+
+-- A judgement: of a refusal, of an open file in place k, and read at tables that are the memory's.
+module _ {m : List ℕ} {n o h : ℕ} {q : Call} where
+  pub judged-refused : (x : ℕ) → ((w : ℕ) → soundNodes w (take n (memOf m .nodes)) ≡ true → handledFor (tablesIn n o (memOf m)) h q ≡ Refused x) → Judgement m n o h q (Refused x)
+  judged-refused x e = record { judged = λ w s. sym (e w s); there = λ i j f. absurd (let z : _≡_ {A = ℕ} 0 1 = cc in omega arith) }
+
+  pub judged-open : (k j : ℕ) → k < o → ((w : ℕ) → soundNodes w (take n (memOf m .nodes)) ≡ true → handledFor (tablesIn n o (memOf m)) h q ≡ Open k j) → Judgement m n o h q (Open k j)
+  judged-open k j l e = record { judged = λ w s. sym (e w s); there = λ i z f. let p : k ≡ i = cc in omega arith }
+
+  pub judged-at : (r : Handled) → Judgement m n o h q r → (t : Tables) → tablesIn n o (memOf m) ≡ t → (w : ℕ) → soundNodes w (t .nodes) ≡ true → r ≡ handledFor t h q
+  unfolding tablesIn
+  judged-at r g t e w s = g .judged w (subst (λ (x : Tables). soundNodes w (x .nodes) ≡ true) (sym e) s) ∙ ap (λ (x : Tables). handledFor x h q) e
 
 -- a size, within the nodes and past them
 pub size-front : (n : ℕ) (ns : List Node) (k : ℕ) → k < n → nodeAt (take n ns) k .size ≡ nodeAt ns k .size
@@ -28,10 +46,19 @@ pub size-past : (ns : List Node) (k : ℕ) → length ns ≤ k → nodeAt ns k .
 unfolding nodeAt
 size-past ns k h = ap (λ (x : Node). x .size) (List·getD-eq-default ns noNode h)
 
--- past the nodes no size changes
-pub pages-past : (ns : List Node) (k size : ℕ) → length ns ≤ k → pageTotal (setSize ns k size) ≡ pageTotal ns
-unfolding setSize
-pages-past ns k size h = ap pageTotal (set-out ns k _ h)
+-- sound nodes have room: past them no size changes, and a file that gets no page takes none
+module _ (w : ℕ) (t : Tables) (k size : ℕ) (s : soundNodes w (t .nodes) ≡ true) where
+  pub room-past : length (t .nodes) ≤ k → noRoom t k size ≡ false
+  unfolding noRoom setSize
+  room-past h = le-ltb _ _ (subst (λ (p : ℕ). p ≤ PAGES) (sym (ap pageTotal (set-out (t .nodes) k _ h))) (to-sound w (t .nodes) s .pages))
+
+  pub room-left : k < length (t .nodes) → pagesFor size ≤ pagesFor (nodeAt (t .nodes) k .size) → noRoom t k size ≡ false
+  unfolding noRoom
+  room-left h l =
+      let p = to-sound w (t .nodes) s .pages in
+      let a = total-split (t .nodes) k h in
+      let b = total-set (t .nodes) k size h in
+      le-ltb PAGES (pageTotal (setSize (t .nodes) k size)) (omega arith)
 
 -- a right that an open file lacks
 module _ (os : List OpenFile) (right k : ℕ) where

@@ -1,14 +1,16 @@
 // The calls by handle judged: the numbers in their order (SPECIFICATION 7.8), and where none holds, the places of the open file and of its node. Nothing
 // is changed here.
 ghost use mathlib.Core.Path.{_≡_};
+ghost use mathlib.Core.Bool.{true};
 ghost use Prim.Native.Nat.{ℕ, _≤_, _<_};
 ghost use lib.ListN.{length, take};
-ghost use Rattle.filesystem.specs.Tables.{NODES, nodeAt};
+ghost use Rattle.filesystem.specs.Tables.{NODES, nodeAt, findId};
+ghost use Rattle.filesystem.specs.Image.{soundNodes};
 ghost use Rattle.memory.specs.Layout.{memOf, memorySize, openRows};
 ghost use Rattle.tables.specs.View.{tablesIn};
 ghost use Rattle.rules.specs.Calls.{close, seek, read, write, truncate};
 ghost use Rattle.rules.specs.Rules.{noRoom};
-ghost use Rattle.handle_calls.specs.Judged.{handledFor, lacksRight, endChecked};
+ghost use Rattle.handle_calls.specs.Judged.{Judgement, lacksRight, endChecked};
 ghost use Rattle.handle_calls.specs.declared.Handled.the-variants.{Open};
 
 // The places of an open file and of its node, or the number that stops the call.
@@ -17,16 +19,24 @@ pub enum Handled {
     Refused(u8),
 }
 
+// The place of the node of the open file in place k, which has this handle.
+fn file_place(m: &[u8], n: usize, k: usize, handle: u64) -> usize
+    requires { ⌜ (n ≤ NODES) × (k < openRows) × (memorySize ≤ length (now m)) ⌝ }
+    ensures { λ r. ⌜ ((w : ℕ) → soundNodes w (take n (memOf (now (m .entry)) .nodes)) ≡ true → r ≡ findId (take n (memOf (now (m .entry)) .nodes)) handle) ⌝ }
+{
+    tables::find_node(m, n, handle, memory::open_hint(m, k) as usize)
+}
+
 // close: 9.
 pub fn judge_close(m: &[u8], n: usize, o: usize, handle: u64) -> Handled
     requires { ⌜ (n ≤ NODES) × (o ≤ openRows) × (memorySize ≤ length (now m)) ⌝ }
-    ensures { λ r. ⌜ r ≡ handledFor (tablesIn n o (memOf (now (m .entry)))) handle (close handle) ⌝ }
+    ensures { λ r. ⌜ Judgement (now (m .entry)) n o handle (close handle) r ⌝ }
 {
     let k = tables::find_handle(m, o, handle);
     if o <= k {
         return Handled::Refused(9);
     }
-    let node = tables::find_id(m, n, handle);
+    let node = file_place(m, n, k, handle);
     Handled::Open { opened: k, node }
 }
 
@@ -44,13 +54,13 @@ fn lacks_right(m: &[u8], o: usize, k: usize, right: u8) -> bool
 // read: 9 without right 1.
 pub fn judge_read(m: &[u8], n: usize, o: usize, handle: u64) -> Handled
     requires { ⌜ (n ≤ NODES) × (o ≤ openRows) × (memorySize ≤ length (now m)) ⌝ }
-    ensures { λ r. ⌜ ((count : ℕ) → r ≡ handledFor (tablesIn n o (memOf (now (m .entry)))) handle (read handle count)) ⌝ }
+    ensures { λ r. ⌜ ((count : ℕ) → Judgement (now (m .entry)) n o handle (read handle count) r) ⌝ }
 {
     let k = tables::find_handle(m, o, handle);
     if lacks_right(m, o, k, 1) {
         return Handled::Refused(9);
     }
-    let node = tables::find_id(m, n, handle);
+    let node = file_place(m, n, k, handle);
     Handled::Open { opened: k, node }
 }
 
@@ -67,11 +77,11 @@ pub fn size_at(m: &[u8], n: usize, k: usize) -> u32
 
 // 22 past the end, for the open file in place k. A position that passes is at most a size, so it fits a u32.
 fn judge_end(m: &[u8], n: usize, handle: u64, k: usize, position: u64) -> Handled
-    requires { ⌜ (n ≤ NODES) × (memorySize ≤ length (now m)) ⌝ }
-    ensures { λ r. ⌜ r ≡ endChecked (take n (memOf (now (m .entry)) .nodes)) handle k position ⌝ }
-    ensures { λ r. ⌜ ((i j : ℕ) → r ≡ Open i j → position < 4294967296) ⌝ }
+    requires { ⌜ (n ≤ NODES) × (k < openRows) × (memorySize ≤ length (now m)) ⌝ }
+    ensures { λ r. ⌜ ((w : ℕ) → soundNodes w (take n (memOf (now (m .entry)) .nodes)) ≡ true → r ≡ endChecked (take n (memOf (now (m .entry)) .nodes)) handle k position) ⌝ }
+    ensures { λ r. ⌜ ((i j : ℕ) → r ≡ Open i j → (i ≡ k) × (position < 4294967296)) ⌝ }
 {
-    let node = tables::find_id(m, n, handle);
+    let node = file_place(m, n, k, handle);
     if (size_at(m, n, node) as u64) < position {
         return Handled::Refused(22);
     }
@@ -81,7 +91,7 @@ fn judge_end(m: &[u8], n: usize, handle: u64, k: usize, position: u64) -> Handle
 // seek: 9, 22 past the end.
 pub fn judge_seek(m: &[u8], n: usize, o: usize, handle: u64, position: u64) -> Handled
     requires { ⌜ (n ≤ NODES) × (o ≤ openRows) × (memorySize ≤ length (now m)) ⌝ }
-    ensures { λ r. ⌜ r ≡ handledFor (tablesIn n o (memOf (now (m .entry)))) handle (seek handle position) ⌝ }
+    ensures { λ r. ⌜ Judgement (now (m .entry)) n o handle (seek handle position) r ⌝ }
     ensures { λ r. ⌜ ((i j : ℕ) → r ≡ Open i j → position < 4294967296) ⌝ }
 {
     let k = tables::find_handle(m, o, handle);
@@ -94,7 +104,7 @@ pub fn judge_seek(m: &[u8], n: usize, o: usize, handle: u64, position: u64) -> H
 // truncate: 9 without right 2, 22 past the end.
 pub fn judge_truncate(m: &[u8], n: usize, o: usize, handle: u64, size: u64) -> Handled
     requires { ⌜ (n ≤ NODES) × (o ≤ openRows) × (memorySize ≤ length (now m)) ⌝ }
-    ensures { λ r. ⌜ r ≡ handledFor (tablesIn n o (memOf (now (m .entry)))) handle (truncate handle size) ⌝ }
+    ensures { λ r. ⌜ Judgement (now (m .entry)) n o handle (truncate handle size) r ⌝ }
 {
     let k = tables::find_handle(m, o, handle);
     if lacks_right(m, o, k, 2) {
@@ -103,13 +113,16 @@ pub fn judge_truncate(m: &[u8], n: usize, o: usize, handle: u64, size: u64) -> H
     judge_end(m, n, handle, k, size)
 }
 
-// Whether the pages would be too many if the node in place k had this size.
+// Whether the pages would be too many if the node in place k had this size. Sound nodes have room for their own.
 fn is_full(m: &[u8], n: usize, k: usize, size: u32) -> bool
     requires { ⌜ (n ≤ NODES) × (memorySize ≤ length (now m)) ⌝ }
-    ensures { λ r. ⌜ ((o : ℕ) → r ≡ noRoom (tablesIn n o (memOf (now (m .entry)))) k size) ⌝ }
+    ensures { λ r. ⌜ ((w o : ℕ) → soundNodes w (take n (memOf (now (m .entry)) .nodes)) ≡ true → r ≡ noRoom (tablesIn n o (memOf (now (m .entry)))) k size) ⌝ }
 {
     if n <= k {
-        return limits::PAGES < tables::first_page(m, n);
+        return false;
+    }
+    if tables::pages_for(size) <= tables::pages_for(memory::node_size(m, k)) {
+        return false;
     }
     limits::PAGES < tables::pages_with(m, n, k, size)
 }
@@ -117,7 +130,7 @@ fn is_full(m: &[u8], n: usize, k: usize, size: u32) -> bool
 // write: 9 without right 2, 27, 28.
 pub fn judge_write(m: &[u8], n: usize, o: usize, handle: u64, bytes: &[u8]) -> Handled
     requires { ⌜ (n ≤ NODES) × (o ≤ openRows) × (memorySize ≤ length (now m)) ⌝ }
-    ensures { λ r. ⌜ r ≡ handledFor (tablesIn n o (memOf (now (m .entry)))) handle (write handle (now (bytes .entry))) ⌝ }
+    ensures { λ r. ⌜ Judgement (now (m .entry)) n o handle (write handle (now (bytes .entry))) r ⌝ }
 {
     let k = tables::find_handle(m, o, handle);
     if lacks_right(m, o, k, 2) {
@@ -131,7 +144,7 @@ pub fn judge_write(m: &[u8], n: usize, o: usize, handle: u64, bytes: &[u8]) -> H
     if limits::FILE_BYTES < end {
         return Handled::Refused(27);
     }
-    let node = tables::find_id(m, n, handle);
+    let node = file_place(m, n, k, handle);
     let size = numbers::larger(size_at(m, n, node), end as u32);
     if is_full(m, n, node, size) {
         return Handled::Refused(28);

@@ -1,20 +1,17 @@
 -- What the judging function answers, the memory that is left and the request that was written are what the machine makes of the call.
 -- Assumes nothing.
-use mathlib.Core.Path.{_≡_, ap, sym, _∙_, subst}
+use mathlib.Core.Path.{_≡_, ap, _∙_}
 use mathlib.Core.Bool.{false}
-use mathlib.Core.List.{List, [], _∷_}
+use mathlib.Core.List.{List, []}
 use Prim.Native.Nat.{ℕ, _<_, _≤_}
 use native.Mathlib.Omega.{arith}
 use lib.ListN.{length}
-use borrow.Author.Tests.{leb-false}
-use Rattle.lists.specs.All.{both}
-use Rattle.lists.specs.Checks.{Check, Passed}
 use Rattle.lists.specs.LittleEndian.{length-encode}
 use Rattle.filesystem.specs.Tables.{Tables, openAt, setCursor}
 use Rattle.rules.specs.Calls.{Call, close, seek}
 use Rattle.rules.specs.Requests.{idle, asked, closing, closeRequest, storeLength}
 use Rattle.rules.specs.Skeleton.{Config, atFront}
-use Rattle.rules.specs.Rules.{send, finish, callChecks, callAction, handleCheck, openPlace}
+use Rattle.rules.specs.Rules.{send, finish, callAction}
 use Rattle.machine.specs.Machine.{State, guard as digestStore}
 use Rattle.memory.specs.Layout.{Mem, memOf, withOpens}
 use Rattle.tables.specs.View.{View, viewOf}
@@ -30,18 +27,6 @@ use Rattle.outcomes.specs.declared.Outcome.the-variants.{Done, Ask, Refused}
 use Rattle.outcomes.specs.Sent.{Sends, refusal-sends, finish-sends, request-sends}
 use Rattle.outcomes.specs.Started.{startedBy}
 use Rattle.handle_calls_begun.specs.Moved.{cursorMoved}
-
-opened-there : (t : Tables) (h k : ℕ) (cs : List Check) → Passed (handleCheck t h ∷ cs) → openPlace t h ≡ k → k < length (t .opens)
-opened-there t h k cs (both a _) e = subst (λ i. i < length (t .opens)) e (leb-false _ _ a)
-
-module _ (t : Tables) (h : ℕ) (r : Handled) (k j : ℕ) (f : r ≡ Open k j) where
-  pub close-there : r ≡ handledFor t h (close h) → k < length (t .opens)
-  unfolding callChecks
-  close-there e = let p = passed-at t h (close h) r e k j f in opened-there t h k _ (p .checks) (p .open-place)
-
-  pub seek-there : (p : ℕ) → r ≡ handledFor t h (seek h p) → k < length (t .opens)
-  unfolding callChecks
-  seek-there n e = let p = passed-at t h (seek h n) r e k j f in opened-there t h k _ (p .checks) (p .open-place)
 
 module _ (c : Config) (s : State (digestStore c)) (h : ℕ) (r : Handled) where
   abbrev here : Tables

@@ -8,6 +8,7 @@ ghost use Rattle.memory.specs.Layout.{memOf, memorySize, openRows};
 ghost use Rattle.rules.specs.Calls.{close, seek};
 ghost use Rattle.rules.specs.Requests.{asked, closing, closeRequest, storeLength};
 ghost use Rattle.rules.specs.Skeleton.{Config, atFront};
+ghost use Rattle.machine.specs.Consistent.{Consistent};
 ghost use Rattle.guard_state.specs.State.{numbersOf, stateOf, gatheredNone};
 ghost use Rattle.guard_state.specs.Waits.{waits};
 ghost use Rattle.outcomes.specs.declared.Outcome.the-variants.{Ask};
@@ -30,7 +31,7 @@ fn send_close(m: &mut [u8], opened: usize, request: &mut [u8]) -> outcomes::Outc
 
 pub fn begin_close(m: &mut [u8], handle: u64, request: &mut [u8]) -> outcomes::Outcome
     requires { ⌜ (memorySize ≤ length (now m)) × (storeLength ≤ length (now request)) ⌝ }
-    ensures { λ r. ⌜ ((c : Config) → Sends c (startedBy c (stateOf c (now (m .entry))) (close handle)) r (now (m .exit)) (now (request .entry)) (now (request .exit))) ⌝ }
+    ensures { λ r. ⌜ ((c : Config) → Consistent c (stateOf c (now (m .entry))) → Sends c (startedBy c (stateOf c (now (m .entry))) (close handle)) r (now (m .exit)) (now (request .entry)) (now (request .exit))) ⌝ }
     ensures { λ _. ⌜ length (now (m .exit)) ≡ length (now (m .entry)) ⌝ }
 {
     let g = guard_state::Guard::load(m);
@@ -54,7 +55,7 @@ fn end_at(m: &mut [u8], opened: usize, position: u32)
 // A seek asks nothing of the host: no request buffer is touched.
 pub fn finish_seek(m: &mut [u8], handle: u64, position: u64) -> outcomes::Outcome
     requires { ⌜ memorySize ≤ length (now m) ⌝ }
-    ensures { λ r. ⌜ ((c : Config) (q : List ℕ) → Sends c (startedBy c (stateOf c (now (m .entry))) (seek handle position)) r (now (m .exit)) q q) ⌝ }
+    ensures { λ r. ⌜ ((c : Config) (q : List ℕ) → Consistent c (stateOf c (now (m .entry))) → Sends c (startedBy c (stateOf c (now (m .entry))) (seek handle position)) r (now (m .exit)) q q) ⌝ }
     ensures { λ _. ⌜ length (now (m .exit)) ≡ length (now (m .entry)) ⌝ }
 {
     let g = guard_state::Guard::load(m);

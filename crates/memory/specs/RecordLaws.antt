@@ -128,9 +128,9 @@ pub record OpenFits (o : OpenFile) : Type 0 where
   pub descriptor-fits : o .descriptor < 256 ^ 4
   pub cursor-fits : o .cursor < 256 ^ 4
 
-pub open-of-row : (o : OpenFile) → OpenFits o → openOf (openRow o) ≡ o
+pub open-of-row : (hint : ℕ) (o : OpenFile) → OpenFits o → openOf (openRow hint o) ≡ o
 unfolding openOf openRow field part encode
-open-of-row o f =
+open-of-row hint o f =
     λ k. record {
       handle = decode-encode 8 (o .handle) (f .handle-fits) k;
       descriptor = decode-encode 4 (o .descriptor) (f .descriptor-fits) k;

@@ -33,16 +33,19 @@ nodeFront id parent kind mode size n = encode 8 id ++ (encode 8 parent ++ (kind 
 unfoldable pub nodeRow : Node → List ℕ
 nodeRow n = nodeFront (n .id) (n .parent) (n .kind) (n .mode) (n .size) (length (n .name)) ++ (n .name ++ replicate (NAME-BYTES + 1 - length (n .name)) 0)
 
--- Open files: rows of 24 bytes, 13 to 15 and the last four spare.
+-- Open files: rows of 24 bytes, 14, 15 and the last four spare. Byte 13 is no part of the open file: where its node stood when it was opened.
 abbrev pub openWidth : ℕ
 openWidth = 24
 
 unfoldable pub openOf : List ℕ → OpenFile
 openOf r = record { handle = field 0 8 r; descriptor = field 8 4 r; rights = field 12 1 r; cursor = field 16 4 r }
 
-unfoldable pub openRow : OpenFile → List ℕ
-openRow o =
+abbrev pub hintAt : ℕ
+hintAt = 13
+
+unfoldable pub openRow : (hint : ℕ) → OpenFile → List ℕ
+openRow hint o =
     encode 8 (o .handle)
     ++ (encode 4 (o .descriptor)
-    ++ (o .rights ∷ 0 ∷ 0 ∷ 0 ∷ (encode 4 (o .cursor)
+    ++ (o .rights ∷ hint ∷ 0 ∷ 0 ∷ (encode 4 (o .cursor)
     ++ (0 ∷ 0 ∷ 0 ∷ 0 ∷ []))))

@@ -9,8 +9,8 @@ ghost use Rattle.lists.specs.Rows.{rows};
 ghost use Rattle.lists.specs.Form.{put-all};
 ghost use Rattle.lists.specs.Formats.{bytes};
 ghost use Rattle.filesystem.specs.Tables.{NODES, PAGES, NAME-BYTES, DIGEST-BYTES, nodeAt, openAt, isChild, newNode, newOpenFile, withSize, withCursor, setMode, setSize, setCursor};
-ghost use Rattle.memory.specs.Records.{nodeFront, nodeOf, openOf};
-ghost use Rattle.memory.specs.Layout.{Mem, memOf, memorySize, headNumbers, openRows, digestWidth, dataSize, newDigests, stagingSize, withHead, withNodes, withOpens, withDigests, withStaged};
+ghost use Rattle.memory.specs.Records.{nodeFront, nodeOf, openOf, openWidth, hintAt};
+ghost use Rattle.memory.specs.Layout.{Mem, memOf, memorySize, headNumbers, opensAt, openRows, digestWidth, dataSize, newDigests, stagingSize, withHead, withNodes, withOpens, withDigests, withStaged};
 
 // The length that the slice needs; `least_length` says that contracts mean the same by `memorySize`.
 pub const SIZE: usize = STAGING_AT + DATA_SIZE + NEW_DIGESTS * DIGEST_WIDTH;
@@ -255,9 +255,23 @@ pub fn open_cursor(m: &[u8], i: usize) -> u32
     numbers::u32_at(m, OPENS_AT + i * OPEN_WIDTH + 16)
 }
 
+// Where the node of open file i stood when it was opened. A removal may have moved it, so this is where a search begins and no more.
+pub fn open_hint(m: &[u8], i: usize) -> u8
+    requires { ⌜ (i < openRows) × (memorySize ≤ length (now m)) ⌝ }
+    ensures { λ r. ⌜ r ≡ getD (now (m .entry)) (opensAt + i * openWidth + hintAt) 0 ⌝ }
+{
+    m[OPENS_AT + i * OPEN_WIDTH + 13]
+}
+
 // An open file's row.
-pub fn open_row(handle: u64, descriptor: u32, rights: u8, cursor: u32) -> [u8; OPEN_WIDTH]
-    ensures { λ r. ⌜ openOf r ≡ withCursor cursor (newOpenFile handle descriptor rights) ⌝ }
+pub fn open_row(
+    handle: u64,
+    descriptor: u32,
+    rights: u8,
+    hint: u8,
+    cursor: u32,
+) -> [u8; OPEN_WIDTH]
+    ensures { λ r. ⌜ (openOf r ≡ withCursor cursor (newOpenFile handle descriptor rights)) × (getD r hintAt 0 ≡ hint) ⌝ }
 {
     let h = numbers::bytes8(handle);
     let d = numbers::bytes4(descriptor);
@@ -276,7 +290,7 @@ pub fn open_row(handle: u64, descriptor: u32, rights: u8, cursor: u32) -> [u8; O
         d[2],
         d[3],
         rights,
-        0,
+        hint,
         0,
         0,
         c[0],

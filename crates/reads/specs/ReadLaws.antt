@@ -2,25 +2,26 @@
 -- Assumes nothing.
 use mathlib.Core.Path.{_≡_, refl, ap, ap₂, sym, _∙_, subst}
 use mathlib.Core.Bool.{Bool, true, false}
-use mathlib.Core.List.{List, [], _∷_}
+use mathlib.Core.List.{List}
 use Prim.Native.Nat.{ℕ, _-_, _<_, _≤_, min}
 use native.Mathlib.Omega.{arith}
 use lib.Dec.{leb}
 use lib.ListN.{length, take}
 use borrow.Author.Tests.{leb-true, leb-false, ne-eqb}
-use Rattle.lists.specs.Equal.{or-fst}
+use Rattle.lists.specs.Equal.{Is, isT, isF, is}
 use Rattle.lists.specs.Pick.{pick, pick-false}
-use Rattle.lists.specs.All.{both}
-use Rattle.lists.specs.Checks.{Passed, decide}
+use Rattle.lists.specs.Checks.{decide}
 use Rattle.lists.specs.LittleEndian.{encode}
-use Rattle.filesystem.specs.Tables.{NODES, Node, OpenFile, Tables, nodeAt, openAt}
+use Rattle.filesystem.specs.Tables.{NODES, FILE-BYTES, Node, OpenFile, Tables, nodeAt, openAt}
+use Rattle.filesystem.specs.Image.{soundNodes}
+use Rattle.filesystem.specs.Sound.{to-sound, by-kind, limits-at}
 use Rattle.memory.specs.Layout.{memOf}
 use Rattle.tables.specs.RowsInUse.{count-nodes}
 use Rattle.rules.specs.Calls.{read}
 use Rattle.rules.specs.Pages.{pageAt}
 use Rattle.rules.specs.Requests.{reading, fetchRequest, storeLength}
 use Rattle.rules.specs.Skeleton.{Config, atFront}
-use Rattle.rules.specs.Rules.{Move, refuse, send, callChecks, callAction, readAction, openPlace, filePlace}
+use Rattle.rules.specs.Rules.{Move, refuse, send, callChecks, callAction, readAction}
 use Rattle.machine.specs.Machine.{State, apply, guard as digestStore}
 use Rattle.handle_calls.specs.declared.Handled.{Handled}
 use Rattle.handle_calls.specs.declared.Handled.the-variants.{Open, Refused as refusedHandle}
@@ -76,18 +77,16 @@ module _ (c : Config) (s : State (digestStore c)) (o k count : ℕ) where
       ∙ ap₂ (λ (i : ℕ) (f : OpenFile). send (reading k o i n (pageAt i)) (fetchRequest (f .descriptor) (pageAt i))) (sym (x ∙ ap (λ (f : OpenFile). f .cursor) y)) (sym y) in
       request-sends c s _ _ (fetchRequest (row .descriptor) (pageAt p)) m q q′ r w g u v (omega (arith, fetch-most (row .descriptor) (pageAt p), h))
 
+-- no file is too large
+pub size-most : (w : ℕ) (ns : List Node) → soundNodes w ns ≡ true → (k : ℕ) → nodeAt ns k .size ≤ FILE-BYTES
+size-most w ns s k = go (is (leb (length ns) k))
+  where
+    go : Is (leb (length ns) k) → nodeAt ns k .size ≤ FILE-BYTES
+    go (isT e) = omega (arith, size-past ns k (leb-true _ _ e))
+    go (isF e) = by-kind (nodeAt ns k .size ≤ FILE-BYTES) (limits-at w ns (to-sound w ns s) k (leb-false _ _ e)) (λ x y. y) (λ x y. omega arith)
+
 -- a read that was judged
 module _ (t : Tables) (h count : ℕ) (r : Handled) (known : r ≡ handledFor t h (read h count)) where
-  pub read-place : (i j : ℕ) → r ≡ Open i j → i < length (t .opens)
-  unfolding callChecks
-  read-place i j e = let p = passed-at t h (read h count) r known i j e in subst (λ x. x < length (t .opens)) (p .open-place) (go (p .checks))
-    where
-      go : Passed (callChecks t (read h count)) → openPlace t h < length (t .opens)
-      go (both f _) = leb-false _ _ (or-fst _ _ f)
-
-  pub read-file : (i j : ℕ) → r ≡ Open i j → filePlace t h ≡ j
-  read-file i j e = passed-at t h (read h count) r known i j e .file-place
-
   read-move : (w i j : ℕ) → r ≡ Open i j → decide refuse (callChecks t (read h count)) (callAction t w (read h count)) ≡ readOf t i j (leftOf t i j count)
   unfolding callAction readAction readOf leftOf
   read-move w i j e =

@@ -11,7 +11,6 @@ ghost use Rattle.rules.specs.Calls.{read};
 ghost use Rattle.rules.specs.Pages.{pageAt, pagePart};
 ghost use Rattle.rules.specs.Requests.{reading, fetchRequest, storeLength};
 ghost use Rattle.rules.specs.Skeleton.{Config, atFront};
-ghost use Rattle.rules.specs.Rules.{filePlace};
 ghost use Rattle.machine.specs.Machine.{apply, readOn, guard as digestStore};
 ghost use Rattle.machine.specs.Consistent.{Consistent};
 ghost use Rattle.guard_state.specs.State.{numbersOf, stateOf, gatheredNone, gatheredRead, filePages};
@@ -76,7 +75,7 @@ fn read_at(
 // read: at most count bytes from the cursor on, of the open file with this handle.
 pub fn begin_read(m: &mut [u8], handle: u64, count: usize, request: &mut [u8]) -> outcomes::Outcome
     requires { ⌜ (count ≤ DATA-BYTES) × (memorySize ≤ length (now m)) × (storeLength ≤ length (now request)) ⌝ }
-    ensures { λ r. ⌜ ((c : Config) → nodeAt (stateOf c (now (m .entry)) .skeleton .tables .nodes) (filePlace (stateOf c (now (m .entry)) .skeleton .tables) handle) .size ≤ FILE-BYTES → Sends c (startedBy c (stateOf c (now (m .entry))) (read handle count)) r (now (m .exit)) (now (request .entry)) (now (request .exit))) ⌝ }
+    ensures { λ r. ⌜ ((c : Config) → Consistent c (stateOf c (now (m .entry))) → Sends c (startedBy c (stateOf c (now (m .entry))) (read handle count)) r (now (m .exit)) (now (request .entry)) (now (request .exit))) ⌝ }
     ensures { λ _. ⌜ length (now (m .exit)) ≡ length (now (m .entry)) ⌝ }
 {
     let g = guard_state::Guard::load(m);

@@ -11,7 +11,7 @@ use lib.ListN.{length, getD, take, drop, set, replicate, length-drop, drop-of-le
 use lib.Seq.{drop-drop, getD-set-same, getD-set-other}
 use borrow.Author.Tests.{eqb-true, eq-eqb, le-leb, lt-leb, leb-true, leb-false, lt-ltb, le-ltb}
 use Rattle.lists.specs.Pick.{pick, pick-true, pick-false}
-use Rattle.lists.specs.Equal.{Is, isT, isF, is, equal, equal-true, equal-refl, equal-yes, and-fst, and-snd, and-both, or-both}
+use Rattle.lists.specs.Equal.{Is, isT, isF, is, equal-true, equal-refl, equal-yes, and-fst, and-snd, and-both, or-both}
 use Rattle.lists.specs.Parts.{part}
 use Rattle.lists.specs.LittleEndian.{decode}
 use Rattle.lists.specs.NumberParts.{decode-first, decode-none}
@@ -22,7 +22,7 @@ use Rattle.lists.specs.Places.{any-at, place-none}
 use Rattle.lists.specs.Rearranged.{Inserted, front as at-front, behind, isRearranged, inserted-length, found-again}
 use Rattle.filesystem.specs.Tables.{ID-BYTES, Node, Tables, noNode, nodeAt, hasId, hasParent, isChild, findId, children}
 use Rattle.filesystem.specs.Image.{soundNodes}
-use Rattle.filesystem.specs.Sound.{Sound, to-sound, findId-only, findId-has}
+use Rattle.filesystem.specs.Sound.{Sound, to-sound, findId-has, place-with-id}
 use Rattle.rules.specs.Requests.{asked, listing}
 use Rattle.rules.specs.Rules.{Entry, entryForm, entryOf, sameEntry, isListing, replyChecks}
 use Rattle.replies.specs.Judged.{reasonFor}
@@ -256,10 +256,6 @@ module _ (p : ℕ) where
           → any (sameEntry x) (map entryOf (pick t (n ∷ unseen p ns (λ j. f (suc j))) (unseen p ns (λ j. f (suc j))))) ≡ false
       go true e a = or-both _ _ (h 0 (omega arith) (and-fst _ _ e) (eqb-true _ _ (and-snd (hasParent p n) _ e))) a
       go false e a = a
-
--- Ids differ, so a place with the id is the place.
-pub place-with-id : (ns : List Node) (j x : ℕ) → Sound ID-BYTES ns → j < length ns → nodeAt ns j .id ≡ x → j ≡ findId ns x
-place-with-id ns j x s h e = sym (ap (findId ns) (sym e) ∙ findId-only ns j h (λ i l q. s .ids i j l h q))
 
 -- The place that an entry names.
 module _ (ns : List Node) (p : ℕ) (x : Entry) where

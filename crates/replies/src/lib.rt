@@ -140,19 +140,6 @@ fn entry_end(reply: &[u8], at: usize) -> usize
     end
 }
 
-// The place of the node with this id, or n. `next` is tried first: ids differ among sound nodes, so where it has the id, the search would find it too.
-fn place_of_id(m: &[u8], n: usize, id: u64, next: usize) -> usize
-    requires { ⌜ (n ≤ NODES) × (memorySize ≤ length (now m)) ⌝ }
-    ensures { λ r. ⌜ (soundNodes ID-BYTES (take n (memOf (now (m .entry)) .nodes)) ≡ true → r ≡ findId (take n (memOf (now (m .entry)) .nodes)) id) ⌝ }
-{
-    if next < n {
-        if memory::node_id(m, next) == id {
-            return next;
-        }
-    }
-    tables::find_id(m, n, id)
-}
-
 // The place of the node with the id of the entry at `at`, or n where there is none or it is not the child that the entry names.
 fn entry_place(
     m: &[u8],
@@ -166,7 +153,7 @@ fn entry_place(
     requires { ⌜ (n ≤ NODES) × (memorySize ≤ length (now m)) × (end ≡ entryEnd ID-BYTES (now reply) at) × (end ≤ length (now reply)) ⌝ }
     ensures { λ r. ⌜ (soundNodes ID-BYTES (take n (memOf (now (m .entry)) .nodes)) ≡ true → r ≡ entryPlace (take n (memOf (now (m .entry)) .nodes)) id (entryAt ID-BYTES (now (reply .entry)) at)) ⌝ }
 {
-    let k = place_of_id(m, n, numbers::number_at(reply, at, limits::ID_BYTES), next);
+    let k = tables::find_node(m, n, numbers::number_at(reply, at, limits::ID_BYTES), next);
     if n <= k {
         return n;
     }

@@ -102,7 +102,13 @@ pub fn accept_open(m: &mut [u8], reply: &[u8]) -> outcomes::Outcome
         return outcomes::Outcome::Stopped(4);
     }
     let id = memory::node_id(m, g.node);
-    let row = memory::open_row(id, numbers::u32_at(reply, 0), (g.rights % 256) as u8, 0);
+    let row = memory::open_row(
+        id,
+        numbers::u32_at(reply, 0),
+        (g.rights % 256) as u8,
+        (g.node % limits::NODES) as u8,
+        0,
+    );
     tables::add_open(m, o, row);
     guard_state::rest(m, g.nodes, o + 1);
     outcomes::Outcome::Done {

@@ -1,13 +1,14 @@
 // The guard's tables: searches and changes of nodes, open files and page digests, each equal to its definition.
 // Contracts are over the rows in use (specs/View.antt); where a row stands is the memory crate's.
 ghost use mathlib.Core.Path.{_≡_};
+ghost use mathlib.Core.Bool.{true};
 ghost use Prim.Native.Nat.{ℕ, _+_, _-_, _*_, _≤_, _<_};
 ghost use mathlib.Core.List.{List, []};
 ghost use lib.ListN.{length, getD, take};
 ghost use Rattle.lists.specs.Equal.{equal};
 ghost use Rattle.digest.specs.Sha256.{sha256};
 ghost use Rattle.filesystem.specs.Tables.{NODES, PAGES, findId, findChild, children, findHandle, findDescriptor, nodeAt, pagesFor, pageTotal, setSize};
-ghost use Rattle.filesystem.specs.Image.{divide};
+ghost use Rattle.filesystem.specs.Image.{soundNodes, divide};
 ghost use Rattle.memory.specs.Records.{nodeOf, openOf};
 ghost use Rattle.memory.specs.Layout.{memOf, memorySize, openRows};
 ghost use Rattle.tables.specs.View.{viewOf, withNode, withoutNode, withOpen, withoutOpen, withChange, stagedDigests, Changeable, mayChange, pagesChange};
@@ -28,6 +29,19 @@ pub fn find_id(m: &[u8], n: usize, id: u64) -> usize
         i += 1;
     }
     i
+}
+
+// The same, with a place that is tried first: ids differ among sound nodes, so where it has the id, the search would find it too.
+pub fn find_node(m: &[u8], n: usize, id: u64, hint: usize) -> usize
+    requires { ⌜ (n ≤ NODES) × (memorySize ≤ length (now m)) ⌝ }
+    ensures { λ r. ⌜ ((w : ℕ) → soundNodes w (take n (memOf (now (m .entry)) .nodes)) ≡ true → r ≡ findId (take n (memOf (now (m .entry)) .nodes)) id) ⌝ }
+{
+    if hint < n {
+        if memory::node_id(m, hint) == id {
+            return hint;
+        }
+    }
+    find_id(m, n, id)
 }
 
 // The place of the node with this parent and this name, or the count of nodes.

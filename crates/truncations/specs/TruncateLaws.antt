@@ -23,9 +23,6 @@ use Rattle.rules.specs.Valid.{ChangeFits}
 use Rattle.rules.specs.FitLaws.{shrink-fits}
 use Rattle.machine.specs.Machine.{State, Result, pagesFrom, apply, guard as digestStore}
 use Rattle.machine.specs.Consistent.{Consistent}
-use Rattle.handle_calls.specs.declared.Handled.{Handled}
-use Rattle.handle_calls.specs.declared.Handled.the-variants.{Open}
-use Rattle.handle_calls.specs.Judged.{handledFor}
 use Rattle.handle_calls.specs.MoveLaws.{PassedAt}
 use Rattle.guard_state.specs.declared.Guard.{Guard}
 use Rattle.guard_state.specs.State.{numbersOf, stateOf, gatheredNone}
@@ -36,7 +33,7 @@ use Rattle.guard_state.specs.Waits.{waits, ends}
 use Rattle.outcomes.specs.declared.Outcome.{Outcome}
 use Rattle.outcomes.specs.declared.Outcome.the-variants.{Done}
 use Rattle.outcomes.specs.Sent.{Sends, finish-sends}
-use Rattle.changes.specs.BegunLaws.{begun-pages, call-place, passed-open, passed-node}
+use Rattle.changes.specs.BegunLaws.{begun-pages, passed-open, passed-node}
 use Rattle.truncations.specs.Shrinking.{Shrinking, shrinkIn}
 
 -- its handle is known, and its file is no shorter
@@ -113,6 +110,3 @@ module _ (c : Config) (m : List ℕ) (held : Consistent c (stateOf c m)) (handle
 pub shrink-call : (m m₁ : List ℕ) (k o z : ℕ) → numbersOf (memOf m₁ .head) ≡ shrinkNumbers (numbersOf (memOf m .head)) k o z → Shrinking (numbersOf (memOf m₁ .head) .call)
 unfolding shrinkNumbers
 shrink-call m m₁ k o z e = let n : numbersOf (memOf m₁ .head) .call ≡ 11 = ap (λ (x : Guard). x .call) e in (omega arith, omega arith)
-
-pub truncate-place : (t : Tables) (h n : ℕ) (r : Handled) → r ≡ handledFor t h (truncate h n) → (i j : ℕ) → r ≡ Open i j → i < length (t .opens)
-truncate-place t h n = call-place t h (truncate h n) (λ p. passed-truncate t h n p .0)

@@ -25,9 +25,6 @@ use Rattle.rules.specs.Valid.{ChangeFits}
 use Rattle.rules.specs.FitLaws.{grow-fits}
 use Rattle.machine.specs.Machine.{State, Result, pagesFrom, apply, guard as digestStore}
 use Rattle.machine.specs.Consistent.{Consistent}
-use Rattle.handle_calls.specs.declared.Handled.{Handled}
-use Rattle.handle_calls.specs.declared.Handled.the-variants.{Open}
-use Rattle.handle_calls.specs.Judged.{handledFor}
 use Rattle.handle_calls.specs.MoveLaws.{PassedAt}
 use Rattle.guard_state.specs.declared.Guard.{Guard}
 use Rattle.guard_state.specs.State.{numbersOf, stateOf, gatheredNone}
@@ -38,7 +35,7 @@ use Rattle.guard_state.specs.Waits.{waits, ends}
 use Rattle.outcomes.specs.declared.Outcome.{Outcome}
 use Rattle.outcomes.specs.declared.Outcome.the-variants.{Done}
 use Rattle.outcomes.specs.Sent.{Sends, finish-sends}
-use Rattle.changes.specs.BegunLaws.{begun-pages, call-place, passed-open, passed-node}
+use Rattle.changes.specs.BegunLaws.{begun-pages, passed-open, passed-node}
 use Rattle.changes.specs.Sending.{Sending}
 use Rattle.writes.specs.Writing.{Writing, writeIn}
 use Rattle.writes.specs.RepliedLaws.{fetch-waits}
@@ -142,6 +139,3 @@ module _ (c : Config) (m : List ℕ) (held : Consistent c (stateOf c m)) (handle
           ((λ i. pagesFrom c (digestStore c) (waiting i) (numbers i .node) (numbers i .opened) (begun-change i) (z / PAGE-BYTES))
           ∙ begun-pages c s (fetching node opened (writing z bytes) 0) node opened (writing z bytes)
           ∙ ap (apply c (digestStore c) s) (sym begins))
-
-pub write-place : (t : Tables) (h : ℕ) (d : List ℕ) (r : Handled) → r ≡ handledFor t h (write h d) → (i j : ℕ) → r ≡ Open i j → i < length (t .opens)
-write-place t h d = call-place t h (write h d) (λ p. passed-write t h d p .0)

@@ -6,7 +6,7 @@ use Rattle.filesystem.specs.Tables.{DATA-BYTES}
 use Rattle.guard_state.specs.State.{stateOf}
 use Rattle.call_reader.specs.declared.ParsedCall.{ParsedCall}
 use Rattle.call_reader.specs.Meaning.{meant, Ranges}
-use Rattle.calls.specs.CalledLaws.{call-as, path-as, none-as, size-most, rest-length, write-as}
+use Rattle.calls.specs.CalledLaws.{call-as, path-as, none-as, rest-length, write-as}
 use borrow.Author.Needs.{needs}
 use Rattle.calls.proofs.begin_call.Statement.{statement}
 use Rattle.calls.proofs.begin_call.Tie as tie
@@ -57,7 +57,7 @@ returns-2 c =
     let v = s .before .before .before .before in
     let k = v .before .before in
     let a = k .before .before .before .before .args in (
-      λ q d w h. call-as q w (stateOf q (a .m .now)) (a .call .now) (k .read-call .result) (k .read-call .ensures .0) _ (ap (λ (z : ParsedCall). meant z (a .call .now)) (v .p2 .given .1)) _ _ (a .request .now) _ (s .begin-close .ensures .0 q),
+      λ q d w h. call-as q w (stateOf q (a .m .now)) (a .call .now) (k .read-call .result) (k .read-call .ensures .0) _ (ap (λ (z : ParsedCall). meant z (a .call .now)) (v .p2 .given .1)) _ _ (a .request .now) _ (s .begin-close .ensures .0 q h),
       omega arith,
     )
 
@@ -68,7 +68,7 @@ returns-3 c =
     let v = s .before .before .before in
     let k = v .before .before in
     let a = k .before .before .before .before .args in (
-      λ q d w h. call-as q w (stateOf q (a .m .now)) (a .call .now) (k .read-call .result) (k .read-call .ensures .0) _ (ap (λ (z : ParsedCall). meant z (a .call .now)) (v .p3 .given .1)) _ _ (a .request .now) _ (s .finish-seek .ensures .0 q (a .request .now)),
+      λ q d w h. call-as q w (stateOf q (a .m .now)) (a .call .now) (k .read-call .result) (k .read-call .ensures .0) _ (ap (λ (z : ParsedCall). meant z (a .call .now)) (v .p3 .given .1)) _ _ (a .request .now) _ (s .finish-seek .ensures .0 q (a .request .now) h),
       omega arith,
     )
 
@@ -89,7 +89,7 @@ returns-4 c =
     let k = v .before .before in
     let a = k .before .before .before .before .args in (
       λ q d w h. call-as q w (stateOf q (a .m .now)) (a .call .now) (k .read-call .result) (k .read-call .ensures .0) _ (ap (λ (z : ParsedCall). meant z (a .call .now)) (v .p4 .given .1)) _ _ (a .request .now) _
-          (s .begin-read .ensures .0 q (size-most q (stateOf q (a .m .now)) h _)),
+          (s .begin-read .ensures .0 q h),
       omega arith,
     )
 

@@ -6,10 +6,10 @@ use Rattle.memory.specs.Layout.{memOf}
 use Rattle.tables.specs.View.{tablesIn}
 use Rattle.tables.specs.RowsInUse.{count-opens, open-front}
 use Rattle.rules.specs.Calls.{close}
-use Rattle.handle_calls.specs.Judged.{handledFor}
+use Rattle.handle_calls.specs.HandledLaws.{judged-at}
 use Rattle.guard_state.specs.State.{stateOf}
 use Rattle.guard_state.specs.LoadedLaws.{counts-fit, tables-loaded}
-use Rattle.handle_calls_begun.specs.StartedLaws.{close-there, handle-refused, close-sends}
+use Rattle.handle_calls_begun.specs.StartedLaws.{handle-refused, close-sends}
 use borrow.Author.Needs.{needs}
 use Rattle.handle_calls_begun.proofs.begin_close.Statement.{statement}
 use Rattle.handle_calls_begun.proofs.begin_close.Tie as tie
@@ -30,8 +30,7 @@ send-close-requires c κs =
     let a = l .before .before .before .before .args in
     let f = counts-fit (a .m .now) _ (l .load .ensures) in
     let n = count-opens (a .m .now) (l .load .result .opens) (f .1) in
-    let p = close-there (tablesIn (l .load .result .nodes) (l .load .result .opens) (memOf (a .m .now))) (a .handle) _ _ _ (v .w .given .1) (j .judge-close .ensures) in
-    (omega (arith, n, f .1, p), omega arith, omega arith)
+    (omega (arith, f .1, j .judge-close .ensures .there _ _ (v .w .given .1)), omega arith, omega arith)
 
 returns : tie.Need-returns
 unfolding tablesIn
@@ -43,10 +42,10 @@ returns c =
     let a = l .before .before .before .before .args in
     let f = counts-fit (a .m .now) _ (l .load .ensures) in
     let n = count-opens (a .m .now) (l .load .result .opens) (f .1) in
-    let p = close-there (tablesIn (l .load .result .nodes) (l .load .result .opens) (memOf (a .m .now))) (a .handle) _ _ _ (v .w .given .1) (j .judge-close .ensures) in (
-      λ q.
+    let p = j .judge-close .ensures .there _ _ (v .w .given .1) in (
+      λ q h.
           let u = tables-loaded (a .m .now) _ (l .load .ensures) q in
-          close-sends q (stateOf q (a .m .now)) (a .handle) _ _ _ _ _ (a .request .now) _ _ (j .judge-close .ensures ∙ ap (λ (t : Tables). handledFor t (a .handle) (close (a .handle))) u) (v .w .given .1)
+          close-sends q (stateOf q (a .m .now)) (a .handle) _ _ _ _ _ (a .request .now) _ _ (judged-at _ (j .judge-close .ensures) _ u (q .width) (h .holds .valid .tables .nodes-valid .sound)) (v .w .given .1)
           (ap (λ (t : Tables). openAt (t .opens) (v .w .given .0 .0) .descriptor) (sym u)
           ∙ ap (λ (x : OpenFile). x .descriptor) (open-front (l .load .result .opens) (memOf (a .m .now) .opens) (v .w .given .0 .0) (omega (arith, n, p))))
           (s .send-close .ensures .0 q) (s .send-close .ensures .1 .1 .0) (s .send-close .ensures .1 .1 .1) (omega arith),
@@ -59,9 +58,9 @@ returns-2 c =
     let j = v .before .before in
     let l = j .before .before in
     let a = l .before .before .before .before .args in (
-      λ q.
+      λ q h.
           handle-refused q (stateOf q (a .m .now)) (a .handle) _ (close (a .handle)) _ (a .m .now) (a .request .now)
-          (j .judge-close .ensures ∙ ap (λ (t : Tables). handledFor t (a .handle) (close (a .handle))) (tables-loaded (a .m .now) _ (l .load .ensures) q)) (v .w2 .given .1) refl,
+          (judged-at _ (j .judge-close .ensures) _ (tables-loaded (a .m .now) _ (l .load .ensures) q) (q .width) (h .holds .valid .tables .nodes-valid .sound)) (v .w2 .given .1) refl,
       refl,
     )
 

@@ -1,16 +1,13 @@
 -- `handle_calls_begun::finish_seek` meets its contract. Assumes nothing.
 use native.Mathlib.Omega.{arith}
-use mathlib.Core.Path.{refl, ap, _∙_}
-use Rattle.filesystem.specs.Tables.{Tables}
-use Rattle.memory.specs.Layout.{memOf}
+use mathlib.Core.Path.{refl, ap}
 use Rattle.tables.specs.View.{tablesIn}
-use Rattle.tables.specs.RowsInUse.{count-opens}
 use Rattle.rules.specs.Calls.{seek}
-use Rattle.handle_calls.specs.Judged.{handledFor}
+use Rattle.handle_calls.specs.HandledLaws.{judged-at}
 use Rattle.guard_state.specs.declared.Guard.{Guard}
 use Rattle.guard_state.specs.State.{stateOf}
 use Rattle.guard_state.specs.LoadedLaws.{counts-fit, tables-loaded}
-use Rattle.handle_calls_begun.specs.StartedLaws.{seek-there, handle-refused, seek-sends}
+use Rattle.handle_calls_begun.specs.StartedLaws.{handle-refused, seek-sends}
 use borrow.Author.Needs.{needs}
 use Rattle.handle_calls_begun.proofs.finish_seek.Statement.{statement}
 use Rattle.handle_calls_begun.proofs.finish_seek.Tie as tie
@@ -37,10 +34,9 @@ end-at-requires c κs =
     let l = j .before .before in
     let a = l .before .before .before .args in
     let f = counts-fit (a .m .now) _ (l .load .ensures) in
-    let n = count-opens (a .m .now) (l .load .result .opens) (f .1) in
-    let p = seek-there (tablesIn (l .load .result .nodes) (l .load .result .opens) (memOf (a .m .now))) (a .handle) _ _ _ (v .w .given .1) (a .position) (j .judge-seek .ensures .0) in
+    let p = j .judge-seek .ensures .0 .there _ _ (v .w .given .1) in
     let o = ap (λ (g : Guard). g .opens) (l .load .ensures) in
-    (omega (arith, n, p, o), omega (arith, n, p, f .1), omega arith)
+    (omega (arith, p, o), omega (arith, p, f .1), omega arith)
 
 returns : tie.Need-returns
 returns c =
@@ -49,9 +45,9 @@ returns c =
     let j = v .before .before in
     let l = j .before .before in
     let a = l .before .before .before .args in (
-      λ q x.
+      λ q x h.
           seek-sends q (stateOf q (a .m .now)) (a .handle) _ _ _ (a .position) _ x
-          (j .judge-seek .ensures .0 ∙ ap (λ (t : Tables). handledFor t (a .handle) (seek (a .handle) (a .position))) (tables-loaded (a .m .now) _ (l .load .ensures) q)) (v .w .given .1)
+          (judged-at _ (j .judge-seek .ensures .0) _ (tables-loaded (a .m .now) _ (l .load .ensures) q) (q .width) (h .holds .valid .tables .nodes-valid .sound)) (v .w .given .1)
           (s .end-at .ensures .0 q),
       omega arith,
     )
@@ -62,9 +58,9 @@ returns-2 c =
     let j = v .before .before in
     let l = j .before .before in
     let a = l .before .before .before .args in (
-      λ q x.
+      λ q x h.
           handle-refused q (stateOf q (a .m .now)) (a .handle) _ (seek (a .handle) (a .position)) _ (a .m .now) x
-          (j .judge-seek .ensures .0 ∙ ap (λ (t : Tables). handledFor t (a .handle) (seek (a .handle) (a .position))) (tables-loaded (a .m .now) _ (l .load .ensures) q)) (v .w2 .given .1) refl,
+          (judged-at _ (j .judge-seek .ensures .0) _ (tables-loaded (a .m .now) _ (l .load .ensures) q) (q .width) (h .holds .valid .tables .nodes-valid .sound)) (v .w2 .given .1) refl,
       refl,
     )
 

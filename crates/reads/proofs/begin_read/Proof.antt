@@ -1,17 +1,11 @@
 -- `reads::begin_read` meets its contract. Assumes nothing.
 use native.Mathlib.Omega.{arith}
-use mathlib.Core.Path.{refl, ap, subst, _∙_}
-use Prim.Native.Nat.{ℕ, _≤_}
-use Rattle.filesystem.specs.Tables.{FILE-BYTES, Tables, nodeAt}
-use Rattle.memory.specs.Layout.{memOf}
-use Rattle.tables.specs.View.{tablesIn}
-use Rattle.tables.specs.RowsInUse.{count-opens}
-use Rattle.rules.specs.Calls.{read}
-use Rattle.handle_calls.specs.Judged.{handledFor}
+use mathlib.Core.Path.{refl, ap}
+use Rattle.handle_calls.specs.HandledLaws.{judged-at}
 use Rattle.guard_state.specs.declared.Guard.{Guard}
 use Rattle.guard_state.specs.State.{stateOf}
 use Rattle.guard_state.specs.LoadedLaws.{counts-fit, tables-loaded}
-use Rattle.reads.specs.ReadLaws.{read-place, read-file, refused-sends, read-sends}
+use Rattle.reads.specs.ReadLaws.{size-most, refused-sends, read-sends}
 use borrow.Author.Needs.{needs}
 use Rattle.reads.proofs.begin_read.Statement.{statement}
 use Rattle.reads.proofs.begin_read.Tie as tie
@@ -23,19 +17,17 @@ judge-read-requires c κs =
     (counts-fit (a .m .now) _ (l .load .ensures) .0, counts-fit (a .m .now) _ (l .load .ensures) .1, omega arith)
 
 read-at-requires : tie.Need-read-at-requires
-unfolding tablesIn
 read-at-requires c κs =
     let v = c .before .before .before in
     let j = v .before .before in
     let l = j .before .before in
     let a = l .before .before .before .before .args in
     let o = counts-fit (a .m .now) _ (l .load .ensures) .1 in
-    let p = read-place (tablesIn (l .load .result .nodes) (l .load .result .opens) (memOf (a .m .now))) (a .handle) (a .count) _ (j .judge-read .ensures (a .count)) _ _ (v .j .given .1) in
-    let n = count-opens (a .m .now) (l .load .result .opens) o in (
+    let p = j .judge-read .ensures (a .count) .there _ _ (v .j .given .1) in (
       ap (λ (x : Guard). x .nodes) (l .load .ensures),
-      omega (arith, p, n, ap (λ (x : Guard). x .opens) (l .load .ensures)),
+      omega (arith, p, ap (λ (x : Guard). x .opens) (l .load .ensures)),
       counts-fit (a .m .now) _ (l .load .ensures) .0,
-      omega (arith, p, n, o),
+      omega (arith, p, o),
       omega arith,
       omega arith,
       omega arith,
@@ -49,10 +41,9 @@ returns c =
     let l = j .before .before in
     let a = l .before .before .before .before .args in (
       λ q h.
-          let t = stateOf q (a .m .now) .skeleton .tables in
-          let e = j .judge-read .ensures (a .count) ∙ ap (λ (x : Tables). handledFor x (a .handle) (read (a .handle) (a .count))) (tables-loaded (a .m .now) _ (l .load .ensures) q) in
+          let e = judged-at _ (j .judge-read .ensures (a .count)) _ (tables-loaded (a .m .now) _ (l .load .ensures) q) (q .width) (h .holds .valid .tables .nodes-valid .sound) in
           read-sends q (stateOf q (a .m .now)) (a .handle) (a .count) _ e _ _ _ (a .request .now) _ _ (v .j .given .1)
-          (s .read-at .ensures .0 q (subst (λ (k : ℕ). nodeAt (t .nodes) k .size ≤ FILE-BYTES) (read-file t (a .handle) (a .count) _ e _ _ (v .j .given .1)) h)),
+          (s .read-at .ensures .0 q (size-most (q .width) _ (h .holds .valid .tables .nodes-valid .sound) _)),
       omega arith,
     )
 
@@ -64,7 +55,7 @@ returns-2 c =
     let a = l .before .before .before .before .args in (
       λ q h.
           refused-sends q (stateOf q (a .m .now)) (a .handle) (a .count) _
-          (j .judge-read .ensures (a .count) ∙ ap (λ (x : Tables). handledFor x (a .handle) (read (a .handle) (a .count))) (tables-loaded (a .m .now) _ (l .load .ensures) q))
+          (judged-at _ (j .judge-read .ensures (a .count)) _ (tables-loaded (a .m .now) _ (l .load .ensures) q) (q .width) (h .holds .valid .tables .nodes-valid .sound))
           _ (a .m .now) (a .request .now) (v .j2 .given .1) refl,
       refl,
     )

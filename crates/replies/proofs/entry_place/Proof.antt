@@ -17,8 +17,8 @@ use Rattle.replies.proofs.entry_place.Tie as tie
 number-at-requires : tie.Need-number-at-requires
 number-at-requires c κs = let f = end-front ID-BYTES (c .before .before .args .reply .now) (c .before .before .args .at) in search needs
 
-place-of-id-requires : tie.Need-place-of-id-requires
-place-of-id-requires c κs = search needs
+find-node-requires : tie.Need-find-node-requires
+find-node-requires c κs = search needs
 
 returns : tie.Need-returns
 unfolding entryAt
@@ -28,8 +28,8 @@ returns c v =
     let ns = take (a .n) (memOf (a .m .now) .nodes) in
     let e : length ns ≡ a .n = count-nodes (a .m .now) (a .n) (omega arith) in
     let x = entryAt ID-BYTES s (a .at) in
-    let k = c .before .place-of-id .result in
-    let named : k ≡ findId ns (x .0) = c .before .place-of-id .ensures v ∙ ap (findId ns) (c .before .before .number-at .ensures) in
+    let k = c .before .find-node .result in
+    let named : k ≡ findId ns (x .0) = c .before .find-node .ensures ID-BYTES v ∙ ap (findId ns) (c .before .before .number-at .ensures) in
     sym e ∙ place-gone ns (a .id) x k named (omega arith)
 
 add-if2 : tie.Need-add-if2
@@ -49,8 +49,8 @@ returns-2 c v =
     let ns = take (a .n) (memOf (a .m .now) .nodes) in
     let e : length ns ≡ a .n = count-nodes (a .m .now) (a .n) (omega arith) in
     let x = entryAt ID-BYTES s (a .at) in
-    let k = c .before .before .before .before .place-of-id .result in
-    let named : k ≡ findId ns (x .0) = c .before .before .before .before .place-of-id .ensures v ∙ ap (findId ns) (c .before .before .before .before .before .number-at .ensures) in
+    let k = c .before .before .before .before .find-node .result in
+    let named : k ≡ findId ns (x .0) = c .before .before .before .before .find-node .ensures ID-BYTES v ∙ ap (findId ns) (c .before .before .before .before .before .number-at .ensures) in
     let g = node-front (a .n) (memOf (a .m .now) .nodes) k (omega arith) in
     sym e ∙ place-other-kind ns (a .id) x k named (λ q. c .if2 .taken (q ∙ ap (λ (y : Node). y .kind) g ∙ sym (c .before .node-kind .ensures)))
 
@@ -77,8 +77,8 @@ returns-3 c v =
     let ns = take (a .n) (memOf (a .m .now) .nodes) in
     let e : length ns ≡ a .n = count-nodes (a .m .now) (a .n) (omega arith) in
     let x = entryAt ID-BYTES s (a .at) in
-    let k = c .before .before .before .before .before .before .before .place-of-id .result in
-    let named : k ≡ findId ns (x .0) = c .before .before .before .before .before .before .before .place-of-id .ensures v ∙ ap (findId ns) (c .before .before .before .before .before .before .before .before .number-at .ensures) in
+    let k = c .before .before .before .before .before .before .before .find-node .result in
+    let named : k ≡ findId ns (x .0) = c .before .before .before .before .before .before .before .find-node .ensures ID-BYTES v ∙ ap (findId ns) (c .before .before .before .before .before .before .before .before .number-at .ensures) in
     let g = node-front (a .n) (memOf (a .m .now) .nodes) k (omega arith) in
     let f = end-front ID-BYTES s (a .at) in
     let y : c .before .is-child .result ≡ isChild (a .id) (x .1 .1) (nodeAt ns k) =
@@ -93,8 +93,8 @@ returns-4 c v =
     let ns = take (a .n) (memOf (a .m .now) .nodes) in
     let e : length ns ≡ a .n = count-nodes (a .m .now) (a .n) (omega arith) in
     let x = entryAt ID-BYTES s (a .at) in
-    let k = c .before .before .before .before .before .before .before .place-of-id .result in
-    let named : k ≡ findId ns (x .0) = c .before .before .before .before .before .before .before .place-of-id .ensures v ∙ ap (findId ns) (c .before .before .before .before .before .before .before .before .number-at .ensures) in
+    let k = c .before .before .before .before .before .before .before .find-node .result in
+    let named : k ≡ findId ns (x .0) = c .before .before .before .before .before .before .before .find-node .ensures ID-BYTES v ∙ ap (findId ns) (c .before .before .before .before .before .before .before .before .number-at .ensures) in
     let g = node-front (a .n) (memOf (a .m .now) .nodes) k (omega arith) in
     let f = end-front ID-BYTES s (a .at) in
     let y : c .before .is-child .result ≡ isChild (a .id) (x .1 .1) (nodeAt ns k) =
@@ -107,7 +107,7 @@ entry-place-spec =
     tie.close
     (tie.spec
     number-at-requires
-    place-of-id-requires
+    find-node-requires
     returns
     add-if2
     shared-slice-read-if2

@@ -72,7 +72,7 @@ u32-at-requires c κs =
 
 rest-requires : tie.Need-rest-requires
 rest-requires c κs =
-    let t = c .before .before .before .before .before .before .before .before .before .before in
+    let t = c .before .before .before .before .before .before .before .before .before .before .before in
     let g = t .before .before .before .before in
     let a = g .before .before .before .before .args in
     let f = counts-fit (a .m .now) _ (g .load .ensures) in
@@ -84,7 +84,7 @@ returns-3 c =
     let r = c .before .before in
     let v = r .before .before .before .before in
     let w = v .before .before in
-    let x = w .before .before in
+    let x = w .before .before .before in
     let i = x .before in
     let j = i .before .before .before .before in
     let g = j .before .before in
@@ -105,7 +105,7 @@ returns-3 c =
           ∙ sym (ap (λ f. f .id) (node-front (g .load .result .nodes) (memOf (a .m .now) .nodes) (n .node) (omega (arith, m, l)))) ∙ ap (λ (t : Tables). nodeAt (t .nodes) (n .node) .id) y in
           let t : x .u32-at .result ≡ decode (a .reply .now) =
           x .u32-at .ensures ∙ ap decode (whole-part (a .reply .now) 4 (opening-long (s .skeleton .tables) (a .reply .now) (n .node) (n .rights) h)) in
-          let f = w .open-row .ensures
+          let f = w .open-row .ensures .0
           ∙ ap₂ (λ (i j : ℕ). newOpenFile i j (g .load .result .rights % 256)) p t
           ∙ ap (λ (i : ℕ). newOpenFile (nodeAt (s .skeleton .tables .nodes) (n .node) .id) (decode (a .reply .now)) i) (ap (λ (i : ℕ). i % 256) z ∙ mod-eq-of-lt u) in
           let file = newOpenFile (nodeAt (s .skeleton .tables .nodes) (n .node) .id) (decode (a .reply .now)) (n .rights) in
@@ -118,4 +118,4 @@ returns-3 c =
 
 pub accept-open-spec : {M : Type 1} → statement M
 accept-open-spec =
-    tie.close (tie.spec (λ c κs. search needs) judge-descriptor-requires (λ c κs. search needs) (λ c. search needs) returns (λ c. search needs) returns-2 node-id-requires u32-at-requires (λ c. search needs) (λ c κs. search needs) (λ c κs. search needs) (λ c. search needs) rest-requires (λ c. search needs) returns-3)
+    tie.close (tie.spec (λ c κs. search needs) judge-descriptor-requires (λ c κs. search needs) (λ c. search needs) returns (λ c. search needs) returns-2 node-id-requires u32-at-requires (λ c. search needs) (λ c. search needs) (λ c κs. search needs) (λ c κs. search needs) (λ c. search needs) rest-requires (λ c. search needs) returns-3)

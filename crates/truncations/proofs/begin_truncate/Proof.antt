@@ -1,16 +1,11 @@
 -- `truncations::begin_truncate` meets its contract. Assumes nothing.
 use native.Mathlib.Omega.{arith}
-use mathlib.Core.Path.{refl, ap, _∙_}
-use Rattle.filesystem.specs.Tables.{Tables}
-use Rattle.memory.specs.Layout.{memOf}
-use Rattle.tables.specs.View.{tablesIn}
-use Rattle.tables.specs.RowsInUse.{count-opens}
+use mathlib.Core.Path.{refl}
 use Rattle.rules.specs.Calls.{truncate}
-use Rattle.handle_calls.specs.Judged.{handledFor}
+use Rattle.handle_calls.specs.HandledLaws.{judged-at}
 use Rattle.guard_state.specs.State.{stateOf}
 use Rattle.guard_state.specs.LoadedLaws.{counts-fit, tables-loaded}
 use Rattle.changes.specs.BegunLaws.{call-refused, call-passed}
-use Rattle.truncations.specs.TruncateLaws.{truncate-place}
 use borrow.Author.Needs.{needs}
 use Rattle.truncations.proofs.begin_truncate.Statement.{statement}
 use Rattle.truncations.proofs.begin_truncate.Tie as tie
@@ -22,7 +17,6 @@ judge-truncate-requires c κs =
     (counts-fit (a .m .now) _ (l .load .ensures) .0, counts-fit (a .m .now) _ (l .load .ensures) .1, omega arith)
 
 truncate-at-requires : tie.Need-truncate-at-requires
-unfolding tablesIn
 truncate-at-requires c κs =
     let v = c .before .before .before in
     let j = v .before .before in
@@ -30,8 +24,8 @@ truncate-at-requires c κs =
     let b = l .before .before .before .before in
     let a = b .args in
     let o = counts-fit (a .m .now) _ (l .load .ensures) .1 in
-    let p = truncate-place (tablesIn (l .load .result .nodes) (l .load .result .opens) (memOf (a .m .now))) (a .handle) (a .size) _ (j .judge-truncate .ensures) _ _ (v .j .given .1) in
-    (omega (arith, p, o, count-opens (a .m .now) (l .load .result .opens) o), omega arith, omega (arith, b .pre .1))
+    let p = j .judge-truncate .ensures .there _ _ (v .j .given .1) in
+    (omega (arith, p, o), omega arith, omega (arith, b .pre .1))
 
 returns : tie.Need-returns
 returns c =
@@ -42,7 +36,7 @@ returns c =
     let a = l .before .before .before .before .args in (
       λ d h.
           call-passed d (stateOf d (a .m .now)) (a .handle) (truncate (a .handle) (a .size)) _
-          (j .judge-truncate .ensures ∙ ap (λ (x : Tables). handledFor x (a .handle) (truncate (a .handle) (a .size))) (tables-loaded (a .m .now) _ (l .load .ensures) d))
+          (judged-at _ (j .judge-truncate .ensures) _ (tables-loaded (a .m .now) _ (l .load .ensures) d) (d .width) (h .holds .valid .tables .nodes-valid .sound))
           _ _ (v .j .given .1) _ _ (a .request .now) _ (s .truncate-at .ensures .0 d h (a .handle)),
       omega arith,
     )
@@ -55,7 +49,7 @@ returns-2 c =
     let a = l .before .before .before .before .args in (
       λ d h.
           call-refused d (stateOf d (a .m .now)) (a .handle) (truncate (a .handle) (a .size)) _
-          (j .judge-truncate .ensures ∙ ap (λ (x : Tables). handledFor x (a .handle) (truncate (a .handle) (a .size))) (tables-loaded (a .m .now) _ (l .load .ensures) d))
+          (judged-at _ (j .judge-truncate .ensures) _ (tables-loaded (a .m .now) _ (l .load .ensures) d) (d .width) (h .holds .valid .tables .nodes-valid .sound))
           _ (a .m .now) (a .request .now) (v .j2 .given .1) refl,
       refl,
     )

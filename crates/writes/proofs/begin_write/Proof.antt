@@ -1,16 +1,11 @@
 -- `writes::begin_write` meets its contract. Assumes nothing.
 use native.Mathlib.Omega.{arith}
-use mathlib.Core.Path.{refl, ap, _∙_}
-use Rattle.filesystem.specs.Tables.{Tables}
-use Rattle.memory.specs.Layout.{memOf}
-use Rattle.tables.specs.View.{tablesIn}
-use Rattle.tables.specs.RowsInUse.{count-opens}
+use mathlib.Core.Path.{refl}
 use Rattle.rules.specs.Calls.{write}
-use Rattle.handle_calls.specs.Judged.{handledFor}
+use Rattle.handle_calls.specs.HandledLaws.{judged-at}
 use Rattle.guard_state.specs.State.{stateOf}
 use Rattle.guard_state.specs.LoadedLaws.{counts-fit, tables-loaded}
 use Rattle.changes.specs.BegunLaws.{call-refused, call-passed}
-use Rattle.writes.specs.WriteLaws.{write-place}
 use borrow.Author.Needs.{needs}
 use Rattle.writes.proofs.begin_write.Statement.{statement}
 use Rattle.writes.proofs.begin_write.Tie as tie
@@ -22,7 +17,6 @@ judge-write-requires c κs =
     (counts-fit (a .m .now) _ (l .load .ensures) .0, counts-fit (a .m .now) _ (l .load .ensures) .1, omega arith)
 
 write-at-requires : tie.Need-write-at-requires
-unfolding tablesIn
 write-at-requires c κs =
     let v = c .before .before .before in
     let j = v .before .before in
@@ -30,8 +24,8 @@ write-at-requires c κs =
     let b = l .before .before .before .before .before in
     let a = b .args in
     let o = counts-fit (a .m .now) _ (l .load .ensures) .1 in
-    let p = write-place (tablesIn (l .load .result .nodes) (l .load .result .opens) (memOf (a .m .now))) (a .handle) (a .bytes .now) _ (j .judge-write .ensures) _ _ (v .j .given .1) in
-    (omega (arith, p, o, count-opens (a .m .now) (l .load .result .opens) o), b .pre .0, omega arith, omega (arith, b .pre .2))
+    let p = j .judge-write .ensures .there _ _ (v .j .given .1) in
+    (omega (arith, p, o), b .pre .0, omega arith, omega (arith, b .pre .2))
 
 returns : tie.Need-returns
 returns c =
@@ -42,7 +36,7 @@ returns c =
     let a = l .before .before .before .before .before .args in (
       λ d u h.
           call-passed d (stateOf d (a .m .now)) (a .handle) (write (a .handle) (a .bytes .now)) _
-          (j .judge-write .ensures ∙ ap (λ (x : Tables). handledFor x (a .handle) (write (a .handle) (a .bytes .now))) (tables-loaded (a .m .now) _ (l .load .ensures) d))
+          (judged-at _ (j .judge-write .ensures) _ (tables-loaded (a .m .now) _ (l .load .ensures) d) (d .width) (h .holds .valid .tables .nodes-valid .sound))
           _ _ (v .j .given .1) _ _ (a .request .now) _ (s .write-at .ensures .0 d u h (a .handle)),
       omega arith,
     )
@@ -55,7 +49,7 @@ returns-2 c =
     let a = l .before .before .before .before .before .args in (
       λ d u h.
           call-refused d (stateOf d (a .m .now)) (a .handle) (write (a .handle) (a .bytes .now)) _
-          (j .judge-write .ensures ∙ ap (λ (x : Tables). handledFor x (a .handle) (write (a .handle) (a .bytes .now))) (tables-loaded (a .m .now) _ (l .load .ensures) d))
+          (judged-at _ (j .judge-write .ensures) _ (tables-loaded (a .m .now) _ (l .load .ensures) d) (d .width) (h .holds .valid .tables .nodes-valid .sound))
           _ (a .m .now) (a .request .now) (v .j2 .given .1) refl,
       refl,
     )
