@@ -264,13 +264,7 @@ pub fn open_hint(m: &[u8], i: usize) -> u8
 }
 
 // An open file's row.
-pub fn open_row(
-    handle: u64,
-    descriptor: u32,
-    rights: u8,
-    hint: u8,
-    cursor: u32,
-) -> [u8; OPEN_WIDTH]
+pub fn open_row(handle: u64, descriptor: u32, rights: u8, hint: u8, cursor: u32) -> [u8; OPEN_WIDTH]
     ensures { λ r. ⌜ (openOf r ≡ withCursor cursor (newOpenFile handle descriptor rights)) × (getD r hintAt 0 ≡ hint) ⌝ }
 {
     let h = numbers::bytes8(handle);
