@@ -17,12 +17,6 @@ module _ {A : Type 0} where
   unfolding part
   part-add l from i k = rw (take-add i k (drop from l), drop-drop i from l)
 
-  -- a list's own part, written where it stands
-  pub move-same : (l : List A) (at n : ℕ) → at + n ≤ length l → overwrite l at (part at n l) ≡ l
-  unfolding part overwrite
-  move-same l at n h =
-      rw (length-part at n l h, ← drop-drop n at l, take-append-drop n (drop at l)) (take-append-drop at l)
-
   -- one that ends where another begins
   pub overwrite-last : (l : List A) (at : ℕ) (x y : List A) (k : ℕ) → k ≡ at + length x → k ≤ length l
       → overwrite (overwrite l k y) at x ≡ overwrite l at (x ++ y)

@@ -113,7 +113,12 @@ fn number(m: &[u8], k: usize, most: usize) -> usize
     requires { ⌜ (k < headNumbers) × (most < 4294967296) × (memorySize ≤ length (now m)) ⌝ }
     ensures { λ r. ⌜ r ≡ getD (memOf (now (m .entry)) .head) k 0 % (most + 1) ⌝ }
 {
-    (memory::head(m, k) % (most as u64 + 1)) as usize
+    let x = memory::head(m, k);
+    // what was written there is; a remainder of anything else would cost each load a multiplication
+    if x <= most as u64 {
+        return x as usize;
+    }
+    (x % (most as u64 + 1)) as usize
 }
 
 // ---- the pending call

@@ -174,6 +174,11 @@ module _ {A : Type 0} (d : A) where
   unfolding part overwrite
   move-none l at from = rw (add-zero at) (take-append-drop at l)
 
+  -- a list's own part, written where it stands
+  pub move-same : (l : List A) (at n : ℕ) → at + n ≤ length l → overwrite l at (part at n l) ≡ l
+  unfolding part overwrite
+  move-same l at n h = rw (length-part at n l h, ← drop-drop n at l, take-append-drop n (drop at l)) (take-append-drop at l)
+
   pub move-down : (l : List A) (to from i : ℕ) → to ≤ from → from + i < length l
       → set (overwrite l to (part from i l)) (to + i) (getD (overwrite l to (part from i l)) (from + i) d) ≡ overwrite l to (part from (i + 1) l)
   move-down l to from i h f =

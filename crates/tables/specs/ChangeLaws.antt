@@ -1,31 +1,31 @@
 -- A file's digests with new ones among them: rows moved and overwritten at its first page are the definition's.
 -- Assumes nothing.
 use mathlib.Core.Path.{_≡_, refl, ap, ap₂, sym, _∙_}
-use mathlib.Core.Bool.{true, false, true≢false}
+use mathlib.Core.Bool.{false, true≢false}
 use mathlib.Core.List.{List, [], _∷_}
 use Prim.Native.Nat.{ℕ, zero, suc, _+_, _-_, _*_, _≤_, _<_, max}
 use native.Mathlib.Nat.{add-zero}
 use native.Mathlib.Omega.{arith}
-use lib.Dec.{leb, ltb}
+use lib.Dec.{eqb, leb, ltb}
 use lib.ListN.{length, getD, take, drop, set}
 use lib.Seq.{ext-getD, set-split, take-take, take-set-lt, getD-take}
-use borrow.Author.Tests.{leb-true, leb-false, ltb-true, ltb-false, le-leb, lt-ltb}
-use Rattle.lists.specs.Pick.{pick, pick-true, pick-false}
-use Rattle.lists.specs.Equal.{Is, isT, isF, is, and-fst, and-snd, and-both}
+use borrow.Author.Tests.{eqb-true, leb-true, leb-false, ltb-true, ltb-false, le-leb, lt-ltb}
+use Rattle.lists.specs.Pick.{pick, pick-ind, pick-true, pick-false}
+use Rattle.lists.specs.Equal.{Is, isT, isF, is, and-both}
 use Rattle.lists.specs.Cells.{inside, length-tab, getD-tab}
 use Rattle.lists.specs.Parts.{part, overwrite}
-use Rattle.lists.specs.PartLaws.{length-part, length-overwrite, getD-part, part-before, part-after, part-within, overwrite-all}
+use Rattle.lists.specs.PartLaws.{length-part, length-overwrite, getD-part, part-before, part-after, part-within, overwrite-all, move-none, move-same}
 use Rattle.lists.specs.RowLaws.{length-rows}
 use Rattle.filesystem.specs.Tables.{Node, noNode, nodeAt, withSize, setSize, pagesFor, pageTotal, NODES, PAGES}
 use Rattle.filesystem.specs.SoundLaws.{pageTotal-append}
 use Rattle.filesystem.specs.Image.{divide}
 use Rattle.filesystem.specs.Digests.{replaced}
-use Rattle.memory.specs.Layout.{memOf, digestWidth, dataSize, newDigests}
-use Rattle.memory.specs.MemLaws.{length-digests}
+use Rattle.memory.specs.Layout.{memOf, digestWidth, dataSize}
+use Rattle.memory.specs.MemLaws.{length-nodes, length-digests}
 use Rattle.tables.specs.declared.Span.{Span}
-use Rattle.tables.specs.View.{viewOf, withFiles, withChange, stagedDigests, Changeable, mayChange, pagesChange, Spans, spanChange, Room, changedRows}
+use Rattle.tables.specs.View.{viewOf, withFiles, withChange, stagedDigests, Changeable, Spans, Room, changedRows}
 use Rattle.tables.specs.RowsInUse.{count-nodes, node-front}
-use Rattle.tables.specs.ContentLaws.{total-split, divide-at, divide-set, front-kept, moved-there}
+use Rattle.tables.specs.ContentLaws.{total-split, total-part, divide-at, divide-set, front-kept, moved-there}
 
 -- what stands in a place, whatever would be read past the end
 getD-any : {A : Type 0} (l : List A) (i : ℕ) (a b : A) → i < length l → getD l i a ≡ getD l i b
@@ -169,52 +169,14 @@ front-size : (l : List Node) (n k size : ℕ) → k < n → take n (setSize l k 
 unfolding setSize nodeAt
 front-size l n k size h = take-set-lt n l k _ h ∙ ap (λ (y : Node). set (take n l) k (withSize size y)) (sym (getD-take n l k noNode h))
 
--- the test of the page counts, and what it says
-module _ (old new from count : ℕ) where
-  pages-true : pagesChange old new from count ≡ true → (from ≤ old) × (from + count ≤ new) × (new ≤ max old (from + count)) × (count ≤ newDigests)
-  unfolding pagesChange
-  pages-true e =
-      let e1 = and-snd (leb from old) _ e in
-      let e2 = and-snd (leb (from + count) new) _ e1 in
-      (leb-true _ _ (and-fst _ _ e), leb-true _ _ (and-fst _ _ e1), leb-true _ _ (and-fst _ _ e2), leb-true _ _ (and-snd (leb new (max old (from + count))) _ e2))
+-- The span of node k, by where its pages begin and how many they are.
+pub spans-at : (m : List ℕ) (n k : ℕ) {f p : ℕ} → k < n → n ≤ NODES → f ≡ pageTotal (take k (memOf m .nodes)) → p ≡ pagesFor (nodeAt (memOf m .nodes) k .size)
+    → Spans (memOf m .nodes) n k (record { first = f; end = f + p; total = pageTotal (take n (memOf m .nodes)) })
+spans-at m n k h g ef ep =
+    let l = length-nodes m in
+    record { known = h; fits = g; begins = ef; ends = rw ep; within = omega (arith, ef, ep, total-part (memOf m .nodes) n k h (omega arith)); all = refl }
 
-  pub pages-so : from ≤ old → from + count ≤ new → new ≤ max old (from + count) → count ≤ newDigests → pagesChange old new from count ≡ true
-  unfolding pagesChange
-  pages-so a b c d = and-both _ _ (le-leb _ _ a) (and-both _ _ (le-leb _ _ b) (and-both _ _ (le-leb _ _ c) (le-leb _ _ d)))
-
-  pub pages-no : (from ≤ old → from + count ≤ new → new ≤ max old (from + count) → count ≤ newDigests → ⊥) → pagesChange old new from count ≡ false
-  pages-no n = go (is (pagesChange old new from count))
-    where
-      go : Is (pagesChange old new from count) → pagesChange old new from count ≡ false
-      go (isT e) = let (a, b, c, d) = pages-true e in absurd (n a b c d)
-      go (isF e) = e
-
-module _ (ns : List Node) (k size from count : ℕ) where
-  -- a change that passes the test can be done
-  pub may-change : mayChange ns k size from count ≡ true → Changeable ns k size from count
-  unfolding mayChange
-  may-change e =
-      let e1 = and-snd (ltb k (length ns)) _ e in
-      let e2 = and-snd (leb (pageTotal ns) PAGES) _ e1 in
-      let (a, b, c, d) = pages-true (pagesFor (nodeAt ns k .size)) (pagesFor size) from count (and-snd (leb (pageTotal (setSize ns k size)) PAGES) _ e2) in
-      record { known = ltb-true _ _ (and-fst _ _ e); room-before = leb-true _ _ (and-fst _ _ e1); room-after = leb-true _ _ (and-fst _ _ e2); begins = a; ends = b; covered = c; few = d }
-
-  -- and one that can be done passes it
-  pub may-change-so : Changeable ns k size from count → mayChange ns k size from count ≡ true
-  unfolding mayChange
-  may-change-so h =
-      and-both _ _ (lt-ltb _ _ (h .known))
-      (and-both _ _ (le-leb _ _ (h .room-before))
-      (and-both _ _ (le-leb _ _ (h .room-after)) (pages-so (pagesFor (nodeAt ns k .size)) (pagesFor size) from count (h .begins) (h .ends) (h .covered) (h .few))))
-
-  pub may-change-no : (Changeable ns k size from count → ⊥) → mayChange ns k size from count ≡ false
-  may-change-no n = go (is (mayChange ns k size from count))
-    where
-      go : Is (mayChange ns k size from count) → mayChange ns k size from count ≡ false
-      go (isT e) = absurd (n (may-change e))
-      go (isF e) = e
-
--- Node k among the first n, by its span: whether a change of it can be done, what that asks of the rows, and what it makes of the view.
+-- Node k among the first n, by its span.
 module _ (m : List ℕ) {n k : ℕ} {s : Span} (h : Spans (memOf m .nodes) n k s) (size : ℕ) where
   abbrev ns : List Node
   ns = take n (memOf m .nodes)
@@ -235,57 +197,64 @@ module _ (m : List ℕ) {n k : ℕ} {s : Span} (h : Spans (memOf m .nodes) n k s
   pub total-with : s .first + pagesFor size + (s .total - s .end) ≡ pageTotal (setSize ns k size)
   total-with = omega (arith, total-set ns k size in-use, is-first, is-rest)
 
-  module _ (from count : ℕ) where
-    pub span-may : spanChange s (pagesFor size) from count ≡ mayChange ns k size from count
-    unfolding spanChange mayChange
-    span-may =
-        let old : s .end - s .first ≡ pagesFor (nodeAt ns k .size) = omega (arith, is-end) in
-        rw (lt-ltb k (length ns) in-use, ← total-with, h .all, old)
+  -- A change of it that can be done, where b rows behind its pages are moved, or none as these keep their count: what it asks of the rows, and what it
+  -- makes of the view.
+  module _ (from count : ℕ) (g : Changeable ns k size from count) (old new b : ℕ) (is-old : old ≡ pagesFor (nodeAt (memOf m .nodes) k .size))
+      (is-new : new ≡ pagesFor size) (moves : b ≡ pick (eqb old new) 0 (s .total - s .end)) where
+    few-moved : b ≤ s .total - s .end
+    few-moved = rw moves (pick-ind (λ (x : ℕ). x ≤ s .total - s .end) (eqb old new) (λ _. omega arith) (λ _. omega arith))
 
-    module _ (can : spanChange s (pagesFor size) from count ≡ true) where
-      can-so : Changeable ns k size from count
-      can-so = may-change ns k size from count (sym span-may ∙ can)
+    old-front : old ≡ pagesFor (nodeAt ns k .size)
+    old-front = rw (node-front n (memOf m .nodes) k (h .known)) is-old
 
-      pub room : Room k size from count s
-      room =
-          let g = can-so in
-          let t = total-with in
-          let z = g .room-after in
-          record {
-            known = let x = h .known in let y = h .fits in omega arith;
-            within = h .within;
-            before-fits = rw (h .all) (g .room-before);
-            after-fits = rw t z;
-            new-fits = omega (arith, g .ends);
-            few = g .few;
-          }
+    pub room : Room (s .first) old new b from count
+    room = record {
+      before-fits = omega (arith, few-moved, h .ends, h .within, h .all, g .room-before, is-old);
+      after-fits = omega (arith, few-moved, total-with, g .room-after, is-new);
+      begins = rw old-front (g .begins);
+      ends = rw is-new (g .ends);
+      few = g .few;
+    }
 
-      pub view-change : (blank : List ℕ) (o : ℕ)
-          → viewOf n o (changedRows k size from (stagedDigests count (memOf m .staged)) s (memOf m)) ≡ withChange blank k size from (stagedDigests count (memOf m .staged)) (viewOf n o (memOf m))
-      unfolding viewOf withChange changedRows stagedDigests moved setSize nodeAt
-      view-change blank o =
-          let ds = memOf m .digests in
-          let f = s .first in
-          let p = pagesFor (nodeAt ns k .size) in
-          let q = pagesFor size in
-          let r = pageTotal (drop (suc k) ns) in
-          let new = stagedDigests count (memOf m .staged) in
-          let l : length new ≡ count = length-rows digestWidth count (part dataSize (count * digestWidth) (memOf m .staged)) in
-          let g = can-so in
-          let x = room in
-          let w : Placed blank ns ds k size from new f p q r = record {
-            known = in-use;
-            is-first = is-first;
-            is-old = refl;
-            is-new = refl;
-            is-rest = refl;
-            fits-before = omega (arith, is-end, is-rest, length-digests m);
-            fits-after = omega (arith, is-rest, length-digests m);
-            begins = g .begins;
-            ends = rw l (g .ends);
-            covered = rw l (g .covered);
-          } in
-          let e = front-size (memOf m .nodes) n k size (h .known) in
-          ap₂ (λ a b. withFiles a b (viewOf n o (memOf m))) e
-          ((λ i. divide (e i) (overwrite (overwrite ds (f + q) (part (is-end i) (is-rest i) ds)) (f + from) new))
-          ∙ contents-changed blank ns ds k size from new f p q r w (withSize size (nodeAt ns k)) refl)
+    -- where none is moved, all behind would stand where they are
+    moved-rows : (ds : List (List ℕ)) → length ds ≡ PAGES
+        → overwrite ds (s .first + new) (part (s .end) b ds) ≡ overwrite ds (s .first + pagesFor size) (part (s .end) (s .total - s .end) ds)
+    moved-rows ds l = go (is (eqb old new))
+      where
+        go : Is (eqb old new) → overwrite ds (s .first + new) (part (s .end) b ds) ≡ overwrite ds (s .first + pagesFor size) (part (s .end) (s .total - s .end) ds)
+        go (isF e) = ap₂ (λ (i j : ℕ). overwrite ds (s .first + i) (part (s .end) j ds)) is-new (moves ∙ pick-false _ _ _ e)
+        go (isT e) =
+            let z : s .end ≡ s .first + pagesFor size = omega (arith, h .ends, is-old, is-new, eqb-true old new e) in
+            ap (λ (j : ℕ). overwrite ds (s .first + new) (part (s .end) j ds)) (moves ∙ pick-true _ _ _ e)
+            ∙ move-none [] ds (s .first + new) (s .end)
+            ∙ sym (move-same [] ds (s .end) (s .total - s .end) (omega (arith, l, h .within, h .all, g .room-before)))
+            ∙ ap (λ (i : ℕ). overwrite ds i (part (s .end) (s .total - s .end) ds)) z
+
+    pub view-change : (blank : List ℕ) (o : ℕ)
+        → viewOf n o (changedRows k size from (stagedDigests count (memOf m .staged)) (s .first) (s .end) new b (memOf m))
+        ≡ withChange blank k size from (stagedDigests count (memOf m .staged)) (viewOf n o (memOf m))
+    unfolding viewOf withChange changedRows stagedDigests moved setSize nodeAt
+    view-change blank o =
+        let ds = memOf m .digests in
+        let f = s .first in
+        let p = pagesFor (nodeAt ns k .size) in
+        let q = pagesFor size in
+        let r = pageTotal (drop (suc k) ns) in
+        let x = stagedDigests count (memOf m .staged) in
+        let l : length x ≡ count = length-rows digestWidth count (part dataSize (count * digestWidth) (memOf m .staged)) in
+        let w : Placed blank ns ds k size from x f p q r = record {
+          known = in-use;
+          is-first = is-first;
+          is-old = refl;
+          is-new = refl;
+          is-rest = refl;
+          fits-before = omega (arith, is-end, is-rest, length-digests m, h .within, h .all, g .room-before);
+          fits-after = omega (arith, is-rest, length-digests m, total-with, g .room-after);
+          begins = g .begins;
+          ends = rw l (g .ends);
+          covered = rw l (g .covered);
+        } in
+        let e = front-size (memOf m .nodes) n k size (h .known) in
+        ap₂ (λ a b. withFiles a b (viewOf n o (memOf m))) e
+        (ap₂ (λ a y. divide a (overwrite y (f + from) x)) e (moved-rows ds (length-digests m) ∙ (λ i. overwrite ds (f + q) (part (is-end i) (is-rest i) ds)))
+        ∙ contents-changed blank ns ds k size from x f p q r w (withSize size (nodeAt ns k)) refl)

@@ -1,12 +1,9 @@
 -- The rows in use of the memory's tables, and their changes.
 -- Assumes nothing.
-use mathlib.Core.Bool.{Bool, _&&_}
 use mathlib.Core.List.{List, [], _∷_, _++_}
 use mathlib.Core.Path.{_≡_}
-use Prim.Native.Nat.{ℕ, _+_, _-_, _*_, _%_, _<_, _≤_, max}
-use lib.Dec.{leb, ltb}
+use Prim.Native.Nat.{ℕ, _+_, _-_, _*_, _<_, _≤_, max}
 use lib.ListN.{length, getD, take, drop, set}
-use Rattle.lists.specs.Pick.{pick}
 use Rattle.lists.specs.Parts.{part, overwrite}
 use Rattle.lists.specs.Rows.{rows}
 use Rattle.lists.specs.Search.{place, without}
@@ -87,15 +84,6 @@ pub record Changeable (ns : List Node) (k size from count : ℕ) : Type 0 where
   pub covered : pagesFor size ≤ max (pagesFor (nodeAt ns k .size)) (from + count)
   pub few : count ≤ newDigests
 
--- the same as a test; of the page counts alone
-unfoldable pub pagesChange : (old new from count : ℕ) → Bool
-pagesChange old new from count = leb from old && (leb (from + count) new && (leb new (max old (from + count)) && leb count newDigests))
-
-unfoldable pub mayChange : List Node → (k size from count : ℕ) → Bool
-mayChange ns k size from count =
-    ltb k (length ns)
-    && (leb (pageTotal ns) PAGES && (leb (pageTotal (setSize ns k size)) PAGES && pagesChange (pagesFor (nodeAt ns k .size)) (pagesFor size) from count))
-
 -- the pages of node k and those of the first n
 pub record Spans (ns : List Node) (n k : ℕ) (s : Span) : Type 0 where
   pub known : k < n
@@ -104,23 +92,17 @@ pub record Spans (ns : List Node) (n k : ℕ) (s : Span) : Type 0 where
   pub ends : s .end ≡ s .first + pagesFor (nodeAt ns k .size)
   pub within : s .end ≤ s .total
   pub all : s .total ≡ pageTotal (take n ns)
-  pub small : s .total ≤ n * 4194304
 
--- the test of a change, by these
-unfoldable pub spanChange : Span → (new from count : ℕ) → Bool
-spanChange s new from count =
-    leb (s .total) PAGES && (leb (s .first + new + (s .total - s .end)) PAGES && pagesChange (s .end - s .first) new from count)
-
--- what a change asks of the rows, and the rows after it
-pub record Room (k size from count : ℕ) (s : Span) : Type 0 where
-  pub known : k < NODES
-  pub within : s .end ≤ s .total
-  pub before-fits : s .total ≤ PAGES
-  pub after-fits : s .first + pagesFor size + (s .total - s .end) ≤ PAGES
-  pub new-fits : s .first + from + count ≤ PAGES
+-- what a change asks of the rows: of `behind` that stand behind the file's, and where its pages begin and how many they are before and after it
+pub record Room (first old new behind from count : ℕ) : Type 0 where
+  pub before-fits : first + old + behind ≤ PAGES
+  pub after-fits : first + new + behind ≤ PAGES
+  pub begins : from ≤ old
+  pub ends : from + count ≤ new
   pub few : count ≤ newDigests
 
-unfoldable pub changedRows : (k size from : ℕ) → List (List ℕ) → Span → Mem → Mem
-changedRows k size from new s m =
+-- and what it makes of them: file k, of which the digests end at `end`, has `new` pages
+unfoldable pub changedRows : (k size from : ℕ) → List (List ℕ) → (first end new behind : ℕ) → Mem → Mem
+changedRows k size from ds first end new behind m =
     withNodes (setSize (m .nodes) k size)
-    (withDigests (overwrite (overwrite (m .digests) (s .first + pagesFor size) (part (s .end) (s .total - s .end) (m .digests))) (s .first + from) new) m)
+    (withDigests (overwrite (overwrite (m .digests) (first + new) (part end behind (m .digests))) (first + from) ds) m)

@@ -4,14 +4,16 @@ ghost use mathlib.Core.Path.{_≡_};
 ghost use Prim.Native.Nat.{ℕ, _+_, _-_, _*_, _≤_, _<_};
 ghost use mathlib.Core.Bool.{true, false};
 ghost use mathlib.Core.List.{List, []};
+ghost use lib.Dec.{eqb};
 ghost use lib.ListN.{length, getD, take};
+ghost use Rattle.lists.specs.Pick.{pick};
 ghost use Rattle.lists.specs.Equal.{equal};
 ghost use Rattle.digest.specs.Sha256.{sha256};
 ghost use Rattle.filesystem.specs.Tables.{NODES, PAGES, findId, findChild, children, findHandle, findDescriptor, nodeAt, pagesFor, pageTotal, setSize};
 ghost use Rattle.filesystem.specs.Image.{soundNodes, divide};
 ghost use Rattle.memory.specs.Records.{nodeOf, openOf};
 ghost use Rattle.memory.specs.Layout.{memOf, memorySize, openRows};
-ghost use Rattle.tables.specs.View.{childFrom, viewOf, withNode, withoutNode, withOpen, withoutOpen, withChange, stagedDigests, mayChange, pagesChange, Spans, spanChange, Room, changedRows};
+ghost use Rattle.tables.specs.View.{childFrom, viewOf, withNode, withoutNode, withOpen, withoutOpen, withChange, stagedDigests, Changeable, Spans, Room};
 
 // ---- searches
 
@@ -174,7 +176,7 @@ struct Span {
 // The same of node k among the first n.
 fn pages_of(m: &[u8], n: usize, k: usize) -> Span
     requires { ⌜ (k < n) × (n ≤ NODES) × (memorySize ≤ length (now m)) ⌝ }
-    ensures { λ r. ⌜ Spans (memOf (now (m .entry)) .nodes) n k r ⌝ }
+    ensures { λ r. ⌜ Spans (memOf (now (m .entry)) .nodes) n k r × (r .total ≤ n * 4194304) ⌝ }
 {
     let first = first_page(m, k);
     let end = first + pages_for(memory::node_size(m, k));
@@ -244,70 +246,59 @@ pub fn pages_with(m: &[u8], n: usize, k: usize, size: u32) -> usize
     s.first + pages_for(size) + (s.total - s.end)
 }
 
-// Whether there is room for the pages of a change, and these can change so (`mayChange`).
-fn can_change(s: Span, size: u32, from: usize, count: usize) -> bool
-    requires { ⌜ (s .first ≤ s .end) × (s .end ≤ s .total) ⌝ }
-    ensures { λ r. ⌜ r ≡ spanChange s (pagesFor size) from count ⌝ }
+// How many rows of digests stand behind those of node k, which end at `end`. Where the file keeps its count of pages none is moved, and none is
+// counted.
+fn rows_moved(m: &[u8], n: usize, k: usize, end: usize, old: usize, new: usize) -> usize
+    requires { ⌜ (k < n) × (n ≤ NODES) × (end ≡ pageTotal (take (k + 1) (memOf (now m) .nodes))) × (end ≤ (k + 1) * 4194304) × (memorySize ≤ length (now m)) ⌝ }
+    ensures { λ r. ⌜ (r ≡ pick (eqb old new) 0 (pageTotal (take n (memOf (now (m .entry)) .nodes)) - end)) × (r ≤ n * 4194304) ⌝ }
 {
-    if limits::PAGES < s.total {
-        return false;
+    if old == new {
+        return 0;
     }
-    let new = pages_for(size);
-    if limits::PAGES < s.first + new + (s.total - s.end) {
-        return false;
-    }
-    pages_change(s.end - s.first, new, from, count)
+    pages_on(m, k + 1, end, n) - end
 }
 
-// The same of the page counts alone.
-fn pages_change(old: usize, new: usize, from: usize, count: usize) -> bool
-    requires { ⌜ old ≤ 4194304 ⌝ }
-    ensures { λ r. ⌜ r ≡ pagesChange old new from count ⌝ }
+// Whether the rows have room for a change.
+fn has_room(first: usize, old: usize, new: usize, behind: usize, from: usize, count: usize) -> bool
+    requires { ⌜ (first ≤ 1073741824) × (old ≤ 4194304) × (new ≤ 4194304) × (behind ≤ 1073741824) ⌝ }
+    ensures { λ r. ⌜ (r ≡ true → Room first old new behind from count) × (Room first old new behind from count → r ≡ true) ⌝ }
 {
+    if limits::PAGES < first + old + behind {
+        return false;
+    }
+    if limits::PAGES < first + new + behind {
+        return false;
+    }
     if old < from {
         return false;
     }
     if memory::NEW_DIGESTS < count {
         return false;
     }
-    if new < from + count {
-        return false;
-    }
-    if new <= old {
-        return true;
-    }
-    if from + count < new {
-        return false;
-    }
-    true
+    from + count <= new
 }
 
-// The rows of a change: those behind the file's pages move to where these will end, and the staged digests come among its own.
-fn put_change(m: &mut [u8], k: usize, size: u32, from: usize, count: usize, s: Span)
-    requires { ⌜ Room k size from count s × (memorySize ≤ length (now m)) ⌝ }
-    ensures { λ _. ⌜ memOf (now (m .exit)) ≡ changedRows k size from (stagedDigests count (memOf (now (m .entry)) .staged)) s (memOf (now (m .entry))) ⌝ }
-    ensures { λ _. ⌜ length (now (m .exit)) ≡ length (now (m .entry)) ⌝ }
-{
-    memory::move_digests(m, s.end, s.first + pages_for(size), s.total - s.end);
-    memory::keep_digests(m, s.first + from, count);
-    memory::set_size(m, k, size);
-}
-
-// A change of file k, where it can be done: its size, and the `count` staged digests for its pages from `from` on. Else nothing changes.
+// A change of file k that can be done: its size, and the `count` staged digests for its pages from `from` on. The rows behind its pages move to
+// where these end.
 pub fn change_file(m: &mut [u8], n: usize, k: usize, size: u32, from: usize, count: usize) -> bool
     requires { ⌜ (n ≤ NODES) × (memorySize ≤ length (now m)) ⌝ }
-    ensures { λ r. ⌜ r ≡ mayChange (take n (memOf (now (m .entry)) .nodes)) k size from count ⌝ }
-    ensures { λ r. ⌜ (r ≡ true → (blank : List ℕ) (o : ℕ) → viewOf n o (memOf (now (m .exit))) ≡ withChange blank k size from (stagedDigests count (memOf (now (m .entry)) .staged)) (viewOf n o (memOf (now (m .entry))))) ⌝ }
+    ensures { λ r. ⌜ (Changeable (take n (memOf (now (m .entry)) .nodes)) k size from count → (r ≡ true) × ((blank : List ℕ) (o : ℕ) → viewOf n o (memOf (now (m .exit))) ≡ withChange blank k size from (stagedDigests count (memOf (now (m .entry)) .staged)) (viewOf n o (memOf (now (m .entry)))))) ⌝ }
     ensures { λ r. ⌜ (r ≡ false → now (m .exit) ≡ now (m .entry)) ⌝ }
     ensures { λ _. ⌜ length (now (m .exit)) ≡ length (now (m .entry)) ⌝ }
 {
     if n <= k {
         return false;
     }
-    let s = pages_of(m, n, k);
-    if !can_change(s, size, from, count) {
+    let first = first_page(m, k);
+    let old = pages_for(memory::node_size(m, k));
+    let new = pages_for(size);
+    let end = first + old;
+    let behind = rows_moved(m, n, k, end, old, new);
+    if !has_room(first, old, new, behind, from, count) {
         return false;
     }
-    put_change(m, k, size, from, count, s);
+    memory::move_digests(m, end, first + new, behind);
+    memory::keep_digests(m, first + from, count);
+    memory::set_size(m, k, size);
     true
 }

@@ -1,7 +1,7 @@
 -- `buffers::shift` meets its contract. Assumes nothing.
 use native.Mathlib.Omega.{arith}
 use mathlib.Core.Path.{_≡_, sym}
-use Rattle.buffers.proofs.Blocks.{move-same}
+use Rattle.lists.specs.PartLaws.{move-same}
 use borrow.Author.Needs.{needs}
 use Rattle.buffers.proofs.shift.Statement.{statement}
 use Rattle.buffers.proofs.shift.Tie as tie
@@ -10,7 +10,7 @@ returns : tie.Need-returns
 returns c =
     let a = c .before .before .args in
     let e : a .from ≡ a .to = c .if1 .taken in
-    rw e (sym (move-same (a .m .now) (a .to) (a .n) (omega arith)))
+    rw e (sym (move-same 0 (a .m .now) (a .to) (a .n) (omega arith)))
 
 pub shift-spec : {M : Type 1} → statement M
 shift-spec =

@@ -1,11 +1,10 @@
 -- `changes::end_change` meets its contract. Assumes nothing.
 use native.Mathlib.Omega.{arith}
-use mathlib.Core.Path.{ap, sym, _∙_}
+use mathlib.Core.Path.{ap, sym, subst, _∙_}
 use mathlib.Core.Bool.{true≢false}
-use borrow.Author.Tests.{not-true, not-false}
+use borrow.Author.Tests.{not-true}
 use Rattle.filesystem.specs.Tables.{Tables}
-use Rattle.tables.specs.View.{tablesIn, mayChange}
-use Rattle.tables.specs.ChangeLaws.{may-change-so}
+use Rattle.tables.specs.View.{tablesIn, Changeable}
 use Rattle.machine.specs.Machine.{zeroDigest}
 use Rattle.guard_state.specs.declared.Guard.{Guard}
 use Rattle.guard_state.specs.LoadedLaws.{counts-fit, tables-loaded}
@@ -27,9 +26,9 @@ returns c =
     let l = f .before .before in
     let a = l .before .before .before .args in (
       λ d q h b.
-          let e = ap (λ (t : Tables). mayChange (t .nodes) (a .node) (a .size) (a .from) (a .count)) (tables-loaded (a .m .now) _ (l .load .ensures) d) in
-          absurd (true≢false (sym (may-change-so _ _ _ _ _ (h .can)) ∙ sym e ∙ sym (f .change-file .ensures .0) ∙ not-true _ (c .if1 .taken))),
-      f .change-file .ensures .1 .1 .1,
+          let can = subst (λ (t : Tables). Changeable (t .nodes) (a .node) (a .size) (a .from) (a .count)) (sym (tables-loaded (a .m .now) _ (l .load .ensures) d)) (h .can) in
+          absurd (true≢false (sym (f .change-file .ensures .0 can .0) ∙ not-true _ (c .if1 .taken))),
+      f .change-file .ensures .1 .1,
     )
 
 rest-requires : tie.Need-rest-requires
@@ -40,6 +39,7 @@ rest-requires c κs =
     (f .0, f .1, omega arith)
 
 returns-2 : tie.Need-returns-2
+unfolding tablesIn
 returns-2 c =
     let r = c .before .before in
     let s = r .before .before .before .before in
@@ -48,9 +48,10 @@ returns-2 c =
     let l = f .before .before in
     let a = l .before .before .before .args in (
       λ d q h b.
+          let can = subst (λ (t : Tables). Changeable (t .nodes) (a .node) (a .size) (a .from) (a .count)) (sym (tables-loaded (a .m .now) _ (l .load .ensures) d)) (h .can) in
           change-sends d (a .m .now) q (a .node) (a .opened) (a .size) (a .cursor) (a .from) (a .count) (a .number) h (l .load .result .nodes) (l .load .result .opens) _ _ _ b
           (ap (λ (x : Guard). x .nodes) (l .load .ensures)) (ap (λ (x : Guard). x .opens) (l .load .ensures))
-          (f .change-file .ensures .1 .0 (not-false _ (i .if1 .left)) (zeroDigest d) (l .load .result .opens)) (s .set-cursor .ensures .0) (r .rest .ensures .0 d),
+          (f .change-file .ensures .0 can .1 (zeroDigest d) (l .load .result .opens)) (s .set-cursor .ensures .0) (r .rest .ensures .0 d),
       omega arith,
     )
 

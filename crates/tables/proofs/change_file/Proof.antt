@@ -3,9 +3,13 @@ use native.Mathlib.Omega.{arith}
 use mathlib.Core.Path.{refl, ap, sym, _∙_}
 use mathlib.Core.Bool.{true≢false}
 use borrow.Author.Tests.{not-true, not-false}
-use Rattle.tables.specs.View.{viewOf}
+use Rattle.filesystem.specs.Tables.{pagesFor}
+use Rattle.memory.specs.Layout.{memOf}
+use Rattle.memory.specs.MemLaws.{length-nodes}
+use Rattle.tables.specs.View.{viewOf, changedRows, stagedDigests}
 use Rattle.tables.specs.RowsInUse.{count-nodes}
-use Rattle.tables.specs.ChangeLaws.{may-change-no, span-may, room, view-change}
+use Rattle.tables.specs.ContentLaws.{total-next}
+use Rattle.tables.specs.ChangeLaws.{spans-at, room, view-change}
 use borrow.Author.Needs.{needs}
 use Rattle.tables.proofs.change_file.Statement.{statement}
 use Rattle.tables.proofs.change_file.Tie as tie
@@ -14,30 +18,75 @@ returns : tie.Need-returns
 returns c =
     let a = c .before .before .args in
     let l = count-nodes (a .m .now) (a .n) (omega arith) in
-    (sym (may-change-no _ (a .k) _ _ _ (λ h. let g = h .known in omega arith)), (λ e. absurd (true≢false (sym e)), (λ _. refl, refl)))
+    (λ g. absurd (omega (arith, g .known)), (λ _. refl, refl))
+
+rows-moved-requires : tie.Need-rows-moved-requires
+rows-moved-requires c κs =
+    let p = c .before .before in
+    let f = p .before .before .before in
+    let a = f .before .before .before .before .args in
+    let l = length-nodes (a .m .now) in
+    let e = p .pages-for .ensures .0 ∙ ap pagesFor (p .before .node-size .ensures) in
+    let t = total-next (memOf (a .m .now) .nodes) (a .k) (omega arith) in
+    (omega arith, omega arith, omega (arith, f .first-page .ensures .0, e, t), omega (arith, f .first-page .ensures .1, p .pages-for .ensures .1), omega arith)
 
 returns-2 : tie.Need-returns-2
 returns-2 c =
-    let t = c .before in
-    let e = span-may _ (t .before .pages-of .ensures) _ _ _ in
-    (sym (not-true _ (c .if2 .taken)) ∙ t .can-change .ensures ∙ e, (λ e. absurd (true≢false (sym e)), (λ _. refl, refl)))
+    let r = c .before in
+    let b = r .before in
+    let q = b .before .before in
+    let p = q .before in
+    let f = p .before .before .before in
+    let a = f .before .before .before .before .args in
+    let e = p .pages-for .ensures .0 ∙ ap pagesFor (p .before .node-size .ensures) in
+    let h = spans-at (a .m .now) (a .n) (a .k) (omega arith) (omega arith) (f .first-page .ensures .0) e in (
+      λ g. absurd (true≢false (sym (r .has-room .ensures .1 (room (a .m .now) h (a .size) (a .from) (a .count) g _ _ _ e (q .pages-for2 .ensures .0) (b .rows-moved .ensures .0)))
+          ∙ not-true _ (c .if2 .taken))),
+      (λ _. refl, refl),
+    )
 
-put-change-requires : tie.Need-put-change-requires
-put-change-requires c κs =
-    let t = c .before .before in
-    (room _ (t .before .pages-of .ensures) _ _ _ (sym (t .can-change .ensures) ∙ not-false _ (c .before .if2 .left)), omega arith)
+move-digests-requires : tie.Need-move-digests-requires
+move-digests-requires c κs =
+    let r = c .before .before .has-room .ensures .0 (not-false _ (c .before .if2 .left)) in
+    (omega (arith, r .before-fits), omega (arith, r .after-fits), omega arith)
+
+add-keep-digests : tie.Need-add-keep-digests
+add-keep-digests c =
+    let i = c .before .before .before .before .before in
+    let r = i .before .has-room .ensures .0 (not-false _ (i .if2 .left)) in
+    omega (arith, r .begins)
+
+keep-digests-requires : tie.Need-keep-digests-requires
+keep-digests-requires c κs =
+    let i = c .before .before .before .before .before in
+    let r = i .before .has-room .ensures .0 (not-false _ (i .if2 .left)) in
+    let s = i .before .before .before .before .before .before .before .before .before .before .before .before in
+    (omega (arith, r .after-fits, r .ends), r .few, omega (arith, c .before .before .before .move-digests .ensures .1, s .pre .1))
 
 returns-3 : tie.Need-returns-3
+unfolding changedRows stagedDigests
 returns-3 c =
-    let p = c .before .before in
-    let i = p .before .before in
-    let t = i .before in
-    let s = t .before in
-    let yes = sym (t .can-change .ensures) ∙ not-false _ (i .if2 .left) in (
-      sym yes ∙ span-may _ (s .pages-of .ensures) _ _ _,
-      (λ _ b o. ap (viewOf _ o) (p .put-change .ensures .0) ∙ view-change _ (s .pages-of .ensures) _ _ _ yes b o, (λ e. absurd (true≢false e), p .put-change .ensures .1)),
+    let z = c .before .before in
+    let k = z .before .before .before .before in
+    let d = k .before .before .before .before in
+    let b = d .before .before .before .before in
+    let q = b .before .before in
+    let p = q .before in
+    let f = p .before .before .before in
+    let y = f .before .before .before .before in
+    let a = y .args in
+    let e = p .pages-for .ensures .0 ∙ ap pagesFor (p .before .node-size .ensures) in
+    let h = spans-at (a .m .now) (a .n) (a .k) (omega (arith, f .before .before .if1 .left)) (y .pre .0) (f .first-page .ensures .0) e in (
+      λ g. (
+        refl,
+        λ blank o. ap (viewOf (a .n) o) (z .set-size .ensures .0 ∙ rw (k .keep-digests .ensures .0, d .move-digests .ensures .0))
+            ∙ view-change (a .m .now) h (a .size) (a .from) (a .count) g _ _ _ e (q .pages-for2 .ensures .0) (b .rows-moved .ensures .0) blank o,
+      ),
+      (λ x. absurd (true≢false x), omega (arith, z .set-size .ensures .1, k .keep-digests .ensures .1, d .move-digests .ensures .1)),
     )
 
 pub change-file-spec : {M : Type 1} → statement M
 change-file-spec =
-    tie.close (tie.spec returns (λ c κs. search needs) (λ c κs. search needs) (λ c. search needs) returns-2 put-change-requires (λ c. search needs) returns-3)
+    tie.close (tie.spec returns (λ c κs. search needs) (λ c κs. search needs) (λ c κs. search needs) (λ c κs. search needs) (λ c. search needs) rows-moved-requires
+    (λ c κs. search needs) (λ c. search needs) returns-2 (λ c. search needs) move-digests-requires add-keep-digests keep-digests-requires (λ c κs. search needs)
+    (λ c. search needs) returns-3)

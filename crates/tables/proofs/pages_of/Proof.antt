@@ -31,7 +31,7 @@ returns c =
     let y : p .pages-for .result ≡ pagesFor (nodeAt ns (a .k) .size) = p .pages-for .ensures .0 ∙ ap pagesFor (p .before .node-size .ensures) in
     let z : c .pages-on .result ≡ pageTotal (take (a .n) ns) = c .pages-on .ensures .0 in
     let t = total-part ns (a .n) (a .k) (omega arith) (omega arith) in
-    record { known = omega arith; fits = omega arith; begins = x; ends = omega arith; within = omega arith; all = z; small = c .pages-on .ensures .1 }
+    (record { known = omega arith; fits = omega arith; begins = x; ends = omega arith; within = omega arith; all = z }, c .pages-on .ensures .1)
 
 pub pages-of-spec : {M : Type 1} → statement M
 pages-of-spec =

@@ -8,7 +8,7 @@ returns : tie.Need-returns
 returns c =
     let p = c .before .before in
     let s = p .before in
-    rw (p .pages-for .ensures .0) (total-with _ (s .pages-of .ensures) _)
+    rw (p .pages-for .ensures .0) (total-with _ (s .pages-of .ensures .0) _)
 
 pub pages-with-spec : {M : Type 1} → statement M
 pages-with-spec =

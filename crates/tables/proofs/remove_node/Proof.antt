@@ -20,7 +20,7 @@ returns c =
     let m = memOf (a .m .now) in
     let ln : length (m .nodes) ≡ 256 = length-nodes (a .m .now) in
     let ld : length (m .digests) ≡ 1024 = length-digests (a .m .now) in
-    let h = s .pages-of .ensures in (
+    let h = s .pages-of .ensures .0 in (
       λ o. ap (viewOf (a .n - 1) o) (n .move-nodes .ensures .0 ∙ rw (d .move-digests .ensures .0)) ∙ view-remove m (a .n) o h (omega arith) (omega arith),
       omega arith,
     )
