@@ -8,8 +8,8 @@ use lib.ListN.{length, getD, take, drop, set}
 use Rattle.lists.specs.Pick.{pick}
 use Rattle.lists.specs.Parts.{part}
 use Rattle.lists.specs.Rows.{rows}
-use Rattle.lists.specs.Search.{without}
-use Rattle.filesystem.specs.Tables.{PAGES, Node, OpenFile, Tables, nodeAt, pagesFor, pageTotal, setMode, setSize, setCursor}
+use Rattle.lists.specs.Search.{place, without}
+use Rattle.filesystem.specs.Tables.{PAGES, Node, OpenFile, Tables, nodeAt, isChild, pagesFor, pageTotal, setMode, setSize, setCursor}
 use Rattle.filesystem.specs.Image.{divide}
 use Rattle.filesystem.specs.Digests.{replaced}
 use Rattle.memory.specs.Layout.{Mem, digestWidth, dataSize, newDigests}
@@ -30,6 +30,10 @@ viewOf n o m = record {
   opens = take o (m .opens);
   staged = m .staged;
 }
+
+-- the place that a search for a child finds from i on
+abbrev pub childFrom : ℕ → List Node → ℕ → List ℕ → ℕ
+childFrom i ns p name = i + place (isChild p name) (drop i ns)
 
 -- the tables alone
 unfoldable pub tablesIn : (n o : ℕ) → Mem → Tables
