@@ -153,14 +153,15 @@ module _ (m : List ℕ) (i : ℕ) where
 
   -- a name that has other bytes than the row, w of them from k on, is not the node's
   pub not-child : (p : ℕ) (name : List ℕ) (k w x y : ℕ) → i < NODES → memorySize ≤ length m → k + w ≤ length name → x ≡ decode (part (nodesAt + i * nodeWidth + 23 + k) w m) → y ≡ decode (part k w name) → eqb x y ≡ false → isChild p name (nodeAt (memOf m .nodes) i) ≡ false
-  not-child p name k w x y h f g ex ey d =
-      let a = nodesAt + i * nodeWidth + 23 in
-      let n = getD m (nodesAt + i * nodeWidth + 22) 0 % 33 in
-      let differs : (nodeAt (memOf m .nodes) i .name ≡ name → ⊥) = λ e.
-      let s : part a n m ≡ name = sym (node-name h) ∙ e in
-      let l : length name ≡ n = sym (ap length s) ∙ length-part a n m (omega arith) in
-      eqb-false x y d (ex ∙ ap decode (sym (part-part a n k w m (omega arith)) ∙ ap (part k w) s) ∙ sym ey) in
-      rw (equal-no _ name differs, and-false)
+  not-child p name k w x y h f g ex ey d = rw (equal-no _ name differs, and-false)
+    where
+      differs : nodeAt (memOf m .nodes) i .name ≡ name → ⊥
+      differs e =
+          let a = nodesAt + i * nodeWidth in
+          let n = getD m (a + 22) 0 % 33 in
+          let s : part (a + 23) n m ≡ name = sym (node-name h) ∙ e in
+          let l : length name ≡ n = sym (ap length s) ∙ length-part (a + 23) n m (omega arith) in
+          eqb-false x y d (ex ∙ ap decode (sym (part-part (a + 23) n k w m (omega arith)) ∙ ap (part k w) s) ∙ sym ey)
 
   pub open-at : i < openRows → openAt (memOf m .opens) i ≡ openOf (part (opensAt + i * openWidth) openWidth m)
   unfolding memOf memFrom openAt
