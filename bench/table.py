@@ -12,7 +12,7 @@ MEAN, MOST, HASHING, STACK = 1.10, 1.30, 1.05, 16_384
 HASH = "digest::sha256"  # in the archive
 
 # Rows that miss a bar, and why.
-SUMS = "pages are summed over the nodes once for each page judged and two or three times for a change, where plain C keeps in each node where its digests begin"
+SUMS = "pages are summed over the nodes once for each page judged and once or twice for a change, where plain C keeps in each node where its digests begin"
 EXPLAINED = {
     "seek, 256 nodes": "the file's node is searched by its id; plain C keeps its place in the open file",
     "write 1,024, aligned": SUMS,

@@ -62,10 +62,9 @@ pub fn end_change(
 {
     let g = guard_state::Guard::load(m);
     let n = g.nodes;
-    if !tables::can_change(m, n, node, size, from, count) {
+    if !tables::change_file(m, n, node, size, from, count) {
         return outcomes::Outcome::Stopped(2);
     }
-    tables::finish_change(m, n, node, size, from, count);
     memory::set_cursor(m, opened, cursor);
     guard_state::rest(m, n, g.opens);
     outcomes::Outcome::Done { number, length: 0 }

@@ -3,25 +3,28 @@
 use mathlib.Core.Path.{_≡_, refl, ap, ap₂, sym, _∙_}
 use mathlib.Core.Bool.{true, false, true≢false}
 use mathlib.Core.List.{List, [], _∷_}
-use Prim.Native.Nat.{ℕ, zero, suc, _+_, _-_, _≤_, _<_, max}
+use Prim.Native.Nat.{ℕ, zero, suc, _+_, _-_, _*_, _≤_, _<_, max}
 use native.Mathlib.Nat.{add-zero}
 use native.Mathlib.Omega.{arith}
 use lib.Dec.{leb, ltb}
 use lib.ListN.{length, getD, take, drop, set}
-use lib.Seq.{ext-getD, set-split, length-take-le, take-take, take-set-lt, getD-take}
+use lib.Seq.{ext-getD, set-split, take-take, take-set-lt, getD-take}
 use borrow.Author.Tests.{leb-true, leb-false, ltb-true, ltb-false, le-leb, lt-ltb}
 use Rattle.lists.specs.Pick.{pick, pick-true, pick-false}
 use Rattle.lists.specs.Equal.{Is, isT, isF, is, and-fst, and-snd, and-both}
 use Rattle.lists.specs.Cells.{inside, length-tab, getD-tab}
 use Rattle.lists.specs.Parts.{part, overwrite}
 use Rattle.lists.specs.PartLaws.{length-part, length-overwrite, getD-part, part-before, part-after, part-within, overwrite-all}
+use Rattle.lists.specs.RowLaws.{length-rows}
 use Rattle.filesystem.specs.Tables.{Node, noNode, nodeAt, withSize, setSize, pagesFor, pageTotal, NODES, PAGES}
 use Rattle.filesystem.specs.SoundLaws.{pageTotal-append}
 use Rattle.filesystem.specs.Image.{divide}
 use Rattle.filesystem.specs.Digests.{replaced}
-use Rattle.memory.specs.Layout.{Mem, memOf, newDigests, withNodes, withDigests}
-use Rattle.memory.specs.MemLaws.{length-nodes}
-use Rattle.tables.specs.View.{viewOf, withFiles, withChange, Changeable, mayChange, pagesChange}
+use Rattle.memory.specs.Layout.{memOf, digestWidth, dataSize, newDigests}
+use Rattle.memory.specs.MemLaws.{length-digests}
+use Rattle.tables.specs.declared.Span.{Span}
+use Rattle.tables.specs.View.{viewOf, withFiles, withChange, stagedDigests, Changeable, mayChange, pagesChange, Spans, spanChange, Room, changedRows}
+use Rattle.tables.specs.RowsInUse.{count-nodes, node-front}
 use Rattle.tables.specs.ContentLaws.{total-split, divide-at, divide-set, front-kept, moved-there}
 
 -- what stands in a place, whatever would be read past the end
@@ -166,77 +169,6 @@ front-size : (l : List Node) (n k size : ℕ) → k < n → take n (setSize l k 
 unfolding setSize nodeAt
 front-size l n k size h = take-set-lt n l k _ h ∙ ap (λ (y : Node). set (take n l) k (withSize size y)) (sym (getD-take n l k noNode h))
 
-module _ (blank : List ℕ) (m : Mem) (n o k size from : ℕ) (new : List (List ℕ)) (f p q t : ℕ) where
-  pub view-change : n ≤ length (m .nodes) → length (m .digests) ≡ PAGES → Changeable (take n (m .nodes)) k size from (length new)
-      → f ≡ pageTotal (take k (m .nodes)) → p ≡ pagesFor (nodeAt (m .nodes) k .size) → q ≡ pagesFor size → t ≡ pageTotal (take n (m .nodes))
-      → viewOf n o (withNodes (setSize (m .nodes) k size) (withDigests (overwrite (overwrite (m .digests) (f + q) (part (f + p) (t - (f + p)) (m .digests))) (f + from) new) m)) ≡ withChange blank k size from new (viewOf n o m)
-  unfolding viewOf withChange moved setSize nodeAt
-  view-change g d h ef ep eq et =
-      let ns = take n (m .nodes) in
-      let l : length ns ≡ n = length-take-le n (m .nodes) g in
-      let kn : k < n = let z = h .known in omega arith in
-      let a : f ≡ pageTotal (take k ns) = ef ∙ ap pageTotal (sym (take-take k n (m .nodes) (omega arith))) in
-      let b : p ≡ pagesFor (nodeAt ns k .size) = ep ∙ ap (λ (x : Node). pagesFor (x .size)) (sym (getD-take n (m .nodes) k noNode kn)) in
-      let s = total-split ns k (h .known) in
-      let u = total-set ns k size (h .known) in
-      let z1 = h .room-before in
-      let z2 = h .room-after in
-      let z3 = h .begins in
-      let z4 = h .covered in
-      let r = pageTotal (drop (suc k) ns) in
-      let e : t - (f + p) ≡ r = omega arith in
-      let w : Placed blank ns (m .digests) k size from new f p q r = record {
-        known = h .known;
-        is-first = a;
-        is-old = b;
-        is-new = eq;
-        is-rest = refl;
-        fits-before = omega arith;
-        fits-after = omega arith;
-        begins = omega arith;
-        ends = rw eq (h .ends);
-        covered = rw (eq, b) z4;
-      } in
-      let x = front-size (m .nodes) n k size kn in
-      ap₂ (λ a b. withFiles a b (viewOf n o m)) x
-      (ap₂ (λ a j. divide a (overwrite (overwrite (m .digests) (f + q) (part (f + p) j (m .digests))) (f + from) new)) x e
-      ∙ contents-changed blank ns (m .digests) k size from new f p q r w (withSize size (nodeAt ns k)) refl)
-
--- what such a change asks of the rows: where the pages of node k end, of all nodes, and after the change
-pub record Room (n k from count f p q t : ℕ) : Type 0 where
-  pub known : k < n
-  pub within : f + p ≤ t
-  pub before-fits : t ≤ PAGES
-  pub after-fits : f + q + (t - (f + p)) ≤ PAGES
-  pub new-fits : f + from + count ≤ PAGES
-  pub few : count ≤ newDigests
-
-module _ (l : List Node) (n k size from count f p q t : ℕ) where
-  pub room : n ≤ length l → Changeable (take n l) k size from count → f ≡ pageTotal (take k l) → p ≡ pagesFor (nodeAt l k .size) → q ≡ pagesFor size → t ≡ pageTotal (take n l) → Room n k from count f p q t
-  unfolding nodeAt
-  room g h ef ep eq et =
-      let e : length (take n l) ≡ n = length-take-le n l g in
-      let kn : k < n = let z = h .known in omega arith in
-      let a : pageTotal (take k (take n l)) ≡ pageTotal (take k l) = ap pageTotal (take-take k n l (omega arith)) in
-      let b : pagesFor (getD (take n l) k noNode .size) ≡ pagesFor (getD l k noNode .size) = ap (λ (x : Node). pagesFor (x .size)) (getD-take n l k noNode kn) in
-      let s = total-split (take n l) k (h .known) in
-      let u = total-set (take n l) k size (h .known) in
-      let z1 = h .room-before in
-      let z2 = h .room-after in
-      let z3 = h .ends in
-      let z4 = h .few in
-      record { known = kn; within = omega arith; before-fits = omega arith; after-fits = omega arith; new-fits = omega arith; few = z4 }
-
--- the page total with node k of another size, by the total and the two sizes
-pub total-with : (l : List Node) (n k size : ℕ) → k < n → n ≤ length l → pageTotal (setSize (take n l) k size) + pagesFor (nodeAt l k .size) ≡ pageTotal (take n l) + pagesFor size
-unfolding nodeAt
-total-with l n k size h g =
-    let e : length (take n l) ≡ n = length-take-le n l g in
-    let b : pagesFor (getD (take n l) k noNode .size) ≡ pagesFor (getD l k noNode .size) = ap (λ (x : Node). pagesFor (x .size)) (getD-take n l k noNode h) in
-    let s = total-split (take n l) k (omega arith) in
-    let u = total-set (take n l) k size (omega arith) in
-    omega arith
-
 -- the test of the page counts, and what it says
 module _ (old new from count : ℕ) where
   pages-true : pagesChange old new from count ≡ true → (from ≤ old) × (from + count ≤ new) × (new ≤ max old (from + count)) × (count ≤ newDigests)
@@ -282,13 +214,78 @@ module _ (ns : List Node) (k size from count : ℕ) where
       go (isT e) = absurd (n (may-change e))
       go (isF e) = e
 
-  -- where there is room, the page counts decide
-  pub may-change-pages : k < length ns → pageTotal ns ≤ PAGES → pageTotal (setSize ns k size) ≤ PAGES → mayChange ns k size from count ≡ pagesChange (pagesFor (nodeAt ns k .size)) (pagesFor size) from count
-  unfolding mayChange
-  may-change-pages a b c = rw (lt-ltb k (length ns) a, le-leb (pageTotal ns) PAGES b, le-leb (pageTotal (setSize ns k size)) PAGES c)
+-- Node k among the first n, by its span: whether a change of it can be done, what that asks of the rows, and what it makes of the view.
+module _ (m : List ℕ) {n k : ℕ} {s : Span} (h : Spans (memOf m .nodes) n k s) (size : ℕ) where
+  abbrev ns : List Node
+  ns = take n (memOf m .nodes)
 
--- the same, from what the memory's functions give
-pub room-in : (m : List ℕ) (n : ℕ) {k size from count f s p q t : ℕ} → n ≤ NODES → Changeable (take n (memOf m .nodes)) k size from count
-    → f ≡ pageTotal (take k (memOf m .nodes)) → s ≡ nodeAt (memOf m .nodes) k .size → p ≡ pagesFor s → q ≡ pagesFor size
-    → t ≡ pageTotal (take n (memOf m .nodes)) → Room n k from count f p q t
-room-in m n h g ef es ep eq et = room (memOf m .nodes) n _ _ _ _ _ _ _ _ (rw (length-nodes m) h) g ef (ep ∙ ap pagesFor es) eq et
+  in-use : k < length ns
+  in-use = rw (count-nodes m n (h .fits)) (h .known)
+
+  is-first : s .first ≡ pageTotal (take k ns)
+  is-first = h .begins ∙ ap pageTotal (sym (take-take k n (memOf m .nodes) (omega (arith, h .known))))
+
+  is-end : s .end ≡ s .first + pagesFor (nodeAt ns k .size)
+  is-end = rw (node-front n (memOf m .nodes) k (h .known)) (h .ends)
+
+  is-rest : s .total - s .end ≡ pageTotal (drop (suc k) ns)
+  is-rest = omega (arith, total-split ns k in-use, is-first, is-end, h .all)
+
+  -- the page total with node k of another size
+  pub total-with : s .first + pagesFor size + (s .total - s .end) ≡ pageTotal (setSize ns k size)
+  total-with = omega (arith, total-set ns k size in-use, is-first, is-rest)
+
+  module _ (from count : ℕ) where
+    pub span-may : spanChange s (pagesFor size) from count ≡ mayChange ns k size from count
+    unfolding spanChange mayChange
+    span-may =
+        let old : s .end - s .first ≡ pagesFor (nodeAt ns k .size) = omega (arith, is-end) in
+        rw (lt-ltb k (length ns) in-use, ← total-with, h .all, old)
+
+    module _ (can : spanChange s (pagesFor size) from count ≡ true) where
+      can-so : Changeable ns k size from count
+      can-so = may-change ns k size from count (sym span-may ∙ can)
+
+      pub room : Room k size from count s
+      room =
+          let g = can-so in
+          let t = total-with in
+          let z = g .room-after in
+          record {
+            known = let x = h .known in let y = h .fits in omega arith;
+            within = h .within;
+            before-fits = rw (h .all) (g .room-before);
+            after-fits = rw t z;
+            new-fits = omega (arith, g .ends);
+            few = g .few;
+          }
+
+      pub view-change : (blank : List ℕ) (o : ℕ)
+          → viewOf n o (changedRows k size from (stagedDigests count (memOf m .staged)) s (memOf m)) ≡ withChange blank k size from (stagedDigests count (memOf m .staged)) (viewOf n o (memOf m))
+      unfolding viewOf withChange changedRows stagedDigests moved setSize nodeAt
+      view-change blank o =
+          let ds = memOf m .digests in
+          let f = s .first in
+          let p = pagesFor (nodeAt ns k .size) in
+          let q = pagesFor size in
+          let r = pageTotal (drop (suc k) ns) in
+          let new = stagedDigests count (memOf m .staged) in
+          let l : length new ≡ count = length-rows digestWidth count (part dataSize (count * digestWidth) (memOf m .staged)) in
+          let g = can-so in
+          let x = room in
+          let w : Placed blank ns ds k size from new f p q r = record {
+            known = in-use;
+            is-first = is-first;
+            is-old = refl;
+            is-new = refl;
+            is-rest = refl;
+            fits-before = omega (arith, is-end, is-rest, length-digests m);
+            fits-after = omega (arith, is-rest, length-digests m);
+            begins = g .begins;
+            ends = rw l (g .ends);
+            covered = rw l (g .covered);
+          } in
+          let e = front-size (memOf m .nodes) n k size (h .known) in
+          ap₂ (λ a b. withFiles a b (viewOf n o (memOf m))) e
+          ((λ i. divide (e i) (overwrite (overwrite ds (f + q) (part (is-end i) (is-rest i) ds)) (f + from) new))
+          ∙ contents-changed blank ns ds k size from new f p q r w (withSize size (nodeAt ns k)) refl)

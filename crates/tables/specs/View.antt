@@ -2,17 +2,19 @@
 -- Assumes nothing.
 use mathlib.Core.Bool.{Bool, _&&_}
 use mathlib.Core.List.{List, [], _∷_, _++_}
-use Prim.Native.Nat.{ℕ, _+_, _*_, _%_, _<_, _≤_, max}
+use mathlib.Core.Path.{_≡_}
+use Prim.Native.Nat.{ℕ, _+_, _-_, _*_, _%_, _<_, _≤_, max}
 use lib.Dec.{leb, ltb}
 use lib.ListN.{length, getD, take, drop, set}
 use Rattle.lists.specs.Pick.{pick}
-use Rattle.lists.specs.Parts.{part}
+use Rattle.lists.specs.Parts.{part, overwrite}
 use Rattle.lists.specs.Rows.{rows}
 use Rattle.lists.specs.Search.{without}
-use Rattle.filesystem.specs.Tables.{PAGES, Node, OpenFile, Tables, nodeAt, pagesFor, pageTotal, setMode, setSize, setCursor}
+use Rattle.filesystem.specs.Tables.{NODES, PAGES, Node, OpenFile, Tables, nodeAt, pagesFor, pageTotal, setMode, setSize, setCursor}
 use Rattle.filesystem.specs.Image.{divide}
 use Rattle.filesystem.specs.Digests.{replaced}
-use Rattle.memory.specs.Layout.{Mem, digestWidth, dataSize, newDigests}
+use Rattle.memory.specs.Layout.{Mem, digestWidth, dataSize, newDigests, withNodes, withDigests}
+use Rattle.tables.specs.declared.Span.{Span}
 
 -- The rows in use: of n nodes and o open files. A node's digests stand behind those of the nodes before it.
 pub record View : Type 0 where
@@ -89,3 +91,32 @@ unfoldable pub mayChange : List Node → (k size from count : ℕ) → Bool
 mayChange ns k size from count =
     ltb k (length ns)
     && (leb (pageTotal ns) PAGES && (leb (pageTotal (setSize ns k size)) PAGES && pagesChange (pagesFor (nodeAt ns k .size)) (pagesFor size) from count))
+
+-- the pages of node k and those of the first n
+pub record Spans (ns : List Node) (n k : ℕ) (s : Span) : Type 0 where
+  pub known : k < n
+  pub fits : n ≤ NODES
+  pub begins : s .first ≡ pageTotal (take k ns)
+  pub ends : s .end ≡ s .first + pagesFor (nodeAt ns k .size)
+  pub within : s .end ≤ s .total
+  pub all : s .total ≡ pageTotal (take n ns)
+  pub small : s .total ≤ n * 4194304
+
+-- the test of a change, by these
+unfoldable pub spanChange : Span → (new from count : ℕ) → Bool
+spanChange s new from count =
+    leb (s .total) PAGES && (leb (s .first + new + (s .total - s .end)) PAGES && pagesChange (s .end - s .first) new from count)
+
+-- what a change asks of the rows, and the rows after it
+pub record Room (k size from count : ℕ) (s : Span) : Type 0 where
+  pub known : k < NODES
+  pub within : s .end ≤ s .total
+  pub before-fits : s .total ≤ PAGES
+  pub after-fits : s .first + pagesFor size + (s .total - s .end) ≤ PAGES
+  pub new-fits : s .first + from + count ≤ PAGES
+  pub few : count ≤ newDigests
+
+unfoldable pub changedRows : (k size from : ℕ) → List (List ℕ) → Span → Mem → Mem
+changedRows k size from new s m =
+    withNodes (setSize (m .nodes) k size)
+    (withDigests (overwrite (overwrite (m .digests) (s .first + pagesFor size) (part (s .end) (s .total - s .end) (m .digests))) (s .first + from) new) m)

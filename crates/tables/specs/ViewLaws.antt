@@ -13,7 +13,8 @@ use Rattle.lists.specs.Search.{without}
 use Rattle.filesystem.specs.Tables.{withMode, Node, noNode, OpenFile, noOpenFile, nodeAt, openAt, pagesFor, pageTotal, setMode, setCursor}
 use Rattle.filesystem.specs.Image.{divide}
 use Rattle.memory.specs.Layout.{Mem, withNodes, withOpens, withDigests, withStaged}
-use Rattle.tables.specs.View.{withFiles, withOpens as viewOpens, viewOf, withNode, withoutNode, modeAt, withOpen, withoutOpen, cursorAt, withStaging}
+use Rattle.tables.specs.declared.Span.{Span}
+use Rattle.tables.specs.View.{Spans, withFiles, withOpens as viewOpens, viewOf, withNode, withoutNode, modeAt, withOpen, withoutOpen, cursorAt, withStaging}
 use Rattle.tables.specs.ContentLaws.{divide-snoc, divide-without, divide-sizes}
 
 -- lists of which the first n count
@@ -44,18 +45,20 @@ module _ (m : Mem) (n o : ℕ) where
   view-close k h f = ap (λ os. viewOpens os (viewOf n o m)) (front-removed (m .opens) o f k h)
 
   -- node k is taken out, and its digests
-  pub view-remove : (k f e : ℕ) → k < n → n ≤ length (m .nodes) → f ≡ pageTotal (take k (m .nodes)) → e ≡ f + pagesFor (nodeAt (m .nodes) k .size) → pageTotal (take n (m .nodes)) ≤ length (m .digests)
-      → viewOf (n - 1) o (withNodes (overwrite (m .nodes) k (part (k + 1) (n - (k + 1)) (m .nodes))) (withDigests (overwrite (m .digests) f (part e (pageTotal (take n (m .nodes)) - e) (m .digests))) m))
+  pub view-remove : {k : ℕ} {s : Span} → Spans (m .nodes) n k s → n ≤ length (m .nodes) → s .total ≤ length (m .digests)
+      → viewOf (n - 1) o (withNodes (overwrite (m .nodes) k (part (k + 1) (n - (k + 1)) (m .nodes))) (withDigests (overwrite (m .digests) (s .first) (part (s .end) (s .total - s .end) (m .digests))) m))
       ≡ withoutNode k (viewOf n o m)
   unfolding viewOf nodeAt
-  view-remove k f e h g p q t =
-      let r : take (n - 1) (overwrite (m .nodes) k (part (k + 1) (n - (k + 1)) (m .nodes))) ≡ without k (take n (m .nodes)) = front-removed (m .nodes) n g k h in
-      let c : take k (take n (m .nodes)) ≡ take k (m .nodes) = take-take k n (m .nodes) (omega arith) in
-      let d : getD (take n (m .nodes)) k noNode ≡ getD (m .nodes) k noNode = getD-take n (m .nodes) k noNode h in
-      let l : length (take n (m .nodes)) ≡ n = length-take-le n (m .nodes) g in
+  view-remove {k} {s} p g t =
+      let h = p .known in
+      let ns = take n (m .nodes) in
+      let r : take (n - 1) (overwrite (m .nodes) k (part (k + 1) (n - (k + 1)) (m .nodes))) ≡ without k ns = front-removed (m .nodes) n g k h in
+      let c : take k ns ≡ take k (m .nodes) = take-take k n (m .nodes) (omega arith) in
+      let d : getD ns k noNode ≡ getD (m .nodes) k noNode = getD-take n (m .nodes) k noNode h in
+      let l : length ns ≡ n = length-take-le n (m .nodes) g in
       ap₂ (λ ns ds. withFiles ns ds (viewOf n o m)) r
-      (ap (λ ns. divide ns (overwrite (m .digests) f (part e (pageTotal (take n (m .nodes)) - e) (m .digests)))) r
-      ∙ divide-without (take n (m .nodes)) k (omega arith) (m .digests) f e (p ∙ ap pageTotal (sym c)) (q ∙ ap (λ (x : Node). f + pagesFor (x .size)) (sym d)) t)
+      (ap₂ (λ ns j. divide ns (overwrite (m .digests) (s .first) (part (s .end) (j - s .end) (m .digests)))) r (p .all)
+      ∙ divide-without ns k (omega arith) (m .digests) (s .first) (s .end) (p .begins ∙ ap pageTotal (sym c)) (p .ends ∙ ap (λ (x : Node). s .first + pagesFor (x .size)) (sym d)) (rw (p .all) at t))
 
   -- what is staged, the mode of a node, the cursor of an open file
   pub view-stage : (s : List ℕ) → viewOf n o (withStaged s m) ≡ withStaging s (viewOf n o m)

@@ -2,6 +2,7 @@
 // Contracts are over the rows in use (specs/View.antt); where a row stands is the memory crate's.
 ghost use mathlib.Core.Path.{_≡_};
 ghost use Prim.Native.Nat.{ℕ, _+_, _-_, _*_, _≤_, _<_};
+ghost use mathlib.Core.Bool.{true, false};
 ghost use mathlib.Core.List.{List, []};
 ghost use lib.ListN.{length, getD, take};
 ghost use Rattle.lists.specs.Equal.{equal};
@@ -10,7 +11,7 @@ ghost use Rattle.filesystem.specs.Tables.{NODES, PAGES, findId, findChild, chil
 ghost use Rattle.filesystem.specs.Image.{divide};
 ghost use Rattle.memory.specs.Records.{nodeOf, openOf};
 ghost use Rattle.memory.specs.Layout.{memOf, memorySize, openRows};
-ghost use Rattle.tables.specs.View.{viewOf, withNode, withoutNode, withOpen, withoutOpen, withChange, stagedDigests, Changeable, mayChange, pagesChange};
+ghost use Rattle.tables.specs.View.{viewOf, withNode, withoutNode, withOpen, withoutOpen, withChange, stagedDigests, mayChange, pagesChange, Spans, spanChange, Room, changedRows};
 
 // ---- searches
 
@@ -129,6 +130,24 @@ pub fn first_page(m: &[u8], k: usize) -> usize
     pages_on(m, 0, 0, k)
 }
 
+// Where the pages of a node begin and end, and how many all nodes have.
+struct Span {
+    first: usize,
+    end: usize,
+    total: usize,
+}
+
+// The same of node k among the first n.
+fn pages_of(m: &[u8], n: usize, k: usize) -> Span
+    requires { ⌜ (k < n) × (n ≤ NODES) × (memorySize ≤ length (now m)) ⌝ }
+    ensures { λ r. ⌜ Spans (memOf (now (m .entry)) .nodes) n k r ⌝ }
+{
+    let first = first_page(m, k);
+    let end = first + pages_for(memory::node_size(m, k));
+    let total = pages_on(m, k + 1, end, n);
+    Span { first, end, total }
+}
+
 // ---- changes of nodes and open files
 
 // One more node, behind the others; it has no pages.
@@ -146,10 +165,8 @@ pub fn remove_node(m: &mut [u8], n: usize, k: usize)
     ensures { λ _. ⌜ ((o : ℕ) → viewOf (n - 1) o (memOf (now (m .exit))) ≡ withoutNode k (viewOf n o (memOf (now (m .entry))))) ⌝ }
     ensures { λ _. ⌜ length (now (m .exit)) ≡ length (now (m .entry)) ⌝ }
 {
-    let first = first_page(m, k);
-    let next = first + pages_for(memory::node_size(m, k));
-    let total = pages_on(m, k + 1, next, n);
-    memory::move_digests(m, next, first, total - next);
+    let s = pages_of(m, n, k);
+    memory::move_digests(m, s.end, s.first, s.total - s.end);
     memory::move_nodes(m, k + 1, k, n - (k + 1));
 }
 
@@ -189,28 +206,23 @@ pub fn pages_with(m: &[u8], n: usize, k: usize, size: u32) -> usize
     requires { ⌜ (k < n) × (n ≤ NODES) × (memorySize ≤ length (now m)) ⌝ }
     ensures { λ r. ⌜ r ≡ pageTotal (setSize (take n (memOf (now (m .entry)) .nodes)) k size) ⌝ }
 {
-    let others = first_page(m, n) - pages_for(memory::node_size(m, k));
-    others + pages_for(size)
+    let s = pages_of(m, n, k);
+    s.first + pages_for(size) + (s.total - s.end)
 }
 
-// Whether a change of file k can be done so: what `finish_change` requires.
-pub fn can_change(m: &[u8], n: usize, k: usize, size: u32, from: usize, count: usize) -> bool
-    requires { ⌜ (n ≤ NODES) × (memorySize ≤ length (now m)) ⌝ }
-    ensures { λ r. ⌜ r ≡ mayChange (take n (memOf (now (m .entry)) .nodes)) k size from count ⌝ }
+// Whether there is room for the pages of a change, and these can change so (`mayChange`).
+fn can_change(s: Span, size: u32, from: usize, count: usize) -> bool
+    requires { ⌜ (s .first ≤ s .end) × (s .end ≤ s .total) ⌝ }
+    ensures { λ r. ⌜ r ≡ spanChange s (pagesFor size) from count ⌝ }
 {
-    if n <= k {
+    if limits::PAGES < s.total {
         return false;
     }
-    let old = pages_for(memory::node_size(m, k));
     let new = pages_for(size);
-    let total = first_page(m, n);
-    if limits::PAGES < total {
+    if limits::PAGES < s.first + new + (s.total - s.end) {
         return false;
     }
-    if limits::PAGES < total - old + new {
-        return false;
-    }
-    pages_change(old, new, from, count)
+    pages_change(s.end - s.first, new, from, count)
 }
 
 // The same of the page counts alone.
@@ -236,17 +248,32 @@ fn pages_change(old: usize, new: usize, from: usize, count: usize) -> bool
     true
 }
 
-// A change of file k is done: its size, and the `count` staged digests for its pages from `from` on.
-pub fn finish_change(m: &mut [u8], n: usize, k: usize, size: u32, from: usize, count: usize)
-    requires { ⌜ Changeable (take n (memOf (now m) .nodes)) k size from count × (n ≤ NODES) × (memorySize ≤ length (now m)) ⌝ }
-    ensures { λ _. ⌜ ((blank : List ℕ) (o : ℕ) → viewOf n o (memOf (now (m .exit))) ≡ withChange blank k size from (stagedDigests count (memOf (now (m .entry)) .staged)) (viewOf n o (memOf (now (m .entry))))) ⌝ }
+// The rows of a change: those behind the file's pages move to where these will end, and the staged digests come among its own.
+fn put_change(m: &mut [u8], k: usize, size: u32, from: usize, count: usize, s: Span)
+    requires { ⌜ Room k size from count s × (memorySize ≤ length (now m)) ⌝ }
+    ensures { λ _. ⌜ memOf (now (m .exit)) ≡ changedRows k size from (stagedDigests count (memOf (now (m .entry)) .staged)) s (memOf (now (m .entry))) ⌝ }
     ensures { λ _. ⌜ length (now (m .exit)) ≡ length (now (m .entry)) ⌝ }
 {
-    let first = first_page(m, k);
-    let next = first + pages_for(memory::node_size(m, k));
-    let end = first + pages_for(size);
-    let total = pages_on(m, k + 1, next, n);
-    memory::move_digests(m, next, end, total - next);
-    memory::keep_digests(m, first + from, count);
+    memory::move_digests(m, s.end, s.first + pages_for(size), s.total - s.end);
+    memory::keep_digests(m, s.first + from, count);
     memory::set_size(m, k, size);
+}
+
+// A change of file k, where it can be done: its size, and the `count` staged digests for its pages from `from` on. Else nothing changes.
+pub fn change_file(m: &mut [u8], n: usize, k: usize, size: u32, from: usize, count: usize) -> bool
+    requires { ⌜ (n ≤ NODES) × (memorySize ≤ length (now m)) ⌝ }
+    ensures { λ r. ⌜ r ≡ mayChange (take n (memOf (now (m .entry)) .nodes)) k size from count ⌝ }
+    ensures { λ r. ⌜ (r ≡ true → (blank : List ℕ) (o : ℕ) → viewOf n o (memOf (now (m .exit))) ≡ withChange blank k size from (stagedDigests count (memOf (now (m .entry)) .staged)) (viewOf n o (memOf (now (m .entry))))) ⌝ }
+    ensures { λ r. ⌜ (r ≡ false → now (m .exit) ≡ now (m .entry)) ⌝ }
+    ensures { λ _. ⌜ length (now (m .exit)) ≡ length (now (m .entry)) ⌝ }
+{
+    if n <= k {
+        return false;
+    }
+    let s = pages_of(m, n, k);
+    if !can_change(s, size, from, count) {
+        return false;
+    }
+    put_change(m, k, size, from, count, s);
+    true
 }

@@ -1,22 +1,21 @@
 -- `changes::end_change` meets its contract. Assumes nothing.
 use native.Mathlib.Omega.{arith}
-use mathlib.Core.Path.{refl, ap, sym, _∙_}
+use mathlib.Core.Path.{ap, sym, _∙_}
 use mathlib.Core.Bool.{true≢false}
 use borrow.Author.Tests.{not-true, not-false}
-use Rattle.filesystem.specs.Tables.{Tables, Node}
-use Rattle.memory.specs.Layout.{memOf}
+use Rattle.filesystem.specs.Tables.{Tables}
 use Rattle.tables.specs.View.{tablesIn, mayChange}
-use Rattle.tables.specs.ChangeLaws.{may-change, may-change-so}
+use Rattle.tables.specs.ChangeLaws.{may-change-so}
 use Rattle.machine.specs.Machine.{zeroDigest}
 use Rattle.guard_state.specs.declared.Guard.{Guard}
 use Rattle.guard_state.specs.LoadedLaws.{counts-fit, tables-loaded}
-use Rattle.changes.specs.Ended.{Ended, change-sends}
+use Rattle.changes.specs.Ended.{change-sends}
 use borrow.Author.Needs.{needs}
 use Rattle.changes.proofs.end_change.Statement.{statement}
 use Rattle.changes.proofs.end_change.Tie as tie
 
-can-change-requires : tie.Need-can-change-requires
-can-change-requires c κs =
+change-file-requires : tie.Need-change-file-requires
+change-file-requires c κs =
     let l = c .before in
     let a = l .before .before .before .args in
     (counts-fit (a .m .now) _ (l .load .ensures) .0, omega arith)
@@ -24,25 +23,18 @@ can-change-requires c κs =
 returns : tie.Need-returns
 unfolding tablesIn
 returns c =
-    let v = c .before in
-    let l = v .before .before in
+    let f = c .before .before .before in
+    let l = f .before .before in
     let a = l .before .before .before .args in (
       λ d q h b.
           let e = ap (λ (t : Tables). mayChange (t .nodes) (a .node) (a .size) (a .from) (a .count)) (tables-loaded (a .m .now) _ (l .load .ensures) d) in
-          absurd (true≢false (sym (may-change-so _ _ _ _ _ (h .can)) ∙ sym e ∙ sym (v .can-change .ensures) ∙ not-true _ (c .if1 .taken))),
-      refl,
+          absurd (true≢false (sym (may-change-so _ _ _ _ _ (h .can)) ∙ sym e ∙ sym (f .change-file .ensures .0) ∙ not-true _ (c .if1 .taken))),
+      f .change-file .ensures .1 .1 .1,
     )
-
-finish-change-requires : tie.Need-finish-change-requires
-finish-change-requires c κs =
-    let v = c .before .before in
-    let l = v .before .before in
-    let a = l .before .before .before .args in
-    (may-change _ _ _ _ _ (sym (v .can-change .ensures) ∙ not-false _ (c .before .if1 .left)), counts-fit (a .m .now) _ (l .load .ensures) .0, omega arith)
 
 rest-requires : tie.Need-rest-requires
 rest-requires c κs =
-    let l = c .before .before .before .before .before .before .before .before .before .before .before .before in
+    let l = c .before .before .before .before .before .before .before .before .before .before in
     let a = l .before .before .before .args in
     let f = counts-fit (a .m .now) _ (l .load .ensures) in
     (f .0, f .1, omega arith)
@@ -51,16 +43,17 @@ returns-2 : tie.Need-returns-2
 returns-2 c =
     let r = c .before .before in
     let s = r .before .before .before .before in
-    let f = s .before .before .before .before in
-    let l = f .before .before .before .before .before in
+    let i = s .before .before in
+    let f = i .before .before .before in
+    let l = f .before .before in
     let a = l .before .before .before .args in (
       λ d q h b.
           change-sends d (a .m .now) q (a .node) (a .opened) (a .size) (a .cursor) (a .from) (a .count) (a .number) h (l .load .result .nodes) (l .load .result .opens) _ _ _ b
           (ap (λ (x : Guard). x .nodes) (l .load .ensures)) (ap (λ (x : Guard). x .opens) (l .load .ensures))
-          (f .finish-change .ensures .0 (zeroDigest d) (l .load .result .opens)) (s .set-cursor .ensures .0) (r .rest .ensures .0 d),
+          (f .change-file .ensures .1 .0 (not-false _ (i .if1 .left)) (zeroDigest d) (l .load .result .opens)) (s .set-cursor .ensures .0) (r .rest .ensures .0 d),
       omega arith,
     )
 
 pub end-change-spec : {M : Type 1} → statement M
 end-change-spec =
-    tie.close (tie.spec (λ c κs. search needs) can-change-requires (λ c. search needs) returns finish-change-requires (λ c κs. search needs) rest-requires (λ c. search needs) returns-2)
+    tie.close (tie.spec (λ c κs. search needs) change-file-requires (λ c. search needs) returns (λ c κs. search needs) rest-requires (λ c. search needs) returns-2)
