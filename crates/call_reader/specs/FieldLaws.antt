@@ -101,7 +101,8 @@ module _ (w : ℕ) (s : List ℕ) (there : 0 < length s) where
     unfolding byHandleAndBytes bind
     data-long l m = sym (rw (num-got w 1 s l) (pick-false _ _ _ (lt-leb (length (drop (1 + w) s)) DATA-BYTES (rw length-drop m))))
 
-    pub data-got : (h : ℕ) → h ≡ decode (part 1 w s) → 1 + w ≤ length s → length s - (1 + w) ≤ DATA-BYTES → some (make h (drop (1 + w) s)) ≡ byHandleAndBytes w make (drop 1 s)
+    pub data-got : (h : ℕ) → h ≡ decode (part 1 w s) → 1 + w ≤ length s → length s - (1 + w) ≤ DATA-BYTES
+        → some (make h (drop (1 + w) s)) ≡ byHandleAndBytes w make (drop 1 s)
     unfolding byHandleAndBytes bind
     data-got h e l m =
         ap (λ x. some (make x (drop (1 + w) s))) e

@@ -16,7 +16,8 @@ ghost use Rattle.outcomes.specs.Answered.{answered};
 // create and mkdir, open, close, remove and rmdir, chmod: the answer has no bytes.
 fn accept_change(m: &mut [u8], call: u64, reply: &[u8]) -> outcomes::Outcome
     requires { ⌜ (call ≡ numbersOf (memOf (now m) .head) .call) × (1 ≤ call) × (call ≤ 5) × (memorySize ≤ length (now m)) ⌝ }
-    ensures { λ r. ⌜ ((c : Config) → c .width ≡ ID-BYTES → Consistent c (stateOf c (now (m .entry))) → (q : List ℕ) → Sends c (answered c (stateOf c (now (m .entry))) (now (reply .entry))) r (now (m .exit)) q q) ⌝ }
+    ensures { λ r. ⌜ ((c : Config) → c .width ≡ ID-BYTES → Consistent c (stateOf c (now (m .entry))) → (q : List ℕ)
+        → Sends c (answered c (stateOf c (now (m .entry))) (now (reply .entry))) r (now (m .exit)) q q) ⌝ }
     ensures { λ _. ⌜ length (now (m .exit)) ≡ length (now (m .entry)) ⌝ }
 {
     match call {
@@ -35,8 +36,11 @@ fn accept_page_change(
     reply: &[u8],
     request: &mut [u8],
 ) -> outcomes::Outcome
-    requires { ⌜ (call ≡ numbersOf (memOf (now m) .head) .call) × (9 ≤ call) × (call ≤ 13) × (memorySize ≤ length (now m)) × (storeLength ≤ length (now request)) ⌝ }
-    ensures { λ r. ⌜ ((c : Config) → c .digest ≡ sha256 → c .width ≡ ID-BYTES → Consistent c (stateOf c (now (m .entry))) → Sends c (answered c (stateOf c (now (m .entry))) (now (reply .entry))) r (now (m .exit)) (now (request .entry)) (now (request .exit))) ⌝ }
+    requires { ⌜ (call ≡ numbersOf (memOf (now m) .head) .call) × (9 ≤ call) × (call ≤ 13) × (memorySize ≤ length (now m))
+        × (storeLength ≤ length (now request)) ⌝ }
+    ensures { λ r. ⌜ ((c : Config) → c .digest ≡ sha256 → c .width ≡ ID-BYTES → Consistent c (stateOf c (now (m .entry)))
+        → Sends c (answered c (stateOf c (now (m .entry))) (now (reply .entry))) r (now (m .exit)) (now (request .entry))
+        (now (request .exit))) ⌝ }
     ensures { λ _. ⌜ length (now (m .exit)) ≡ length (now (m .entry)) ⌝ }
 {
     match call {
@@ -56,7 +60,11 @@ pub fn accept_reply(
     request: &mut [u8],
 ) -> outcomes::Outcome
     requires { ⌜ (memorySize ≤ length (now m)) × (DATA-BYTES ≤ length (now answer)) × (storeLength ≤ length (now request)) ⌝ }
-    ensures { λ r. ⌜ ((c : Config) → c .digest ≡ sha256 → c .width ≡ ID-BYTES → Consistent c (stateOf c (now (m .entry))) → 1 ≤ numbersOf (memOf (now (m .entry)) .head) .call → numbersOf (memOf (now (m .entry)) .head) .call ≤ 13 → answerLength c ≤ length (now (answer .entry)) → Leaves c (answered c (stateOf c (now (m .entry))) (now (reply .entry))) r (now (m .exit)) (now (answer .entry)) (now (answer .exit)) (now (request .entry)) (now (request .exit))) ⌝ }
+    ensures { λ r. ⌜ ((c : Config) → c .digest ≡ sha256 → c .width ≡ ID-BYTES → Consistent c (stateOf c (now (m .entry)))
+        → 1 ≤ numbersOf (memOf (now (m .entry)) .head) .call → numbersOf (memOf (now (m .entry)) .head) .call ≤ 13
+        → answerLength c ≤ length (now (answer .entry))
+        → Leaves c (answered c (stateOf c (now (m .entry))) (now (reply .entry))) r (now (m .exit)) (now (answer .entry))
+        (now (answer .exit)) (now (request .entry)) (now (request .exit))) ⌝ }
     ensures { λ _. ⌜ length (now (m .exit)) ≡ length (now (m .entry)) ⌝ }
 {
     let g = guard_state::Guard::load(m);

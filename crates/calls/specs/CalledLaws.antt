@@ -41,7 +41,8 @@ module _ (c : Config) (wide : c .width ≡ ID-BYTES) (s : State (digestStore c))
   pub call-as : (q : Call) → meant p b ≡ some q → (r : Outcome) (m x x′ : List ℕ) → Sends c (startedBy c s q) r m x x′ → Sends c (calledWith c s b) r m x x′
   call-as q e r m x x′ = subst (λ (y : Result (digestStore c)). Sends c y r m x x′) (sym (read-as ∙ ap (called c s) e ∙ called-some c s q))
 
-  pub path-as : (k n start : ℕ) → p ≡ ByPath k n start → (r : Outcome) (m x x′ : List ℕ) → Sends c (begun c s (take (length b - start) (drop start b)) (madeBy k n)) r m x x′
+  pub path-as : (k n start : ℕ) → p ≡ ByPath k n start → (r : Outcome) (m x x′ : List ℕ)
+      → Sends c (begun c s (take (length b - start) (drop start b)) (madeBy k n)) r m x x′
       → Sends c (calledWith c s b) r m x x′
   unfolding meant
   path-as k n start e r m x x′ =
@@ -49,7 +50,8 @@ module _ (c : Config) (wide : c .width ≡ ID-BYTES) (s : State (digestStore c))
       (ap (λ (l : List ℕ). begun c s l (madeBy k n)) (rest b start)
       ∙ sym (read-as ∙ ap (λ (z : ParsedCall). called c s (meant z b)) e ∙ called-path c s (madeBy k n) (drop start b)))
 
-  pub write-as : (h start : ℕ) → p ≡ Write h start → (r : Outcome) (m x x′ : List ℕ) → Sends c (startedBy c s (write h (take (length b - start) (drop start b)))) r m x x′
+  pub write-as : (h start : ℕ) → p ≡ Write h start → (r : Outcome) (m x x′ : List ℕ)
+      → Sends c (startedBy c s (write h (take (length b - start) (drop start b)))) r m x x′
       → Sends c (calledWith c s b) r m x x′
   unfolding meant
   write-as h start e r m x x′ f =

@@ -23,7 +23,9 @@ fn begin_by_path(
     request: &mut [u8],
 ) -> outcomes::Outcome
     requires { ⌜ NumberFits kind number × (memorySize ≤ length (now m)) × (storeLength ≤ length (now request)) ⌝ }
-    ensures { λ r. ⌜ ((c : Config) → Consistent c (stateOf c (now (m .entry))) → Sends c (begun c (stateOf c (now (m .entry))) (now (path .entry)) (madeBy kind number)) r (now (m .exit)) (now (request .entry)) (now (request .exit))) ⌝ }
+    ensures { λ r. ⌜ ((c : Config) → Consistent c (stateOf c (now (m .entry)))
+        → Sends c (begun c (stateOf c (now (m .entry))) (now (path .entry)) (madeBy kind number)) r (now (m .exit)) (now (request .entry))
+        (now (request .exit))) ⌝ }
     ensures { λ _. ⌜ length (now (m .exit)) ≡ length (now (m .entry)) ⌝ }
 {
     if kind <= 2 {
@@ -34,7 +36,9 @@ fn begin_by_path(
 
 pub fn begin_call(m: &mut [u8], call: &[u8], request: &mut [u8]) -> outcomes::Outcome
     requires { ⌜ (memorySize ≤ length (now m)) × (storeLength ≤ length (now request)) ⌝ }
-    ensures { λ r. ⌜ ((c : Config) → c .digest ≡ sha256 → c .width ≡ ID-BYTES → Consistent c (stateOf c (now (m .entry))) → Sends c (calledWith c (stateOf c (now (m .entry))) (now (call .entry))) r (now (m .exit)) (now (request .entry)) (now (request .exit))) ⌝ }
+    ensures { λ r. ⌜ ((c : Config) → c .digest ≡ sha256 → c .width ≡ ID-BYTES → Consistent c (stateOf c (now (m .entry)))
+        → Sends c (calledWith c (stateOf c (now (m .entry))) (now (call .entry))) r (now (m .exit)) (now (request .entry))
+        (now (request .exit))) ⌝ }
     ensures { λ _. ⌜ length (now (m .exit)) ≡ length (now (m .entry)) ⌝ }
 {
     let p = call_reader::read_call(call);

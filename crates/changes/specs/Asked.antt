@@ -31,7 +31,8 @@ abbrev pub storeFront : ℕ
 storeFront = 13
 
 -- the page of a store that stands at the front of a buffer
-pub stored-part : (d i z : ℕ) (p l : List ℕ) → length p ≡ PAGE-BYTES → storeLength ≤ length l → part storeFront PAGE-BYTES (atFront (storeRequest d i z p) l) ≡ p
+pub stored-part : (d i z : ℕ) (p l : List ℕ) → length p ≡ PAGE-BYTES → storeLength ≤ length l
+    → part storeFront PAGE-BYTES (atFront (storeRequest d i z p) l) ≡ p
 unfolding storeLength
 stored-part d i z p l e h =
     let front : List ℕ = 7 ∷ (encode 4 d ++ (encode 4 i ++ encode 4 z)) in

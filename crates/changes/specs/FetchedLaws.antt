@@ -81,7 +81,8 @@ module _ (c : Config) (same : c .digest ≡ sha256) (s : State (digestStore c)) 
 
 -- a status that is right: of a page that was stored, of a cut
 module _ (c : Config) (wide : c .width ≡ ID-BYTES) (s : State (digestStore c)) (r : List ℕ) (k o : ℕ) (q : Change) where
-  pub stored-goes : (i : ℕ) → s .skeleton .pending ≡ storing k o q i → 0 ≡ statusReason r PAGE-BYTES → answered c s r ≡ pagesFrom c (digestStore c) s k o q (suc i)
+  pub stored-goes : (i : ℕ) → s .skeleton .pending ≡ storing k o q i → 0 ≡ statusReason r PAGE-BYTES
+      → answered c s r ≡ pagesFrom c (digestStore c) s k o q (suc i)
   unfolding answered apply replyAction
   stored-goes i e h =
       ap (apply c (digestStore c) s) (taken-passes c wide s r (storing k o q i) e (h ∙ sym (storing-reason (s .skeleton .tables) r k o q i)))
@@ -112,7 +113,8 @@ module _ (c : Config) (m : List ℕ) (q : Change) (h : Consistent c (stateOf c m
         let z : nodeAt (memOf m .nodes) (g .node) .size ≡ nodeAt (stateOf c m .skeleton .tables .nodes) (g .node) .size = ap (λ (x : Node). x .size) (node-there m c (g .node) n) in
         subst (λ (x : Guard). JudgedPage m x b r) loaded judged n (omega (arith, f .old, z)) (consistent-room c m q h k)
 
-    pub judged-stops : c .digest ≡ sha256 → 0 < b → (m′ z : List ℕ) → stateOf c m′ ≡ stops c (stateOf c m) → Sends c (answered c (stateOf c m) r) (Stopped b) m′ z z
+    pub judged-stops : c .digest ≡ sha256 → 0 < b → (m′ z : List ℕ) → stateOf c m′ ≡ stops c (stateOf c m)
+        → Sends c (answered c (stateOf c m) r) (Stopped b) m′ z z
     judged-stops same p m′ z e = fetched-stops c same (stateOf c m) r (g .node) (g .opened) q (g .page) waiting b m′ z fetch-judged p e
 
     pub judged-stores : c .digest ≡ sha256 → b ≡ 0 → (x : Outcome) (m′ z z′ : List ℕ)

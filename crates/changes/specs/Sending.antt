@@ -52,7 +52,8 @@ module _ (c : Config) (m : List ℕ) where
     pub open-within : g .opened < g .opens
     open-within = omega (arith, h .fits .opened .open-known, opens-count c m)
 
-    pub sending-ended : (size cursor from number : ℕ) → Changing (g .call) → last q ≤ i → last q - first q ≤ newDigests → size ≡ sizeAfter q (nodeAt (t .nodes) (g .node) .size)
+    pub sending-ended : (size cursor from number : ℕ) → Changing (g .call) → last q ≤ i → last q - first q ≤ newDigests
+        → size ≡ sizeAfter q (nodeAt (t .nodes) (g .node) .size)
         → cursor ≡ cursorAfter q (openAt (t .opens) (g .opened) .cursor) → from ≡ first q → number ≡ numberOf q → Ended c m q (g .node) (g .opened) size cursor from (g .digests) number
     sending-ended size cursor from number k l few u v w x = record {
       can =
@@ -77,7 +78,8 @@ module _ (c : Config) (m : List ℕ) where
     pub consistent-room : pageTotal (t .nodes) ≤ PAGES
     consistent-room = to-sound (c .width) (t .nodes) (h .holds .valid .tables .nodes-valid .sound) .pages
 
-    pub fetching-fits : stateOf c m .skeleton .pending ≡ fetching (g .node) (g .opened) q (g .page) → FetchFits (t .nodes) (t .opens) (g .node) (g .opened) q (g .page)
+    pub fetching-fits : stateOf c m .skeleton .pending ≡ fetching (g .node) (g .opened) q (g .page)
+        → FetchFits (t .nodes) (t .opens) (g .node) (g .opened) q (g .page)
     fetching-fits e = subst (PendingFits (t .nodes) (t .opens)) e (h .holds .valid .pending)
 
     pub fetching-sending : stateOf c m .skeleton .pending ≡ fetching (g .node) (g .opened) q (g .page) → Sending c m q (g .page)

@@ -21,8 +21,14 @@ ghost use Rattle.changes.specs.Ended.{Ended};
 
 // The pending change asks for a page, and waits for it as `call` says (guard_state::calls).
 pub fn ask_page(m: &mut [u8], call: u64, page: usize, request: &mut [u8]) -> outcomes::Outcome
-    requires { ⌜ Changing (numbersOf (memOf (now m) .head) .call) × Changing call × (page ≤ filePages) × (memorySize ≤ length (now m)) × (storeLength ≤ length (now request)) ⌝ }
-    ensures { λ r. ⌜ ((c : Config) → numbersOf (memOf (now (m .entry)) .head) .opened < numbersOf (memOf (now (m .entry)) .head) .opens → Sends c (asking c (digestStore c) (stateOf c (now (m .entry))) (fetchRequest (descriptorAt c (digestStore c) (stateOf c (now (m .entry))) (numbersOf (memOf (now (m .entry)) .head) .opened)) page) (pendingIn (goesOn call page (numbersOf (memOf (now (m .entry)) .head))) (memOf (now (m .entry)) .staged)) (stateOf c (now (m .entry)) .progress)) r (now (m .exit)) (now (request .entry)) (now (request .exit))) ⌝ }
+    requires { ⌜ Changing (numbersOf (memOf (now m) .head) .call) × Changing call × (page ≤ filePages) × (memorySize ≤ length (now m))
+        × (storeLength ≤ length (now request)) ⌝ }
+    ensures { λ r. ⌜ ((c : Config) → numbersOf (memOf (now (m .entry)) .head) .opened < numbersOf (memOf (now (m .entry)) .head) .opens
+        → Sends c (asking c (digestStore c) (stateOf c (now (m .entry)))
+        (fetchRequest (descriptorAt c (digestStore c) (stateOf c (now (m .entry)))
+        (numbersOf (memOf (now (m .entry)) .head) .opened)) page)
+        (pendingIn (goesOn call page (numbersOf (memOf (now (m .entry)) .head))) (memOf (now (m .entry)) .staged))
+        (stateOf c (now (m .entry)) .progress)) r (now (m .exit)) (now (request .entry)) (now (request .exit))) ⌝ }
     ensures { λ _. ⌜ length (now (m .exit)) ≡ length (now (m .entry)) ⌝ }
 {
     let g = guard_state::Guard::load(m);
@@ -34,8 +40,16 @@ pub fn ask_page(m: &mut [u8], call: u64, page: usize, request: &mut [u8]) -> out
 
 // The store that stands in the request buffer goes out: its page's digest is staged, and the change waits for the status as `call` says.
 pub fn send_store(m: &mut [u8], call: u64, page: usize, request: &[u8]) -> outcomes::Outcome
-    requires { ⌜ Changing (numbersOf (memOf (now m) .head) .call) × Changing call × (numbersOf (memOf (now m) .head) .digests < newDigests) × (page ≤ filePages) × (memorySize ≤ length (now m)) × (storeLength ≤ length (now request)) ⌝ }
-    ensures { λ _. ⌜ ((c : Config) → c .digest ≡ sha256 → stateOf c (now (m .exit)) ≡ waits c (stateOf c (now (m .entry))) (pendingIn (goesOn call page (numbersOf (memOf (now (m .entry)) .head))) (memOf (now (m .entry)) .staged)) (record { bytes = []; digests = stateOf c (now (m .entry)) .progress .digests ++ (c .digest (part storeFront PAGE-BYTES (now (request .entry))) ∷ []) })) ⌝ }
+    requires { ⌜ Changing (numbersOf (memOf (now m) .head) .call) × Changing call × (numbersOf (memOf (now m) .head) .digests < newDigests)
+        × (page ≤ filePages) × (memorySize ≤ length (now m)) × (storeLength ≤ length (now request)) ⌝ }
+    ensures { λ _. ⌜ ((c : Config) → c .digest ≡ sha256
+        → stateOf c (now (m .exit)) ≡ waits c (stateOf c (now (m .entry)))
+        (pendingIn (goesOn call page (numbersOf (memOf (now (m .entry)) .head))) (memOf (now (m .entry)) .staged))
+        (record {
+          bytes = [];
+          digests = stateOf c (now (m .entry)) .progress .digests ++
+              (c .digest (part storeFront PAGE-BYTES (now (request .entry))) ∷ []);
+        })) ⌝ }
     ensures { λ r. ⌜ r ≡ Ask storeLength ⌝ }
     ensures { λ _. ⌜ length (now (m .exit)) ≡ length (now (m .entry)) ⌝ }
 {
@@ -57,7 +71,8 @@ pub fn end_change(
     number: u64,
 ) -> outcomes::Outcome
     requires { ⌜ (opened < openRows) × (memorySize ≤ length (now m)) ⌝ }
-    ensures { λ r. ⌜ ((c : Config) (q : Change) → Ended c (now (m .entry)) q node opened size cursor from count number → (b : List ℕ) → Sends c (finishChange c (digestStore c) (stateOf c (now (m .entry))) node opened q) r (now (m .exit)) b b) ⌝ }
+    ensures { λ r. ⌜ ((c : Config) (q : Change) → Ended c (now (m .entry)) q node opened size cursor from count number → (b : List ℕ)
+        → Sends c (finishChange c (digestStore c) (stateOf c (now (m .entry))) node opened q) r (now (m .exit)) b b) ⌝ }
     ensures { λ _. ⌜ length (now (m .exit)) ≡ length (now (m .entry)) ⌝ }
 {
     let g = guard_state::Guard::load(m);

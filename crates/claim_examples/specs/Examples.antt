@@ -43,12 +43,14 @@ saved-image =
     let e : guardThen ≡ guardOf cheap treeThen = second-half cheap cheap-fit written written-bytes (computed .replies-right) .1 .1 in
     computed .guard-image ∙ (ap (imageOf cheap (guard cheap)) e ∙ rw (map-id (map (digestsOf cheap) (treeThen .contents))))
 
-save-load : (c : Config) (g : State (guard c)) (t : State (tree c)) (n : ℕ) (image : List ℕ) → judge c (t .skeleton) (save n) ≡ saving → image ≡ imageOf c (tree c) t
+save-load : (c : Config) (g : State (guard c)) (t : State (tree c)) (n : ℕ) (image : List ℕ) → judge c (t .skeleton) (save n) ≡ saving
+    → image ≡ imageOf c (tree c) t
     → Honest c g t (save n ∷ load image (c .digest image) ∷ [])
 unfolding Honest HonestAt step apply
 save-load c g t n image e q = (tt, ((λ d. rw e (record { latest = record { digest = c .digest (imageOf c (tree c) t); files = files c (tree c) t }; earlier = t .saves; saves = refl; image = q; digest = ap (c .digest) q; unchanged = refl })), tt))
 
-pub honest-then : (c : Config) (es fs : List Event) (g : State (guard c)) (t : State (tree c)) → Honest c g t es → Honest c (final c (guard c) g es) (final c (tree c) t es) fs → Honest c g t (es ++ fs)
+pub honest-then : (c : Config) (es fs : List Event) (g : State (guard c)) (t : State (tree c)) → Honest c g t es
+    → Honest c (final c (guard c) g es) (final c (tree c) t es) fs → Honest c g t (es ++ fs)
 unfolding Honest final
 honest-then c [] fs g t h k = k
 honest-then c (e ∷ es) fs g t (h, hs) k = (h, honest-then c es fs _ _ hs k)
@@ -66,7 +68,8 @@ unfolding Agrees
 tree-does = ap answersOf (sym (honest-agrees .0)) ∙ computed .guard-does
 
 -- With a digest that is constant guard and tree part: the collision alternative is needed.
-parted : outcomes constant (guard constant) (fresh constant (guard constant)) forged ≡ outcomes constant (tree constant) (fresh constant (tree constant)) forged → ⊥
+parted : outcomes constant (guard constant) (fresh constant (guard constant)) forged ≡ outcomes constant (tree constant) (fresh constant (tree constant)) forged
+    → ⊥
 parted e =
     let q : done 3 (0 ∷ 0 ∷ 0 ∷ []) ≡ stopped 5 = sym (computed .guard-taken-in) ∙ (ap (λ os. lastAnswer (answersOf os)) e ∙ computed .tree-not) in
     let z : _≡_ {A = ℕ} 0 1 = cc in

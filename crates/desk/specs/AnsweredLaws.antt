@@ -31,7 +31,8 @@ module _ (m b a q a′ q′ : List ℕ) (o : Outcome) (r : ℕ) (m′ d d′ : L
   lengths : (e : ℕ → ℕ → Event) → e (length a) (length q) ≡ e (answerLength delivered) (requestLength delivered)
   lengths e = ap₂ e (n ∙ sym answer-least) (l ∙ sym request-least)
 
-  pub call-answers : Promise m (call b (length a) (length q)) o m′ (buffers a q) (buffers a′ q′) → Prints (printed (answerIn o a′ q′)) r d d′ → Answers m (callLine b) r m′ d d′
+  pub call-answers : Promise m (call b (length a) (length q)) o m′ (buffers a q) (buffers a′ q′) → Prints (printed (answerIn o a′ q′)) r d d′
+      → Answers m (callLine b) r m′ d d′
   unfolding printedFor stateFor
   call-answers p w = record {
     prints = λ k. subst (λ (y : Event). Prints (printed (stepped m y .outcome .answer)) r d d′) (lengths (call b)) (subst (λ (y : Answer). Prints (printed y) r d d′) (p .answer k) w);
@@ -41,7 +42,8 @@ module _ (m b a q a′ q′ : List ℕ) (o : Outcome) (r : ℕ) (m′ d d′ : L
     same-length = p .same-length;
   }
 
-  pub reply-answers : Promise m (reply b (length a) (length q)) o m′ (buffers a q) (buffers a′ q′) → Prints (printed (answerIn o a′ q′)) r d d′ → Answers m (replyLine b) r m′ d d′
+  pub reply-answers : Promise m (reply b (length a) (length q)) o m′ (buffers a q) (buffers a′ q′) → Prints (printed (answerIn o a′ q′)) r d d′
+      → Answers m (replyLine b) r m′ d d′
   unfolding printedFor stateFor
   reply-answers p w = record {
     prints = λ k. subst (λ (y : Event). Prints (printed (stepped m y .outcome .answer)) r d d′) (lengths (reply b)) (subst (λ (y : Answer). Prints (printed y) r d d′) (p .answer k) w);

@@ -68,7 +68,8 @@ module _ (ns : List Node) (r : Rooted ns) where
   pathLength-root = climb-top NODES ns (nodeAt ns 0) (r .no-parent)
 
   -- the bytes of a path are those of its parent's, a slash and the name
-  pub pathLength-step : (k j : ℕ) → j < length ns → r .rank j < r .rank k → k < length ns → ParentAt ns (nodeAt ns k) j → pathLength ns (nodeAt ns k) ≡ suc (length (nodeAt ns k .name)) + pathLength ns (nodeAt ns j)
+  pub pathLength-step : (k j : ℕ) → j < length ns → r .rank j < r .rank k → k < length ns → ParentAt ns (nodeAt ns k) j
+      → pathLength ns (nodeAt ns k) ≡ suc (length (nodeAt ns k .name)) + pathLength ns (nodeAt ns j)
   unfolding pathLength climb
   pathLength-step k j i l h q = go NODES (r .low k h)
     where
@@ -124,7 +125,8 @@ module _ {ns ms : List Node} {n : ℕ} {φ : ℕ → ℕ} (p : Kept ns ms n φ) 
       s : Same (nodeAt ms i) (nodeAt ns (φ i))
       s = p .same i h
 
-      go : Is (eqb (φ i) 0) → ((i : ℕ) → i < n → climb f ms (nodeAt ms i) ≡ climb f ns (nodeAt ns (φ i))) → climb (suc f) ms (nodeAt ms i) ≡ climb (suc f) ns (nodeAt ns (φ i))
+      go : Is (eqb (φ i) 0) → ((i : ℕ) → i < n → climb f ms (nodeAt ms i) ≡ climb f ns (nodeAt ns (φ i)))
+          → climb (suc f) ms (nodeAt ms i) ≡ climb (suc f) ns (nodeAt ns (φ i))
       go (isT e) ih =
           let z : nodeAt ns (φ i) .parent ≡ 0 = ap (λ x. nodeAt ns x .parent) (eqb-true (φ i) 0 e) ∙ r .no-parent in
           climb-top (suc f) ms (nodeAt ms i) (s .same-parent ∙ z) ∙ sym (climb-top (suc f) ns (nodeAt ns (φ i)) z)

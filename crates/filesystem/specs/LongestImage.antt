@@ -68,7 +68,8 @@ full-ids i j h l =
     (full-ind (λ j m. 1 ≡ m .id → 0 ≡ j) (λ e. refl) (λ j l e. omega arith) j l)
     (λ i h. full-ind (λ j m. i + 2 ≡ m .id → suc i ≡ j) (λ e. omega arith) (λ j l e. omega arith) j l) i h
 
-full-siblings : (i j : ℕ) → i < length full → j < length full → nodeAt full i .parent ≡ nodeAt full j .parent → nodeAt full i .name ≡ nodeAt full j .name → i ≡ j
+full-siblings : (i j : ℕ) → i < length full → j < length full → nodeAt full i .parent ≡ nodeAt full j .parent → nodeAt full i .name ≡ nodeAt full j .name
+    → i ≡ j
 unfolding leaf leafName
 full-siblings i j h l =
     full-ind (λ i n. n .parent ≡ nodeAt full j .parent → n .name ≡ nodeAt full j .name → i ≡ j)

@@ -130,7 +130,8 @@ sound-setMode w ns k m e h l =
     (of-limits w y (record { id-some = b .id-some; id-fits = b .id-fits; mode-fits = l; kind-size = b .kind-size }))
     (rw (pageTotal-set ns k y refl) (s .pages))
 
-pub sound-setSize : (w : ℕ) (ns : List Node) (k size : ℕ) → soundNodes w ns ≡ true → k < length ns → isFile (nodeAt ns k) ≡ true → size ≤ FILE-BYTES → pageTotal (setSize ns k size) ≤ PAGES
+pub sound-setSize : (w : ℕ) (ns : List Node) (k size : ℕ) → soundNodes w ns ≡ true → k < length ns → isFile (nodeAt ns k) ≡ true → size ≤ FILE-BYTES
+    → pageTotal (setSize ns k size) ≤ PAGES
     → soundNodes w (setSize ns k size) ≡ true
 unfolding setSize
 sound-setSize w ns k size e h f l pages =
@@ -162,7 +163,8 @@ module _ (w : ℕ) (ns : List Node) (k : ℕ) (h : k < length ns) where
             unskip k j (length (without k ns)) (λ e. childless (skip k i) c (sym (q .is-parent) ∙ ap (λ x. nodeAt ns x .id) e)) (omega arith) (omega arith);
       }
 
-  pub sound-without : soundNodes w ns ≡ true → 0 < k → ((i : ℕ) → i < length ns → nodeAt ns i .parent ≡ nodeAt ns k .id → ⊥) → soundNodes w (without k ns) ≡ true
+  pub sound-without : soundNodes w ns ≡ true → 0 < k → ((i : ℕ) → i < length ns → nodeAt ns i .parent ≡ nodeAt ns k .id → ⊥)
+      → soundNodes w (without k ns) ≡ true
   unfolding nodeAt
   sound-without e l childless =
       let s = to-sound w ns e in
@@ -199,7 +201,8 @@ module _ (ns : List Node) (x : Node) where
   nodeAt-last = getD-append-seam ns x [] noNode
 
   -- what holds of the nodes before and of the new one
-  snoc-ind : (P : ℕ → Node → Type 0) → ((k : ℕ) → k < length ns → P k (nodeAt ns k)) → P (length ns) x → (k : ℕ) → k < length (ns ++ (x ∷ [])) → P k (nodeAt (ns ++ (x ∷ [])) k)
+  snoc-ind : (P : ℕ → Node → Type 0) → ((k : ℕ) → k < length ns → P k (nodeAt ns k)) → P (length ns) x → (k : ℕ) → k < length (ns ++ (x ∷ []))
+      → P k (nodeAt (ns ++ (x ∷ [])) k)
   snoc-ind P f g k h = go (is (ltb k (length ns)))
     where
       go : Is (ltb k (length ns)) → P k (nodeAt (ns ++ (x ∷ [])) k)
@@ -347,20 +350,23 @@ child-found ns d c l =
 
 module _ (w : ℕ) (ns : List Node) (sound : soundNodes w ns ≡ true) where
   -- the path of a child
-  path-child : (d : ℕ) (c : List ℕ) → d < length ns → childAt ns d c < length ns → pathLength ns (nodeAt ns (childAt ns d c)) ≡ suc (length c) + pathLength ns (nodeAt ns d)
+  path-child : (d : ℕ) (c : List ℕ) → d < length ns → childAt ns d c < length ns
+      → pathLength ns (nodeAt ns (childAt ns d c)) ≡ suc (length c) + pathLength ns (nodeAt ns d)
   path-child d c h l =
       let s = to-sound w ns sound in
       let (e, f) = child-found ns d c l in
       let (b, q) = parent-place s (childAt ns d c) l e in
       pathLength-step ns (rooted w ns s) (childAt ns d c) d h b l q ∙ ap (λ x. suc (length x) + pathLength ns (nodeAt ns d)) f
     where
-      parent-place : (s : Sound w ns) (k : ℕ) → k < length ns → nodeAt ns k .parent ≡ nodeAt ns d .id → (rooted w ns s .rank d < rooted w ns s .rank k) × ParentAt ns (nodeAt ns k) d
+      parent-place : (s : Sound w ns) (k : ℕ) → k < length ns → nodeAt ns k .parent ≡ nodeAt ns d .id
+          → (rooted w ns s .rank d < rooted w ns s .rank k) × ParentAt ns (nodeAt ns k) d
       parent-place s zero l e = absurd (omega (arith, root-parent w ns s, limits-at w ns s d h .id-some))
       parent-place s (suc k) l e =
           let (j, i, b, q) = rooted w ns s .has-parent (suc k) (omega arith) l in
           subst (λ x. (rooted w ns s .rank x < rooted w ns s .rank (suc k)) × ParentAt ns (nodeAt ns (suc k)) x) (s .ids j d i h (q .is-parent ∙ e)) (b, q)
 
-  pub walk-length : (d : ℕ) (p : Path) → d < length ns → Passed (walkChecks ns d p) → pathLength ns (nodeAt ns (walk ns d p)) ≡ pathLength ns (nodeAt ns d) + length (joined p)
+  pub walk-length : (d : ℕ) (p : Path) → d < length ns → Passed (walkChecks ns d p)
+      → pathLength ns (nodeAt ns (walk ns d p)) ≡ pathLength ns (nodeAt ns d) + length (joined p)
   unfolding walk walkChecks joined
   walk-length d [] h a = omega arith
   walk-length d (c ∷ cs) h (both dir (both bit (both there a))) =

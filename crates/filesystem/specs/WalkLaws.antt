@@ -91,7 +91,8 @@ module _ (w : ℕ) (ns : List Node) (s : Sound w ns) (k : ℕ) (known : k < leng
       l : childAt ns (skip k d) c < length ns
       l = leb-false _ _ found
 
-      dead : (cs : Path) → childAt ns (skip k d) c ≡ k → Passed (walkChecks ns (childAt ns (skip k d) c) cs) → (walk ns (childAt ns (skip k d) c) cs ≡ k → ⊥) → ⊥
+      dead : (cs : Path) → childAt ns (skip k d) c ≡ k → Passed (walkChecks ns (childAt ns (skip k d) c) cs) → (walk ns (childAt ns (skip k d) c) cs ≡ k → ⊥)
+          → ⊥
       dead [] e a o = o e
       dead (x ∷ cs) e (both _ (both _ (both f _))) o =
           let m = leb-false _ _ f in
@@ -108,7 +109,8 @@ module _ (w : ℕ) (ns : List Node) (s : Sound w ns) (k : ℕ) (known : k < leng
           subst (λ j. (walk less j cs < length less) × (skip k (walk less j cs) ≡ walk ns (childAt ns (skip k d) c) cs)) (sym (child-stays d i c b (sym q))) (u, v ∙ ap (λ j. walk ns j cs) q)
 
   -- the path of node k leads nowhere
-  pub removed-absent : (d : ℕ) (c : List ℕ) (cs : Path) → d < length less → Passed (walkChecks ns (skip k d) (c ∷ cs)) → walk ns (skip k d) (c ∷ cs) ≡ k → length less ≤ walk less d (c ∷ cs)
+  pub removed-absent : (d : ℕ) (c : List ℕ) (cs : Path) → d < length less → Passed (walkChecks ns (skip k d) (c ∷ cs)) → walk ns (skip k d) (c ∷ cs) ≡ k
+      → length less ≤ walk less d (c ∷ cs)
   unfolding walk walkChecks nodeAt
   removed-absent d c [] h (both dir (both bit (both found a))) e =
       let (p, q) = child-found ns (skip k d) c (leb-false _ _ found) in
@@ -116,14 +118,16 @@ module _ (w : ℕ) (ns : List Node) (s : Sound w ns) (k : ℕ) (known : k < leng
       subst (λ (x : Node). length less ≤ place (isChild (x .id) c) less) (sym (there d))
       (place-none (isChild (nodeAt ns (skip k d) .id) c) noNode less (λ i m. no-other i m p q (is (isChild (nodeAt ns (skip k d) .id) c (getD less i noNode)))))
     where
-      no-other : (i : ℕ) → i < length less → nodeAt ns (childAt ns (skip k d) c) .parent ≡ nodeAt ns (skip k d) .id → nodeAt ns (childAt ns (skip k d) c) .name ≡ c
+      no-other : (i : ℕ) → i < length less → nodeAt ns (childAt ns (skip k d) c) .parent ≡ nodeAt ns (skip k d) .id
+          → nodeAt ns (childAt ns (skip k d) c) .name ≡ c
           → Is (isChild (nodeAt ns (skip k d) .id) c (getD less i noNode)) → isChild (nodeAt ns (skip k d) .id) c (getD less i noNode) ≡ false
       no-other i m p q (isF t) = t
       no-other i m p q (isT t) =
           let u = subst (λ (x : Node). isChild (nodeAt ns (skip k d) .id) c x ≡ true) (getD-without k ns i noNode known) t in
           absurd (skip-other k i (clash i m p q (eqb-true _ _ (and-fst _ _ u)) (equal-true _ _ (and-snd (eqb (getD ns (skip k i) noNode .parent) (nodeAt ns (skip k d) .id)) _ u))))
         where
-          clash : (i : ℕ) → i < length less → nodeAt ns (childAt ns (skip k d) c) .parent ≡ nodeAt ns (skip k d) .id → nodeAt ns (childAt ns (skip k d) c) .name ≡ c
+          clash : (i : ℕ) → i < length less → nodeAt ns (childAt ns (skip k d) c) .parent ≡ nodeAt ns (skip k d) .id
+              → nodeAt ns (childAt ns (skip k d) c) .name ≡ c
               → getD ns (skip k i) noNode .parent ≡ nodeAt ns (skip k d) .id → getD ns (skip k i) noNode .name ≡ c → skip k i ≡ k
           clash i m p q x y = s .siblings (skip k i) (childAt ns (skip k d) c) (within i m) (omega (arith, e, known)) (x ∙ sym p) (y ∙ sym q) ∙ e
   removed-absent d c (x ∷ cs) h (both dir (both bit (both found a))) e = go (is (eqb (childAt ns (skip k d) c) k)) (λ i. removed-absent i x cs)

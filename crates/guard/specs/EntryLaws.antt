@@ -35,7 +35,8 @@ unfolding delivered
 width-delivered = refl
 
 -- a result that the memory and both buffers have is what is promised
-leaves-buffers : (y : Answer) (a a′ q q′ : List ℕ) → a′ ≡ atFront (answerBytes y) a → q′ ≡ atFront (requestBytes y) q → buffers a′ q′ ≡ buffersAfter y (buffers a q)
+leaves-buffers : (y : Answer) (a a′ q q′ : List ℕ) → a′ ≡ atFront (answerBytes y) a → q′ ≡ atFront (requestBytes y) q
+    → buffers a′ q′ ≡ buffersAfter y (buffers a q)
 unfolding answerBytes requestBytes buffersAfter
 leaves-buffers (done n b) a a′ q q′ e f = λ i. buffers (e i) ((f ∙ overwrite-none 0 q 0) i)
 leaves-buffers (ask b) a a′ q q′ e f = λ i. buffers ((e ∙ overwrite-none 0 a 0) i) (f i)
@@ -96,7 +97,8 @@ module _ (m a q : List ℕ) {e : Event} {busy quiet : ℕ} {v : Move} (x : Enter
 
   module _ (z : r ≡ 0) where
     -- what the move comes to
-    pub taken-as : {y : Result (digestStore delivered)} → apply delivered (digestStore delivered) (held m) v ≡ y → (o : Outcome) (m′ a′ q′ : List ℕ) → length m′ ≡ length m
+    pub taken-as : {y : Result (digestStore delivered)} → apply delivered (digestStore delivered) (held m) v ≡ y → (o : Outcome) (m′ a′ q′ : List ℕ)
+        → length m′ ≡ length m
         → (Consistent delivered (held m) → Leaves delivered y o m′ a a′ q q′) → Promise m e o m′ (buffers a q) (buffers a′ q′)
     taken-as w o m′ a′ q′ n f =
         let l = t .goes z in

@@ -71,7 +71,9 @@ pub fn on_call(
     answer: &mut [u8],
     request: &mut [u8],
 ) -> outcomes::Outcome
-    ensures { λ r. ⌜ Promise (now (memory .entry)) (call (now (bytes .entry)) (length (now (answer .entry))) (length (now (request .entry)))) r (now (memory .exit)) (buffers (now (answer .entry)) (now (request .entry))) (buffers (now (answer .exit)) (now (request .exit))) ⌝ }
+    ensures { λ r. ⌜ Promise (now (memory .entry)) (call (now (bytes .entry)) (length (now (answer .entry)))
+        (length (now (request .entry)))) r (now (memory .exit)) (buffers (now (answer .entry)) (now (request .entry)))
+        (buffers (now (answer .exit)) (now (request .exit))) ⌝ }
 {
     let b = first_number(memory, 114, 0);
     if b != 0 {
@@ -90,7 +92,9 @@ pub fn on_reply(
     answer: &mut [u8],
     request: &mut [u8],
 ) -> outcomes::Outcome
-    ensures { λ r. ⌜ Promise (now (memory .entry)) (reply (now (bytes .entry)) (length (now (answer .entry))) (length (now (request .entry)))) r (now (memory .exit)) (buffers (now (answer .entry)) (now (request .entry))) (buffers (now (answer .exit)) (now (request .exit))) ⌝ }
+    ensures { λ r. ⌜ Promise (now (memory .entry)) (reply (now (bytes .entry)) (length (now (answer .entry)))
+        (length (now (request .entry)))) r (now (memory .exit)) (buffers (now (answer .entry)) (now (request .entry)))
+        (buffers (now (answer .exit)) (now (request .exit))) ⌝ }
 {
     let b = first_number(memory, 0, 61);
     if b != 0 {
@@ -106,7 +110,8 @@ pub fn on_reply(
 // where it is lent as one.
 fn save_into(memory: &mut [u8], image: &mut [u8], digest: &mut [u8]) -> outcomes::Outcome
     requires { ⌜ length (now digest) ≡ DIGEST-BYTES ⌝ }
-    ensures { λ r. ⌜ SavePromise (now (memory .entry)) r (now (memory .exit)) (now (image .entry)) (now (image .exit)) (now (digest .entry)) (now (digest .exit)) ⌝ }
+    ensures { λ r. ⌜ SavePromise (now (memory .entry)) r (now (memory .exit)) (now (image .entry)) (now (image .exit))
+        (now (digest .entry)) (now (digest .exit)) ⌝ }
 {
     let b = first_number(memory, 114, 0);
     if b != 0 {
@@ -116,7 +121,8 @@ fn save_into(memory: &mut [u8], image: &mut [u8], digest: &mut [u8]) -> outcomes
 }
 
 pub fn on_save(memory: &mut [u8], image: &mut [u8], digest: &mut [u8; 32]) -> outcomes::Outcome
-    ensures { λ r. ⌜ SavePromise (now (memory .entry)) r (now (memory .exit)) (now (image .entry)) (now (image .exit)) (now (digest .entry)) (now (digest .exit)) ⌝ }
+    ensures { λ r. ⌜ SavePromise (now (memory .entry)) r (now (memory .exit)) (now (image .entry)) (now (image .exit))
+        (now (digest .entry)) (now (digest .exit)) ⌝ }
 {
     save_into(memory, image, digest)
 }
@@ -219,7 +225,9 @@ pub extern "C" fn guard_entry_call(
     answer: &mut [u8],
     request: &mut [u8],
 ) -> GuardOutcome
-    ensures { λ r. ⌜ Shown (λ o. Promise (now (memory .entry)) (call (now (bytes .entry)) (length (now (answer .entry))) (length (now (request .entry)))) o (now (memory .exit)) (buffers (now (answer .entry)) (now (request .entry))) (buffers (now (answer .exit)) (now (request .exit)))) r ⌝ }
+    ensures { λ r. ⌜ Shown (λ o. Promise (now (memory .entry))
+        (call (now (bytes .entry)) (length (now (answer .entry))) (length (now (request .entry)))) o (now (memory .exit))
+        (buffers (now (answer .entry)) (now (request .entry))) (buffers (now (answer .exit)) (now (request .exit)))) r ⌝ }
 {
     let o = on_call(memory, bytes, answer, request);
     shown(o)
@@ -232,7 +240,9 @@ pub extern "C" fn guard_entry_reply(
     answer: &mut [u8],
     request: &mut [u8],
 ) -> GuardOutcome
-    ensures { λ r. ⌜ Shown (λ o. Promise (now (memory .entry)) (reply (now (bytes .entry)) (length (now (answer .entry))) (length (now (request .entry)))) o (now (memory .exit)) (buffers (now (answer .entry)) (now (request .entry))) (buffers (now (answer .exit)) (now (request .exit)))) r ⌝ }
+    ensures { λ r. ⌜ Shown (λ o. Promise (now (memory .entry))
+        (reply (now (bytes .entry)) (length (now (answer .entry))) (length (now (request .entry)))) o (now (memory .exit))
+        (buffers (now (answer .entry)) (now (request .entry))) (buffers (now (answer .exit)) (now (request .exit)))) r ⌝ }
 {
     let o = on_reply(memory, bytes, answer, request);
     shown(o)
@@ -244,7 +254,8 @@ pub extern "C" fn guard_entry_save(
     image: &mut [u8],
     digest: &mut [u8; 32],
 ) -> GuardOutcome
-    ensures { λ r. ⌜ Shown (λ o. SavePromise (now (memory .entry)) o (now (memory .exit)) (now (image .entry)) (now (image .exit)) (now (digest .entry)) (now (digest .exit))) r ⌝ }
+    ensures { λ r. ⌜ Shown (λ o. SavePromise (now (memory .entry)) o (now (memory .exit)) (now (image .entry)) (now (image .exit))
+        (now (digest .entry)) (now (digest .exit))) r ⌝ }
 {
     let o = on_save(memory, image, digest);
     shown(o)

@@ -26,7 +26,8 @@ use Rattle.guard_state.specs.WaitLaws.{kept, head-cells, waits-as}
 
 -- as it begins
 module _ (h : List ℕ) (k o : ℕ) (f : k < NODES) (g : o < openRows) where
-  pub write-numbers : (p n : ℕ) → p ≤ FILE-BYTES → n ≤ DATA-BYTES → numbersOf (set (set (set (set (set (clearedHead h) 3 9) 4 k) 5 o) 10 p) 14 n) ≡ writeNumbers (numbersOf h) k o p n
+  pub write-numbers : (p n : ℕ) → p ≤ FILE-BYTES → n ≤ DATA-BYTES
+      → numbersOf (set (set (set (set (set (clearedHead h) 3 9) 4 k) 5 o) 10 p) 14 n) ≡ writeNumbers (numbersOf h) k o p n
   unfolding numbersOf clearedHead writeNumbers
   write-numbers p n a b = λ i. record {
     nodes = getD h 0 0 % (NODES + 1);
@@ -135,7 +136,8 @@ onwardNumbers call page g = let x = goesOn call page g in record {
   digests = x .digests;
 }
 
-numbers-onward : (h : List ℕ) (call page : ℕ) → length h ≡ headNumbers → page ≤ filePages → numbersOf (onwardHead call page h) ≡ onwardNumbers call page (numbersOf h)
+numbers-onward : (h : List ℕ) (call page : ℕ) → length h ≡ headNumbers → page ≤ filePages
+    → numbersOf (onwardHead call page h) ≡ onwardNumbers call page (numbersOf h)
 unfolding numbersOf goesOn tab
 numbers-onward h call page e f =
     ap (λ (x : List ℕ). numbersOf (onwardHead call page x)) (head-cells 16 h (omega arith))
@@ -151,7 +153,8 @@ module _ (h : List ℕ) (call page : ℕ) where
   stop-onward f =
       getD-set-other (set (set h 2 0) 3 call) 13 2 page 0 (omega arith) ∙ getD-set-other (set h 2 0) 3 2 call 0 (omega arith) ∙ getD-set-same h 2 0 0 f
 
-pub goes-on : (c : Config) (m x : List ℕ) (call page : ℕ) → 9 ≤ numbersOf (memOf m .head) .call → numbersOf (memOf m .head) .call ≤ 13 → 9 ≤ call → call ≤ 13 → page ≤ filePages
+pub goes-on : (c : Config) (m x : List ℕ) (call page : ℕ) → 9 ≤ numbersOf (memOf m .head) .call → numbersOf (memOf m .head) .call ≤ 13 → 9 ≤ call → call ≤ 13
+    → page ≤ filePages
     → memOf x ≡ withHead (onwardHead call page (memOf m .head)) (memOf m)
     → stateOf c x ≡ waits c (stateOf c m) (pendingIn (goesOn call page (numbersOf (memOf m .head))) (memOf m .staged)) (stateOf c m .progress)
 unfolding stateOf stateIn viewOf pendingIn pendings stagedBytes goesOn
@@ -166,7 +169,8 @@ goes-on c m x call page a b f g p e =
     (pendingIn (goesOn call page (numbersOf h)) s) (gatheredIn (numbersOf h) s) (stop-onward h call page (omega (arith, length-head m))) (ap (λ (q : Guard). pendingIn q s) n) is
 
 -- the header's count of new digests, and the staging area, say nothing of the tables
-waits-over : (c : Config) (m x y s : List ℕ) (p : Pending) (a : Gathered) → memOf x ≡ withHead y (withStaged s (memOf m)) → getD y 0 0 ≡ getD (memOf m .head) 0 0 → getD y 1 0 ≡ getD (memOf m .head) 1 0
+waits-over : (c : Config) (m x y s : List ℕ) (p : Pending) (a : Gathered) → memOf x ≡ withHead y (withStaged s (memOf m))
+    → getD y 0 0 ≡ getD (memOf m .head) 0 0 → getD y 1 0 ≡ getD (memOf m .head) 1 0
     → waits c (stateOf c x) p a ≡ waits c (stateOf c m) p a
 unfolding stateOf stateIn viewOf waits numbersOf
 waits-over c m x y s p a e n o =
@@ -212,7 +216,8 @@ module _ (m x d : List ℕ) (k : ℕ) (at : k ≡ numbersOf (memOf m .head) .dig
   pub call-sent : numbersOf (memOf x .head) .call ≡ numbersOf (memOf m .head) .call
   call-sent = ap (λ (g : Guard). g .call) numbers-sent
 
-  pending-sent : (call page : ℕ) → pendingIn (goesOn call page (numbersOf (memOf x .head))) (memOf x .staged) ≡ pendingIn (goesOn call page (numbersOf (memOf m .head))) (memOf m .staged)
+  pending-sent : (call page : ℕ)
+      → pendingIn (goesOn call page (numbersOf (memOf x .head))) (memOf x .staged) ≡ pendingIn (goesOn call page (numbersOf (memOf m .head))) (memOf m .staged)
   unfolding numbersOf goesOn pendingIn pendings stagedBytes
   pending-sent call page =
       let g = goesOn call page (numbersOf (memOf m .head)) in

@@ -48,11 +48,13 @@ module _ (c : Config) (m : List ℕ) where
   unfolding pendings
   read-pending e = pending-at c m 8 e
 
-  pub fetch-pending : g .call ≡ 9 → stateOf c m .skeleton .pending ≡ fetching (g .node) (g .opened) (writing (g .position) (take (g .bytes) (memOf m .staged))) (g .page)
+  pub fetch-pending : g .call ≡ 9
+      → stateOf c m .skeleton .pending ≡ fetching (g .node) (g .opened) (writing (g .position) (take (g .bytes) (memOf m .staged))) (g .page)
   unfolding pendings stagedBytes
   fetch-pending e = pending-at c m 9 e
 
-  pub store-pending : g .call ≡ 10 → stateOf c m .skeleton .pending ≡ storing (g .node) (g .opened) (writing (g .position) (take (g .bytes) (memOf m .staged))) (g .page)
+  pub store-pending : g .call ≡ 10
+      → stateOf c m .skeleton .pending ≡ storing (g .node) (g .opened) (writing (g .position) (take (g .bytes) (memOf m .staged))) (g .page)
   unfolding pendings stagedBytes
   store-pending e = pending-at c m 10 e
 

@@ -26,11 +26,13 @@ module _ (s : List ℕ) (full : length s ≡ stagingSize) (x : List ℕ) where
   digests-kept n k h g = ap (rows digestWidth k) (part-after s n x dataSize (k * digestWidth) h (omega arith))
 
   -- a digest behind the first k
-  pub bytes-kept : (g : Guard) (k : ℕ) → g .bytes ≤ dataSize → length x ≡ digestWidth → k < newDigests → stagedBytes g (overwrite s (dataSize + k * digestWidth) x) ≡ stagedBytes g s
+  pub bytes-kept : (g : Guard) (k : ℕ) → g .bytes ≤ dataSize → length x ≡ digestWidth → k < newDigests
+      → stagedBytes g (overwrite s (dataSize + k * digestWidth) x) ≡ stagedBytes g s
   unfolding stagedBytes
   bytes-kept g k h e f = front-kept s (dataSize + k * digestWidth) x (g .bytes) (omega arith) (omega arith)
 
-  pub digests-more : (k : ℕ) → length x ≡ digestWidth → k < newDigests → stagedDigests (k + 1) (overwrite s (dataSize + k * digestWidth) x) ≡ stagedDigests k s ++ (x ∷ [])
+  pub digests-more : (k : ℕ) → length x ≡ digestWidth → k < newDigests
+      → stagedDigests (k + 1) (overwrite s (dataSize + k * digestWidth) x) ≡ stagedDigests k s ++ (x ∷ [])
   unfolding stagedDigests part
   digests-more k e f =
       let b = part dataSize ((k + 1) * digestWidth) s in

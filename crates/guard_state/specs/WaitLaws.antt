@@ -42,7 +42,8 @@ head-cleared h e = ap zeros (head-cells 16 h (omega arith))
 
 -- numbers that are read as a pending call, over the tables as they are; s is staged
 module _ (c : Config) (m x y s : List ℕ) (e : memOf x ≡ withHead y (withStaged s (memOf m))) (n : getD y 0 0 ≡ getD (memOf m .head) 0 0) (o : getD y 1 0 ≡ getD (memOf m .head) 1 0) where
-  pub staged-waits : (p : Pending) (a : Gathered) → getD y 2 0 ≡ 0 → pendingIn (numbersOf y) s ≡ p → gatheredIn (numbersOf y) s ≡ a → stateOf c x ≡ waits c (stateOf c m) p a
+  pub staged-waits : (p : Pending) (a : Gathered) → getD y 2 0 ≡ 0 → pendingIn (numbersOf y) s ≡ p → gatheredIn (numbersOf y) s ≡ a
+      → stateOf c x ≡ waits c (stateOf c m) p a
   unfolding stateIn stateOf viewOf waits numbersOf
   staged-waits p a z f g =
       ap (λ (t : Mem). let q = numbersOf (t .head) in stateIn c q (viewOf (q .nodes) (q .opens) t)) e
@@ -53,13 +54,15 @@ pub waits-as : (c : Config) (m x y : List ℕ) → memOf x ≡ withHead y (memOf
 waits-as c m x y = staged-waits c m x y (memOf m .staged)
 
 -- what is pending, by the call's number
-pub pending-at : (c : Config) (m : List ℕ) (k : ℕ) → numbersOf (memOf m .head) .call ≡ k → stateOf c m .skeleton .pending ≡ getD (pendings (numbersOf (memOf m .head)) (memOf m .staged)) k idle
+pub pending-at : (c : Config) (m : List ℕ) (k : ℕ) → numbersOf (memOf m .head) .call ≡ k
+    → stateOf c m .skeleton .pending ≡ getD (pendings (numbersOf (memOf m .head)) (memOf m .staged)) k idle
 unfolding stateOf stateIn viewOf pendingIn
 pending-at c m k e = ap (λ (i : ℕ). getD (pendings (numbersOf (memOf m .head)) (memOf m .staged)) i idle) e
 
 -- nothing is pending; a stop
 module _ (c : Config) (m x : List ℕ) where
-  pub ends-as : memOf x ≡ withHead (clearedHead (memOf m .head)) (memOf m) → stateOf c x ≡ ends c (stateOf c m) (stateOf c m .skeleton .tables) (stateOf c m .contents)
+  pub ends-as : memOf x ≡ withHead (clearedHead (memOf m .head)) (memOf m)
+      → stateOf c x ≡ ends c (stateOf c m) (stateOf c m .skeleton .tables) (stateOf c m .contents)
   unfolding stateOf stateIn viewOf numbersOf clearedHead pendings pendingIn gatheredIn ends
   ends-as e = ap (λ (s : Mem). let g = numbersOf (s .head) in stateIn c g (viewOf (g .nodes) (g .opens) s)) e
 
@@ -67,7 +70,8 @@ module _ (c : Config) (m x : List ℕ) where
   unfolding stateOf stateIn viewOf numbersOf clearedHead pendings pendingIn gatheredIn stops
   stops-as e = ap (λ (s : Mem). let g = numbersOf (s .head) in stateIn c g (viewOf (g .nodes) (g .opens) s)) e
 
-  pub rests-as : (n o : ℕ) → n ≤ NODES → o ≤ openRows → memOf x ≡ withHead (set (set (clearedHead (memOf m .head)) 0 n) 1 o) (memOf m) → stateOf c x ≡ restingState c (viewOf n o (memOf m))
+  pub rests-as : (n o : ℕ) → n ≤ NODES → o ≤ openRows → memOf x ≡ withHead (set (set (clearedHead (memOf m .head)) 0 n) 1 o) (memOf m)
+      → stateOf c x ≡ restingState c (viewOf n o (memOf m))
   unfolding stateOf stateIn viewOf numbersOf clearedHead pendings pendingIn gatheredIn restingState
   rests-as n o f g e =
       ap (λ (s : Mem). let q = numbersOf (s .head) in stateIn c q (viewOf (q .nodes) (q .opens) s)) e

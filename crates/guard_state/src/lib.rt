@@ -135,7 +135,8 @@ fn clear(m: &mut [u8])
 
 fn clear_call(m: &mut [u8])
     requires { ⌜ memorySize ≤ length (now m) ⌝ }
-    ensures { λ _. ⌜ memOf (now (m .exit)) ≡ withHead (set (set (set (set (set (set (set (memOf (now (m .entry)) .head) 2 0) 3 0) 4 0) 5 0) 6 0) 7 0) 8 0) (memOf (now (m .entry))) ⌝ }
+    ensures { λ _. ⌜ memOf (now (m .exit)) ≡ withHead (set (set
+        (set (set (set (set (set (memOf (now (m .entry)) .head) 2 0) 3 0) 4 0) 5 0) 6 0) 7 0) 8 0) (memOf (now (m .entry))) ⌝ }
     ensures { λ _. ⌜ length (now (m .exit)) ≡ length (now (m .entry)) ⌝ }
 {
     memory::put_head(m, header::STOPPED, 0);
@@ -149,7 +150,8 @@ fn clear_call(m: &mut [u8])
 
 fn clear_span(m: &mut [u8])
     requires { ⌜ memorySize ≤ length (now m) ⌝ }
-    ensures { λ _. ⌜ memOf (now (m .exit)) ≡ withHead (set (set (set (set (set (set (set (memOf (now (m .entry)) .head) 9 0) 10 0) 11 0) 12 0) 13 0) 14 0) 15 0) (memOf (now (m .entry))) ⌝ }
+    ensures { λ _. ⌜ memOf (now (m .exit)) ≡ withHead (set (set
+        (set (set (set (set (set (memOf (now (m .entry)) .head) 9 0) 10 0) 11 0) 12 0) 13 0) 14 0) 15 0) (memOf (now (m .entry))) ⌝ }
     ensures { λ _. ⌜ length (now (m .exit)) ≡ length (now (m .entry)) ⌝ }
 {
     memory::put_head(m, header::RIGHTS, 0);
@@ -166,7 +168,9 @@ fn clear_span(m: &mut [u8])
 // A create or a mkdir: the parent's id, the kind, the mode, and the name, which is staged.
 pub fn wait_create(m: &mut [u8], parent: u64, kind: u8, mode: u8, name: &[u8])
     requires { ⌜ (length (now name) ≤ NAME-BYTES) × (memorySize ≤ length (now m)) ⌝ }
-    ensures { λ _. ⌜ ((c : Config) → stateOf c (now (m .exit)) ≡ waits c (stateOf c (now (m .entry))) (asked (creating parent kind mode (now (name .entry)))) gatheredNone) ⌝ }
+    ensures { λ _. ⌜ ((c : Config)
+        → stateOf c (now (m .exit)) ≡ waits c (stateOf c (now (m .entry)))
+        (asked (creating parent kind mode (now (name .entry)))) gatheredNone) ⌝ }
     ensures { λ _. ⌜ length (now (m .exit)) ≡ length (now (m .entry)) ⌝ }
 {
     let n = name.len();
@@ -181,7 +185,8 @@ pub fn wait_create(m: &mut [u8], parent: u64, kind: u8, mode: u8, name: &[u8])
 
 pub fn wait_open(m: &mut [u8], node: usize, rights: u8)
     requires { ⌜ (node < NODES) × (memorySize ≤ length (now m)) ⌝ }
-    ensures { λ _. ⌜ ((c : Config) → stateOf c (now (m .exit)) ≡ waits c (stateOf c (now (m .entry))) (asked (opening node rights)) gatheredNone) ⌝ }
+    ensures { λ _. ⌜ ((c : Config)
+        → stateOf c (now (m .exit)) ≡ waits c (stateOf c (now (m .entry))) (asked (opening node rights)) gatheredNone) ⌝ }
     ensures { λ _. ⌜ length (now (m .exit)) ≡ length (now (m .entry)) ⌝ }
 {
     clear(m);
@@ -192,7 +197,8 @@ pub fn wait_open(m: &mut [u8], node: usize, rights: u8)
 
 pub fn wait_close(m: &mut [u8], opened: usize)
     requires { ⌜ (opened < openRows) × (memorySize ≤ length (now m)) ⌝ }
-    ensures { λ _. ⌜ ((c : Config) → stateOf c (now (m .exit)) ≡ waits c (stateOf c (now (m .entry))) (asked (closing opened)) gatheredNone) ⌝ }
+    ensures { λ _. ⌜ ((c : Config)
+        → stateOf c (now (m .exit)) ≡ waits c (stateOf c (now (m .entry))) (asked (closing opened)) gatheredNone) ⌝ }
     ensures { λ _. ⌜ length (now (m .exit)) ≡ length (now (m .entry)) ⌝ }
 {
     clear(m);
@@ -202,7 +208,8 @@ pub fn wait_close(m: &mut [u8], opened: usize)
 
 pub fn wait_remove(m: &mut [u8], node: usize)
     requires { ⌜ (node < NODES) × (memorySize ≤ length (now m)) ⌝ }
-    ensures { λ _. ⌜ ((c : Config) → stateOf c (now (m .exit)) ≡ waits c (stateOf c (now (m .entry))) (asked (removing node)) gatheredNone) ⌝ }
+    ensures { λ _. ⌜ ((c : Config)
+        → stateOf c (now (m .exit)) ≡ waits c (stateOf c (now (m .entry))) (asked (removing node)) gatheredNone) ⌝ }
     ensures { λ _. ⌜ length (now (m .exit)) ≡ length (now (m .entry)) ⌝ }
 {
     clear(m);
@@ -212,7 +219,8 @@ pub fn wait_remove(m: &mut [u8], node: usize)
 
 pub fn wait_chmod(m: &mut [u8], node: usize, mode: u8)
     requires { ⌜ (node < NODES) × (memorySize ≤ length (now m)) ⌝ }
-    ensures { λ _. ⌜ ((c : Config) → stateOf c (now (m .exit)) ≡ waits c (stateOf c (now (m .entry))) (asked (changing node mode)) gatheredNone) ⌝ }
+    ensures { λ _. ⌜ ((c : Config)
+        → stateOf c (now (m .exit)) ≡ waits c (stateOf c (now (m .entry))) (asked (changing node mode)) gatheredNone) ⌝ }
     ensures { λ _. ⌜ length (now (m .exit)) ≡ length (now (m .entry)) ⌝ }
 {
     clear(m);
@@ -223,7 +231,8 @@ pub fn wait_chmod(m: &mut [u8], node: usize, mode: u8)
 
 pub fn wait_listing(m: &mut [u8], node: usize)
     requires { ⌜ (node < NODES) × (memorySize ≤ length (now m)) ⌝ }
-    ensures { λ _. ⌜ ((c : Config) → stateOf c (now (m .exit)) ≡ waits c (stateOf c (now (m .entry))) (asked (listing node)) gatheredNone) ⌝ }
+    ensures { λ _. ⌜ ((c : Config)
+        → stateOf c (now (m .exit)) ≡ waits c (stateOf c (now (m .entry))) (asked (listing node)) gatheredNone) ⌝ }
     ensures { λ _. ⌜ length (now (m .exit)) ≡ length (now (m .entry)) ⌝ }
 {
     clear(m);
@@ -233,7 +242,8 @@ pub fn wait_listing(m: &mut [u8], node: usize)
 
 pub fn wait_stat(m: &mut [u8], node: usize)
     requires { ⌜ (node < NODES) × (memorySize ≤ length (now m)) ⌝ }
-    ensures { λ _. ⌜ ((c : Config) → stateOf c (now (m .exit)) ≡ waits c (stateOf c (now (m .entry))) (asked (stating node)) gatheredNone) ⌝ }
+    ensures { λ _. ⌜ ((c : Config)
+        → stateOf c (now (m .exit)) ≡ waits c (stateOf c (now (m .entry))) (asked (stating node)) gatheredNone) ⌝ }
     ensures { λ _. ⌜ length (now (m .exit)) ≡ length (now (m .entry)) ⌝ }
 {
     clear(m);
@@ -244,7 +254,9 @@ pub fn wait_stat(m: &mut [u8], node: usize)
 // The numbers of a read that waits for a page.
 fn put_read(m: &mut [u8], node: usize, opened: usize, position: usize, count: usize, page: usize)
     requires { ⌜ memorySize ≤ length (now m) ⌝ }
-    ensures { λ _. ⌜ memOf (now (m .exit)) ≡ withHead (set (set (set (set (set (set (clearedHead (memOf (now (m .entry)) .head)) 3 8) 4 node) 5 opened) 10 position) 11 count) 13 page) (memOf (now (m .entry))) ⌝ }
+    ensures { λ _. ⌜ memOf (now (m .exit)) ≡ withHead (set (set
+        (set (set (set (set (clearedHead (memOf (now (m .entry)) .head)) 3 8) 4 node) 5 opened) 10 position) 11 count) 13 page)
+        (memOf (now (m .entry))) ⌝ }
     ensures { λ _. ⌜ length (now (m .exit)) ≡ length (now (m .entry)) ⌝ }
 {
     clear(m);
@@ -265,8 +277,10 @@ pub fn wait_read(
     count: usize,
     page: usize,
 )
-    requires { ⌜ (node < NODES) × (opened < openRows) × (position ≤ FILE-BYTES) × (count ≤ DATA-BYTES) × (page ≤ filePages) × (memorySize ≤ length (now m)) ⌝ }
-    ensures { λ _. ⌜ ((c : Config) → stateOf c (now (m .exit)) ≡ waits c (stateOf c (now (m .entry))) (reading node opened position count page) gatheredNone) ⌝ }
+    requires { ⌜ (node < NODES) × (opened < openRows) × (position ≤ FILE-BYTES) × (count ≤ DATA-BYTES) × (page ≤ filePages)
+        × (memorySize ≤ length (now m)) ⌝ }
+    ensures { λ _. ⌜ ((c : Config)
+        → stateOf c (now (m .exit)) ≡ waits c (stateOf c (now (m .entry))) (reading node opened position count page) gatheredNone) ⌝ }
     ensures { λ _. ⌜ length (now (m .exit)) ≡ length (now (m .entry)) ⌝ }
 {
     put_read(m, node, opened, position, count, page);
@@ -283,8 +297,11 @@ pub fn wait_page(
     bytes: usize,
     more: &[u8],
 )
-    requires { ⌜ (node < NODES) × (opened < openRows) × (position ≤ FILE-BYTES) × (count ≤ DATA-BYTES) × (page ≤ filePages) × (bytes + length (now more) ≤ DATA-BYTES) × (memorySize ≤ length (now m)) ⌝ }
-    ensures { λ _. ⌜ ((c : Config) → stateOf c (now (m .exit)) ≡ waits c (stateOf c (now (m .entry))) (reading node opened position count page) (gatheredRead (take bytes (memOf (now (m .entry)) .staged) ++ now (more .entry)))) ⌝ }
+    requires { ⌜ (node < NODES) × (opened < openRows) × (position ≤ FILE-BYTES) × (count ≤ DATA-BYTES) × (page ≤ filePages)
+        × (bytes + length (now more) ≤ DATA-BYTES) × (memorySize ≤ length (now m)) ⌝ }
+    ensures { λ _. ⌜ ((c : Config)
+        → stateOf c (now (m .exit)) ≡ waits c (stateOf c (now (m .entry))) (reading node opened position count page)
+        (gatheredRead (take bytes (memOf (now (m .entry)) .staged) ++ now (more .entry)))) ⌝ }
     ensures { λ _. ⌜ length (now (m .exit)) ≡ length (now (m .entry)) ⌝ }
 {
     let l = bytes + more.len();
@@ -297,9 +314,13 @@ pub fn wait_page(
 
 // A write waits: its bytes are staged, and no page of it is asked yet.
 pub fn wait_write(m: &mut [u8], node: usize, opened: usize, position: usize, bytes: &[u8])
-    requires { ⌜ (node < NODES) × (opened < openRows) × (position ≤ FILE-BYTES) × (length (now bytes) ≤ DATA-BYTES) × (memorySize ≤ length (now m)) ⌝ }
-    ensures { λ _. ⌜ ((c : Config) → stateOf c (now (m .exit)) ≡ waits c (stateOf c (now (m .entry))) (fetching node opened (writing position (now (bytes .entry))) 0) gatheredNone) ⌝ }
-    ensures { λ _. ⌜ numbersOf (memOf (now (m .exit)) .head) ≡ writeNumbers (numbersOf (memOf (now (m .entry)) .head)) node opened position (length (now (bytes .entry))) ⌝ }
+    requires { ⌜ (node < NODES) × (opened < openRows) × (position ≤ FILE-BYTES) × (length (now bytes) ≤ DATA-BYTES)
+        × (memorySize ≤ length (now m)) ⌝ }
+    ensures { λ _. ⌜ ((c : Config)
+        → stateOf c (now (m .exit)) ≡ waits c (stateOf c (now (m .entry)))
+        (fetching node opened (writing position (now (bytes .entry))) 0) gatheredNone) ⌝ }
+    ensures { λ _. ⌜ numbersOf (memOf (now (m .exit)) .head) ≡ writeNumbers
+        (numbersOf (memOf (now (m .entry)) .head)) node opened position (length (now (bytes .entry))) ⌝ }
     ensures { λ _. ⌜ length (now (m .exit)) ≡ length (now (m .entry)) ⌝ }
 {
     let n = bytes.len();
@@ -315,7 +336,8 @@ pub fn wait_write(m: &mut [u8], node: usize, opened: usize, position: usize, byt
 // A truncation to a smaller size waits: nothing is asked yet.
 pub fn wait_shrink(m: &mut [u8], node: usize, opened: usize, size: usize)
     requires { ⌜ (node < NODES) × (opened < openRows) × (size ≤ FILE-BYTES) × (memorySize ≤ length (now m)) ⌝ }
-    ensures { λ _. ⌜ ((c : Config) → stateOf c (now (m .exit)) ≡ waits c (stateOf c (now (m .entry))) (fetching node opened (shrinking size) 0) gatheredNone) ⌝ }
+    ensures { λ _. ⌜ ((c : Config)
+        → stateOf c (now (m .exit)) ≡ waits c (stateOf c (now (m .entry))) (fetching node opened (shrinking size) 0) gatheredNone) ⌝ }
     ensures { λ _. ⌜ numbersOf (memOf (now (m .exit)) .head) ≡ shrinkNumbers (numbersOf (memOf (now (m .entry)) .head)) node opened size ⌝ }
     ensures { λ _. ⌜ length (now (m .exit)) ≡ length (now (m .entry)) ⌝ }
 {
@@ -328,8 +350,12 @@ pub fn wait_shrink(m: &mut [u8], node: usize, opened: usize, size: usize)
 
 // A change goes on: what it waits for now (calls.rt), and the page that is asked.
 pub fn wait_further(m: &mut [u8], call: u64, page: usize)
-    requires { ⌜ (9 ≤ numbersOf (memOf (now m) .head) .call) × (numbersOf (memOf (now m) .head) .call ≤ 13) × (9 ≤ call) × (call ≤ 13) × (page ≤ filePages) × (memorySize ≤ length (now m)) ⌝ }
-    ensures { λ _. ⌜ ((c : Config) → stateOf c (now (m .exit)) ≡ waits c (stateOf c (now (m .entry))) (pendingIn (goesOn call page (numbersOf (memOf (now (m .entry)) .head))) (memOf (now (m .entry)) .staged)) (stateOf c (now (m .entry)) .progress)) ⌝ }
+    requires { ⌜ (9 ≤ numbersOf (memOf (now m) .head) .call) × (numbersOf (memOf (now m) .head) .call ≤ 13) × (9 ≤ call) × (call ≤ 13)
+        × (page ≤ filePages) × (memorySize ≤ length (now m)) ⌝ }
+    ensures { λ _. ⌜ ((c : Config)
+        → stateOf c (now (m .exit)) ≡ waits c (stateOf c (now (m .entry)))
+        (pendingIn (goesOn call page (numbersOf (memOf (now (m .entry)) .head))) (memOf (now (m .entry)) .staged))
+        (stateOf c (now (m .entry)) .progress)) ⌝ }
     ensures { λ _. ⌜ length (now (m .exit)) ≡ length (now (m .entry)) ⌝ }
 {
     memory::put_head(m, header::STOPPED, 0);
@@ -339,8 +365,12 @@ pub fn wait_further(m: &mut [u8], call: u64, page: usize)
 
 // The same with the digest of the page that goes out, staged behind those before.
 pub fn wait_sent(m: &mut [u8], call: u64, page: usize, digest: [u8; limits::DIGEST_BYTES])
-    requires { ⌜ (9 ≤ numbersOf (memOf (now m) .head) .call) × (numbersOf (memOf (now m) .head) .call ≤ 13) × (9 ≤ call) × (call ≤ 13) × (page ≤ filePages) × (numbersOf (memOf (now m) .head) .digests < newDigests) × (memorySize ≤ length (now m)) ⌝ }
-    ensures { λ _. ⌜ ((c : Config) → stateOf c (now (m .exit)) ≡ waits c (stateOf c (now (m .entry))) (pendingIn (goesOn call page (numbersOf (memOf (now (m .entry)) .head))) (memOf (now (m .entry)) .staged)) (record { bytes = []; digests = stateOf c (now (m .entry)) .progress .digests ++ (digest ∷ []) })) ⌝ }
+    requires { ⌜ (9 ≤ numbersOf (memOf (now m) .head) .call) × (numbersOf (memOf (now m) .head) .call ≤ 13) × (9 ≤ call) × (call ≤ 13)
+        × (page ≤ filePages) × (numbersOf (memOf (now m) .head) .digests < newDigests) × (memorySize ≤ length (now m)) ⌝ }
+    ensures { λ _. ⌜ ((c : Config)
+        → stateOf c (now (m .exit)) ≡ waits c (stateOf c (now (m .entry)))
+        (pendingIn (goesOn call page (numbersOf (memOf (now (m .entry)) .head))) (memOf (now (m .entry)) .staged))
+        (record { bytes = []; digests = stateOf c (now (m .entry)) .progress .digests ++ (digest ∷ []) })) ⌝ }
     ensures { λ _. ⌜ length (now (m .exit)) ≡ length (now (m .entry)) ⌝ }
 {
     let k = number(m, header::DIGESTS, memory::NEW_DIGESTS);
@@ -354,7 +384,9 @@ pub fn wait_sent(m: &mut [u8], call: u64, page: usize, digest: [u8; limits::DIGE
 // The call is done and the tables are as they were.
 pub fn finish(m: &mut [u8])
     requires { ⌜ memorySize ≤ length (now m) ⌝ }
-    ensures { λ _. ⌜ ((c : Config) → stateOf c (now (m .exit)) ≡ ends c (stateOf c (now (m .entry))) (stateOf c (now (m .entry)) .skeleton .tables) (stateOf c (now (m .entry)) .contents)) ⌝ }
+    ensures { λ _. ⌜ ((c : Config)
+        → stateOf c (now (m .exit)) ≡ ends c (stateOf c (now (m .entry))) (stateOf c (now (m .entry)) .skeleton .tables)
+        (stateOf c (now (m .entry)) .contents)) ⌝ }
     ensures { λ _. ⌜ length (now (m .exit)) ≡ length (now (m .entry)) ⌝ }
 {
     clear(m);

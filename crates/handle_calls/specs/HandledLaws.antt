@@ -27,13 +27,16 @@ use Rattle.tables.specs.ChangeLaws.{total-set}
 
 -- A judgement: of a refusal, of an open file in place k, and read at tables that are the memory's.
 module _ {m : List ℕ} {n o h : ℕ} {q : Call} where
-  pub judged-refused : (x : ℕ) → ((w : ℕ) → soundNodes w (take n (memOf m .nodes)) ≡ true → handledFor (tablesIn n o (memOf m)) h q ≡ Refused x) → Judgement m n o h q (Refused x)
+  pub judged-refused : (x : ℕ) → ((w : ℕ) → soundNodes w (take n (memOf m .nodes)) ≡ true → handledFor (tablesIn n o (memOf m)) h q ≡ Refused x)
+      → Judgement m n o h q (Refused x)
   judged-refused x e = record { judged = λ w s. sym (e w s); there = λ i j f. absurd (let z : _≡_ {A = ℕ} 0 1 = cc in omega arith) }
 
-  pub judged-open : (k j : ℕ) → k < o → ((w : ℕ) → soundNodes w (take n (memOf m .nodes)) ≡ true → handledFor (tablesIn n o (memOf m)) h q ≡ Open k j) → Judgement m n o h q (Open k j)
+  pub judged-open : (k j : ℕ) → k < o → ((w : ℕ) → soundNodes w (take n (memOf m .nodes)) ≡ true → handledFor (tablesIn n o (memOf m)) h q ≡ Open k j)
+      → Judgement m n o h q (Open k j)
   judged-open k j l e = record { judged = λ w s. sym (e w s); there = λ i z f. let p : k ≡ i = cc in omega arith }
 
-  pub judged-at : (r : Handled) → Judgement m n o h q r → (t : Tables) → tablesIn n o (memOf m) ≡ t → (w : ℕ) → soundNodes w (t .nodes) ≡ true → r ≡ handledFor t h q
+  pub judged-at : (r : Handled) → Judgement m n o h q r → (t : Tables) → tablesIn n o (memOf m) ≡ t → (w : ℕ) → soundNodes w (t .nodes) ≡ true
+      → r ≡ handledFor t h q
   unfolding tablesIn
   judged-at r g t e w s = g .judged w (subst (λ (x : Tables). soundNodes w (x .nodes) ≡ true) (sym e) s) ∙ ap (λ (x : Tables). handledFor x h q) e
 

@@ -22,7 +22,8 @@ pub enum Handled {
 // The place of the node of the open file in place k, which has this handle.
 fn file_place(m: &[u8], n: usize, k: usize, handle: u64) -> usize
     requires { ⌜ (n ≤ NODES) × (k < openRows) × (memorySize ≤ length (now m)) ⌝ }
-    ensures { λ r. ⌜ ((w : ℕ) → soundNodes w (take n (memOf (now (m .entry)) .nodes)) ≡ true → r ≡ findId (take n (memOf (now (m .entry)) .nodes)) handle) ⌝ }
+    ensures { λ r. ⌜ ((w : ℕ) → soundNodes w (take n (memOf (now (m .entry)) .nodes)) ≡ true
+        → r ≡ findId (take n (memOf (now (m .entry)) .nodes)) handle) ⌝ }
 {
     tables::find_node(m, n, handle, memory::open_hint(m, k) as usize)
 }
@@ -78,7 +79,8 @@ pub fn size_at(m: &[u8], n: usize, k: usize) -> u32
 // 22 past the end, for the open file in place k. A position that passes is at most a size, so it fits a u32.
 fn judge_end(m: &[u8], n: usize, handle: u64, k: usize, position: u64) -> Handled
     requires { ⌜ (n ≤ NODES) × (k < openRows) × (memorySize ≤ length (now m)) ⌝ }
-    ensures { λ r. ⌜ ((w : ℕ) → soundNodes w (take n (memOf (now (m .entry)) .nodes)) ≡ true → r ≡ endChecked (take n (memOf (now (m .entry)) .nodes)) handle k position) ⌝ }
+    ensures { λ r. ⌜ ((w : ℕ) → soundNodes w (take n (memOf (now (m .entry)) .nodes)) ≡ true
+        → r ≡ endChecked (take n (memOf (now (m .entry)) .nodes)) handle k position) ⌝ }
     ensures { λ r. ⌜ ((i j : ℕ) → r ≡ Open i j → (i ≡ k) × (position < 4294967296)) ⌝ }
 {
     let node = file_place(m, n, k, handle);
@@ -116,7 +118,8 @@ pub fn judge_truncate(m: &[u8], n: usize, o: usize, handle: u64, size: u64) -> H
 // Whether the pages would be too many if the node in place k had this size. Sound nodes have room for their own.
 fn is_full(m: &[u8], n: usize, k: usize, size: u32) -> bool
     requires { ⌜ (n ≤ NODES) × (memorySize ≤ length (now m)) ⌝ }
-    ensures { λ r. ⌜ ((w o : ℕ) → soundNodes w (take n (memOf (now (m .entry)) .nodes)) ≡ true → r ≡ noRoom (tablesIn n o (memOf (now (m .entry)))) k size) ⌝ }
+    ensures { λ r. ⌜ ((w o : ℕ) → soundNodes w (take n (memOf (now (m .entry)) .nodes)) ≡ true
+        → r ≡ noRoom (tablesIn n o (memOf (now (m .entry)))) k size) ⌝ }
 {
     if n <= k {
         return false;

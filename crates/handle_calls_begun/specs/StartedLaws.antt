@@ -32,7 +32,8 @@ module _ (c : Config) (s : State (digestStore c)) (h : ℕ) (r : Handled) where
   abbrev here : Tables
   here = s .skeleton .tables
 
-  pub handle-refused : (x : Call) (n : ℕ) (m q : List ℕ) → r ≡ handledFor here h x → r ≡ refusedHandle n → stateOf c m ≡ s → Sends c (startedBy c s x) (Refused n) m q q
+  pub handle-refused : (x : Call) (n : ℕ) (m q : List ℕ) → r ≡ handledFor here h x → r ≡ refusedHandle n → stateOf c m ≡ s
+      → Sends c (startedBy c s x) (Refused n) m q q
   unfolding startedBy
   handle-refused x n m q e f g = refusal-sends c s _ n m q (move-refused here h x r e _ n f) g
 
@@ -46,7 +47,8 @@ module _ (c : Config) (s : State (digestStore c)) (h : ℕ) (r : Handled) where
       ∙ ap (λ (i : ℕ). send (asked (closing k)) (closeRequest i)) y in
       request-sends c s _ _ (closeRequest d) m q q′ o z g u v (omega (arith, length-encode 4 d))
 
-  pub seek-sends : (k j p : ℕ) (m q : List ℕ) → r ≡ handledFor here h (seek h p) → r ≡ Open k j → stateOf c m ≡ cursorMoved c s k p → Sends c (startedBy c s (seek h p)) (Done p 0) m q q
+  pub seek-sends : (k j p : ℕ) (m q : List ℕ) → r ≡ handledFor here h (seek h p) → r ≡ Open k j → stateOf c m ≡ cursorMoved c s k p
+      → Sends c (startedBy c s (seek h p)) (Done p 0) m q q
   unfolding startedBy callAction
   seek-sends k j p m q e f g =
       let z = move-passed here h (seek h p) r e _ k j f
@@ -54,7 +56,8 @@ module _ (c : Config) (s : State (digestStore c)) (h : ℕ) (r : Handled) where
       finish-sends c s _ _ p m q z g
 
 -- the cursor set in memory x, and the call done in memory y
-pub cursor-ends : (c : Config) (m x y : List ℕ) (k p : ℕ) → memOf x ≡ withOpens (setCursor (memOf m .opens) k p) (memOf m) → k < numbersOf (memOf m .head) .opens
+pub cursor-ends : (c : Config) (m x y : List ℕ) (k p : ℕ) → memOf x ≡ withOpens (setCursor (memOf m .opens) k p) (memOf m)
+    → k < numbersOf (memOf m .head) .opens
     → stateOf c y ≡ ends c (stateOf c x) (stateOf c x .skeleton .tables) (stateOf c x .contents) → stateOf c y ≡ cursorMoved c (stateOf c m) k p
 unfolding stateOf stateIn viewOf ends
 cursor-ends c m x y k p e h u =

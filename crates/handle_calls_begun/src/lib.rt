@@ -19,9 +19,12 @@ ghost use Rattle.handle_calls_begun.specs.Moved.{cursorMoved};
 // A close that passed: it waits, and its request goes out.
 fn send_close(m: &mut [u8], opened: usize, request: &mut [u8]) -> outcomes::Outcome
     requires { ⌜ (opened < openRows) × (memorySize ≤ length (now m)) × (storeLength ≤ length (now request)) ⌝ }
-    ensures { λ _. ⌜ ((c : Config) → stateOf c (now (m .exit)) ≡ waits c (stateOf c (now (m .entry))) (asked (closing opened)) gatheredNone) ⌝ }
+    ensures { λ _. ⌜ ((c : Config)
+        → stateOf c (now (m .exit)) ≡ waits c (stateOf c (now (m .entry))) (asked (closing opened)) gatheredNone) ⌝ }
     ensures { λ _. ⌜ length (now (m .exit)) ≡ length (now (m .entry)) ⌝ }
-    ensures { λ r. ⌜ (now (request .exit) ≡ atFront (closeRequest (openAt (memOf (now (m .entry)) .opens) opened .descriptor)) (now (request .entry))) × (r ≡ Ask (length (closeRequest (openAt (memOf (now (m .entry)) .opens) opened .descriptor)))) ⌝ }
+    ensures { λ r. ⌜ (now (request .exit) ≡ atFront (closeRequest (openAt (memOf (now (m .entry)) .opens) opened .descriptor))
+        (now (request .entry)))
+        × (r ≡ Ask (length (closeRequest (openAt (memOf (now (m .entry)) .opens) opened .descriptor)))) ⌝ }
 {
     let d = memory::open_descriptor(m, opened);
     guard_state::wait_close(m, opened);
@@ -31,7 +34,9 @@ fn send_close(m: &mut [u8], opened: usize, request: &mut [u8]) -> outcomes::Outc
 
 pub fn begin_close(m: &mut [u8], handle: u64, request: &mut [u8]) -> outcomes::Outcome
     requires { ⌜ (memorySize ≤ length (now m)) × (storeLength ≤ length (now request)) ⌝ }
-    ensures { λ r. ⌜ ((c : Config) → Consistent c (stateOf c (now (m .entry))) → Sends c (startedBy c (stateOf c (now (m .entry))) (close handle)) r (now (m .exit)) (now (request .entry)) (now (request .exit))) ⌝ }
+    ensures { λ r. ⌜ ((c : Config) → Consistent c (stateOf c (now (m .entry)))
+        → Sends c (startedBy c (stateOf c (now (m .entry))) (close handle)) r (now (m .exit)) (now (request .entry))
+        (now (request .exit))) ⌝ }
     ensures { λ _. ⌜ length (now (m .exit)) ≡ length (now (m .entry)) ⌝ }
 {
     let g = guard_state::Guard::load(m);
@@ -55,7 +60,8 @@ fn end_at(m: &mut [u8], opened: usize, position: u32)
 // A seek asks nothing of the host: no request buffer is touched.
 pub fn finish_seek(m: &mut [u8], handle: u64, position: u64) -> outcomes::Outcome
     requires { ⌜ memorySize ≤ length (now m) ⌝ }
-    ensures { λ r. ⌜ ((c : Config) (q : List ℕ) → Consistent c (stateOf c (now (m .entry))) → Sends c (startedBy c (stateOf c (now (m .entry))) (seek handle position)) r (now (m .exit)) q q) ⌝ }
+    ensures { λ r. ⌜ ((c : Config) (q : List ℕ) → Consistent c (stateOf c (now (m .entry)))
+        → Sends c (startedBy c (stateOf c (now (m .entry))) (seek handle position)) r (now (m .exit)) q q) ⌝ }
     ensures { λ _. ⌜ length (now (m .exit)) ≡ length (now (m .entry)) ⌝ }
 {
     let g = guard_state::Guard::load(m);

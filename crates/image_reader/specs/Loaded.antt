@@ -40,7 +40,8 @@ pub record SoundImage (w : ℕ) (s : List ℕ) : Type 0 where
   pub few : digestCount w s ≤ PAGES
   pub is : parse w s ≡ some (imageNodes w s, imageDigests w s)
 
-found : (w : ℕ) (s : List ℕ) → Formed w s → soundNodes w (imageNodes w s) ≡ true → eqb (digestCount w s) (pageTotal (imageNodes w s)) ≡ true → parse w s ≡ some (imageNodes w s, imageDigests w s)
+found : (w : ℕ) (s : List ℕ) → Formed w s → soundNodes w (imageNodes w s) ≡ true → eqb (digestCount w s) (pageTotal (imageNodes w s)) ≡ true
+    → parse w s ≡ some (imageNodes w s, imageDigests w s)
 unfolding parse bind sound imageDigests
 found w s f a b = rw (whole-got w s (f .four) (f .ends)) (pick-true _ _ _ (and-both _ _ a (rw (length-rows 32 (digestCount w s)) b)))
 
@@ -65,7 +66,8 @@ in-place w s p zero i h = absurd (omega arith)
 in-place w s p (suc n) zero h = refl
 in-place w s p (suc n) (suc i) h = in-place w s (recordEnd w s p) n i (omega arith)
 
-pub short-name : (w : ℕ) (s : List ℕ) (n i : ℕ) → soundNodes w (nodesFrom w s 4 n) ≡ true → i < n → {at : ℕ} → at ≡ endFrom w s 4 i → length (recordAt w s at .name) ≤ 32
+pub short-name : (w : ℕ) (s : List ℕ) (n i : ℕ) → soundNodes w (nodesFrom w s 4 n) ≡ true → i < n → {at : ℕ} → at ≡ endFrom w s 4 i
+    → length (recordAt w s at .name) ≤ 32
 short-name w s n i e h q =
     let t = name-short w (nodesFrom w s 4 n) (to-sound w (nodesFrom w s 4 n) e) i (rw (length-from w s 4 n) h) in
     let k = ap (λ (x : Node). length (x .name)) (in-place w s 4 n i h ∙ ap (recordAt w s) (sym q)) in

@@ -127,7 +127,9 @@ module _ (w : ℕ) (s : List ℕ) where
   all-none b zero at g h = absurd (omega arith)
   all-none b (suc n) at g h = go (is (leb (recordEnd w s at) (length s))) (all-none b n (recordEnd w s at))
     where
-      go : Is (leb (recordEnd w s at) (length s)) → (recordEnd w s at ≤ length s → length s < endFrom w s (recordEnd w s at) n → get-all (nodeForm w) n (drop (recordEnd w s at) s) ≡ none) → get-all (nodeForm w) (suc n) (drop at s) ≡ none
+      go : Is (leb (recordEnd w s at) (length s))
+          → (recordEnd w s at ≤ length s → length s < endFrom w s (recordEnd w s at) n → get-all (nodeForm w) n (drop (recordEnd w s at) s) ≡ none)
+          → get-all (nodeForm w) (suc n) (drop at s) ≡ none
       go (isT t) ih = let l = leb-true _ _ t in rw (record-got w s at l, ih l h)
       go (isF t) ih = rw (record-none w s at b g (leb-false _ _ t))
 
@@ -143,13 +145,15 @@ module _ (w : ℕ) (s : List ℕ) where
   digests-none zero at g h = absurd (omega arith)
   digests-none (suc k) at g h = go (is (leb (at + 32) (length s))) (digests-none k (at + 32))
     where
-      go : Is (leb (at + 32) (length s)) → (at + 32 ≤ length s → length s < at + 32 + k * 32 → get-all (bytes 32) k (drop (at + 32) s) ≡ none) → get-all (bytes 32) (suc k) (drop at s) ≡ none
+      go : Is (leb (at + 32) (length s)) → (at + 32 ≤ length s → length s < at + 32 + k * 32 → get-all (bytes 32) k (drop (at + 32) s) ≡ none)
+          → get-all (bytes 32) (suc k) (drop at s) ≡ none
       go (isT t) ih = let l = leb-true _ _ t in rw (front-yes 32 (λ b. b) at s l, ih l (omega arith))
       go (isF t) ih = rw (front-no 32 (λ b. b) at s g (leb-false _ _ t))
 
 -- A list after its count.
 module _ {A : Type 0} (F : Form A) (s : List ℕ) (at : ℕ) where
-  count-got : (xs : List A) (r : List ℕ) → at + 4 ≤ length s → get-all F (decode (part at 4 s)) (drop (at + 4) s) ≡ some (xs, r) → counted 4 F .get (drop at s) ≡ some (xs, r)
+  count-got : (xs : List A) (r : List ℕ) → at + 4 ≤ length s → get-all F (decode (part at 4 s)) (drop (at + 4) s) ≡ some (xs, r)
+      → counted 4 F .get (drop at s) ≡ some (xs, r)
   unfolding get-as get₂ bind
   count-got xs r h e = rw (front-yes 4 decode at s h, e)
 
@@ -171,7 +175,8 @@ module _ (w : ℕ) (s : List ℕ) (four : 4 ≤ length s) where
   nodes-got : recordsEnd w s ≤ length s → counted 4 (nodeForm w) .get s ≡ some (imageNodes w s, drop (recordsEnd w s) s)
   nodes-got h = count-got (nodeForm w) s 0 (imageNodes w s) (drop (recordsEnd w s) s) four (all-got w s (nodeCount s) 4 h)
 
-  digests-found : recordsEnd w s + 4 + digestCount w s * 32 ≤ length s → counted 4 (bytes 32) .get (drop (recordsEnd w s) s) ≡ some (imageDigests w s, drop (recordsEnd w s + 4 + digestCount w s * 32) s)
+  digests-found : recordsEnd w s + 4 + digestCount w s * 32 ≤ length s
+      → counted 4 (bytes 32) .get (drop (recordsEnd w s) s) ≡ some (imageDigests w s, drop (recordsEnd w s + 4 + digestCount w s * 32) s)
   unfolding imageDigests
   digests-found h = count-got (bytes 32) s (recordsEnd w s) _ _ (omega arith) (digests-got w s (digestCount w s) (recordsEnd w s + 4) h)
 
@@ -214,7 +219,8 @@ module _ (w : ℕ) (s : List ℕ) where
   unfolding parse bind
   some-parsed i e = rw e (picked (sound w i) i)
 
-  pub parsed : 4 ≤ length s → recordsEnd w s + 4 + digestCount w s * 32 ≡ length s → isSome (parse w s) ≡ (soundNodes w (imageNodes w s) && eqb (digestCount w s) (pageTotal (imageNodes w s)))
+  pub parsed : 4 ≤ length s → recordsEnd w s + 4 + digestCount w s * 32 ≡ length s
+      → isSome (parse w s) ≡ (soundNodes w (imageNodes w s) && eqb (digestCount w s) (pageTotal (imageNodes w s)))
   unfolding sound imageDigests
   parsed h e =
       some-parsed (imageNodes w s, imageDigests w s) (whole-got w s h e)
@@ -233,12 +239,14 @@ module _ (w : ℕ) (s : List ℕ) where
           let l : NODES < nodeCount s = leb-false _ _ n in
           parsed h e ∙ rw (unsound w (imageNodes w s) (λ t. let c = t .count in let k = length-from w s 4 (nodeCount s) in omega arith))
 
-      three : 4 ≤ length s → recordsEnd w s + 4 ≤ length s → Is (eqb (recordsEnd w s + 4 + digestCount w s * 32) (length s)) → Is (leb (length s) (recordsEnd w s + 4 + digestCount w s * 32)) → isSome (parse w s) ≡ false
+      three : 4 ≤ length s → recordsEnd w s + 4 ≤ length s → Is (eqb (recordsEnd w s + 4 + digestCount w s * 32) (length s))
+          → Is (leb (length s) (recordsEnd w s + 4 + digestCount w s * 32)) → isSome (parse w s) ≡ false
       three h g (isT e) k = many h (eqb-true _ _ e) (is (leb (nodeCount s) NODES))
       three h g (isF e) (isF k) = none-parsed (whole-rest w s h (leb-false _ _ k))
       three h g (isF e) (isT k) = none-parsed (whole-digests w s h g (other (leb-true _ _ k) (eqb-false _ _ e)))
         where
-          other : length s ≤ recordsEnd w s + 4 + digestCount w s * 32 → (recordsEnd w s + 4 + digestCount w s * 32 ≡ length s → ⊥) → length s < recordsEnd w s + 4 + digestCount w s * 32
+          other : length s ≤ recordsEnd w s + 4 + digestCount w s * 32 → (recordsEnd w s + 4 + digestCount w s * 32 ≡ length s → ⊥)
+              → length s < recordsEnd w s + 4 + digestCount w s * 32
           other l d = less (is (leb (recordsEnd w s + 4 + digestCount w s * 32) (length s)))
             where
               less : Is (leb (recordsEnd w s + 4 + digestCount w s * 32) (length s)) → length s < recordsEnd w s + 4 + digestCount w s * 32
@@ -283,7 +291,8 @@ form-some w s r q n = go (is (formed w s))
     go (isT f) = (q ∙ pick-true _ _ _ f, to-formed w s f)
     go (isF f) = absurd (n (q ∙ pick-false _ _ _ f))
 
-pub parsed-formed : (w : ℕ) (s : List ℕ) → Formed w s → isSome (parse w s) ≡ (soundNodes w (imageNodes w s) && eqb (digestCount w s) (pageTotal (imageNodes w s)))
+pub parsed-formed : (w : ℕ) (s : List ℕ) → Formed w s
+    → isSome (parse w s) ≡ (soundNodes w (imageNodes w s) && eqb (digestCount w s) (pageTotal (imageNodes w s)))
 parsed-formed w s f = parsed w s (f .four) (f .ends)
 
 -- Sound nodes by their records, case by case.

@@ -95,7 +95,8 @@ module _ (w : ℕ) (all before : List Node) (lengths : List ℕ) (x : Node) (xs 
     λ k h. go k h (is (ltb k (length before))),
   )
     where
-      go : (k : ℕ) → k < length (before ++ (x ∷ [])) → Is (ltb k (length before)) → getD (lengths ++ (admit w before lengths x ∷ [])) k 0 ≡ pathLength all (nodeAt all k)
+      go : (k : ℕ) → k < length (before ++ (x ∷ [])) → Is (ltb k (length before))
+          → getD (lengths ++ (admit w before lengths x ∷ [])) k 0 ≡ pathLength all (nodeAt all k)
       go k h (isT t) = let m = ltb-true k (length before) t in List·getD-append lengths (admit w before lengths x ∷ []) 0 k (omega (arith, l .0)) ∙ l .1 k m
       go k h (isF t) =
           let e : k ≡ length before = omega (arith, ltb-false k (length before) t, length-append before (x ∷ [])) in
@@ -128,7 +129,8 @@ module _ (w : ℕ) (all : List Node) where
           let s = strict k (length before) h (eqb-false k (length before) t) in
           ih (and-snd (leb (admit w before lengths x) PATH-BYTES) _ e) k (omega arith) (omega arith)
 
-  pub paths : (r : Rooted all) → Rising all r → (before : List Node) (lengths : List ℕ) (xs : List Node) → before ++ xs ≡ all → Lengths all before lengths → admitted w before lengths xs ≡ true
+  pub paths : (r : Rooted all) → Rising all r → (before : List Node) (lengths : List ℕ) (xs : List Node) → before ++ xs ≡ all → Lengths all before lengths
+      → admitted w before lengths xs ≡ true
       → (k : ℕ) → length before ≤ k → k < length before + length xs → pathLength all (nodeAt all k) ≤ PATH-BYTES
   unfolding admitted
   paths r o before lengths [] q n e k h l = absurd (omega arith)
@@ -191,7 +193,8 @@ module _ (w : ℕ) (all : List Node) where
             (and-both _ _ (eq-eqb (nodeAt before j .id) (x .parent) (ap (λ (n : Node). n .id) (sym m) ∙ p .is-parent ∙ ap (λ (n : Node). n .parent) e)) (ap isDirectory (sym m) ∙ p .is-directory)) in
             omega arith
 
-    pub complete : (before : List Node) (lengths : List ℕ) (xs : List Node) → before ++ xs ≡ all → 0 < length before → Lengths all before lengths → admitted w before lengths xs ≡ true
+    pub complete : (before : List Node) (lengths : List ℕ) (xs : List Node) → before ++ xs ≡ all → 0 < length before → Lengths all before lengths
+        → admitted w before lengths xs ≡ true
     unfolding admitted
     complete before lengths [] q h n = refl
     complete before lengths (x ∷ xs) q h n =

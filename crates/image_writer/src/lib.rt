@@ -63,8 +63,10 @@ fn write_ids(out: &mut [u8], at: usize, id: u64, parent: u64)
 
 // Node i's record, written over a part of out; the place behind it.
 pub fn write_record(m: &[u8], i: usize, out: &mut [u8], at: usize) -> usize
-    requires { ⌜ (i < NODES) × (memorySize ≤ length (now m)) × (at + recordLength ID-BYTES (nodeAt (memOf (now m) .nodes) i) ≤ length (now out)) ⌝ }
-    ensures { λ r. ⌜ now (out .exit) ≡ overwrite (now (out .entry)) at (nodeForm ID-BYTES .put (nodeAt (memOf (now (m .entry)) .nodes) i)) ⌝ }
+    requires { ⌜ (i < NODES) × (memorySize ≤ length (now m))
+        × (at + recordLength ID-BYTES (nodeAt (memOf (now m) .nodes) i) ≤ length (now out)) ⌝ }
+    ensures { λ r. ⌜ now (out .exit) ≡ overwrite (now (out .entry)) at
+        (nodeForm ID-BYTES .put (nodeAt (memOf (now (m .entry)) .nodes) i)) ⌝ }
     ensures { λ r. ⌜ r ≡ at + recordLength ID-BYTES (nodeAt (memOf (now (m .entry)) .nodes) i) ⌝ }
 {
     let name = memory::node_name(m, i);
@@ -102,7 +104,8 @@ pub fn write_records(m: &[u8], n: usize, out: &mut [u8], at: usize) -> usize
 
 // The image of the first n nodes, written over a part of out; the place behind it.
 pub fn write_image(m: &[u8], n: usize, out: &mut [u8], at: usize) -> usize
-    requires { ⌜ (n ≤ NODES) × (memorySize ≤ length (now m)) × (pageTotal (nodesIn n (now m)) ≤ PAGES) × (at + imageLength ID-BYTES (nodesIn n (now m)) ≤ length (now out)) ⌝ }
+    requires { ⌜ (n ≤ NODES) × (memorySize ≤ length (now m)) × (pageTotal (nodesIn n (now m)) ≤ PAGES)
+        × (at + imageLength ID-BYTES (nodesIn n (now m)) ≤ length (now out)) ⌝ }
     ensures { λ r. ⌜ now (out .exit) ≡ overwrite (now (out .entry)) at (print ID-BYTES (imageIn n (now (m .entry)))) ⌝ }
     ensures { λ r. ⌜ r ≡ at + length (print ID-BYTES (imageIn n (now (m .entry)))) ⌝ }
 {

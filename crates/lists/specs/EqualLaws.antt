@@ -63,13 +63,15 @@ module _ (a b : List ℕ) where
     unfolding part
     word-same i h g e = decode-same (part i n a) (part i n b) (all-take n (all-drop i p)) (all-take n (all-drop i q)) (length-part i n a h ∙ sym (length-part i n b g)) e
 
-    pub alike-word : (i : ℕ) → i + n ≤ length a → i + n ≤ length b → take i a ≡ take i b → decode (part i n a) ≡ decode (part i n b) → take (i + n) a ≡ take (i + n) b
+    pub alike-word : (i : ℕ) → i + n ≤ length a → i + n ≤ length b → take i a ≡ take i b → decode (part i n a) ≡ decode (part i n b)
+        → take (i + n) a ≡ take (i + n) b
     alike-word i h g e d = alike-part i n e (word-same i h g d)
 
     -- the last n bytes, of which some were seen before, decide
     alike-last : (i j : ℕ) → j + n ≡ length a → length a ≡ length b → j ≤ i → take i a ≡ take i b → decode (part j n a) ≡ decode (part j n b) → a ≡ b
     alike-last i j h g k e d = alike-all (j + n) (omega arith) (omega arith) (alike-word j (omega arith) (omega arith) (alike-less j i k e) d)
 
-    pub last-decides : (i j x y : ℕ) → j + n ≡ length a → length a ≡ length b → j ≤ i → take i a ≡ take i b → x ≡ decode (part j n a) → y ≡ decode (part j n b) → eqb x y ≡ equal a b
+    pub last-decides : (i j x y : ℕ) → j + n ≡ length a → length a ≡ length b → j ≤ i → take i a ≡ take i b → x ≡ decode (part j n a) → y ≡ decode (part j n b)
+        → eqb x y ≡ equal a b
     last-decides i j x y h g k e p q =
         equal-by x y a b (λ d. p ∙ ap (λ (l : List ℕ). decode (part j n l)) d ∙ sym q) (λ d. alike-last i j h g k e (sym p ∙ d ∙ q))

@@ -100,7 +100,8 @@ module _ {A : Type 0} (F : Form A) where
   all-read-back [] r a = refl
   all-read-back (x ∷ xs) r (both h a) = rw (append-assoc (F .put x) (put-all F xs) r, F .read-back x (put-all F xs ++ r) h, all-read-back xs r a)
 
-  pub all-was-written : (n : ℕ) (s : List ℕ) (xs : List A) (r : List ℕ) → Bytes s → get-all F n s ≡ some (xs, r) → OkAll F n xs × (s ≡ put-all F xs ++ r) × Bytes r
+  pub all-was-written : (n : ℕ) (s : List ℕ) (xs : List A) (r : List ℕ) → Bytes s → get-all F n s ≡ some (xs, r)
+      → OkAll F n xs × (s ≡ put-all F xs ++ r) × Bytes r
   unfolding put-all get-all
   all-was-written zero s xs r h e =
       let z : _≡_ {A = List A × List ℕ} ([], s) (xs, r) = cc in

@@ -14,7 +14,8 @@ use Rattle.lists.specs.PartLaws.{length-part, length-overwrite, part-wit
 
 module _ {A : Type 0} where
   -- a cell is the new list's or the old one's
-  pub getD-overwrite : (d : A) (l : List A) (at : ℕ) (x : List A) (j : ℕ) → at + length x ≤ length l → getD (overwrite l at x) j d ≡ pick (inside at (length x) j) (getD x (j - at) d) (getD l j d)
+  pub getD-overwrite : (d : A) (l : List A) (at : ℕ) (x : List A) (j : ℕ) → at + length x ≤ length l
+      → getD (overwrite l at x) j d ≡ pick (inside at (length x) j) (getD x (j - at) d) (getD l j d)
   unfolding overwrite
   getD-overwrite d l at x j f = go (range at (length x) j)
     where
@@ -46,7 +47,8 @@ module _ {A : Type 0} where
       overwrite-behind (take at l) (x ++ drop (at + length x) l) z at (length-take-le at l (omega arith))
       ∙ rw (drop-at x (drop (at + length x) l) (length z) (sym e), e)
 
-  pub overwrite-within : (l : List A) (at : ℕ) (x : List A) (b : ℕ) (y : List A) → b + length y ≤ length x → at + length x ≤ length l → overwrite (overwrite l at x) (at + b) y ≡ overwrite l at (overwrite x b y)
+  pub overwrite-within : (l : List A) (at : ℕ) (x : List A) (b : ℕ) (y : List A) → b + length y ≤ length x → at + length x ≤ length l
+      → overwrite (overwrite l at x) (at + b) y ≡ overwrite l at (overwrite x b y)
   overwrite-within l at x b y h f =
       let n : length (overwrite l at x) ≡ length l = length-overwrite l at x f in
       let p : part at (length x) (overwrite l at x) ≡ x = part-within l at x at (length x) 0 (sym (add-zero at)) (omega arith) f ∙ overwrite-all (part at (length x) l) x (length-part at (length x) l f) in

@@ -119,7 +119,8 @@ all-place z zero (both f a) h = f
 all-place z (suc k) (both f a) h = all-place z k a (omega arith)
 
 -- what holds in each other place, and of the new element, holds where one is put in place
-pub all-put : {A : Type 0} {F : A → Type 0} (z : A) (xs : List A) (k : ℕ) (y : A) → F y → ((i : ℕ) → i < length xs → (i ≡ k → ⊥) → F (getD xs i z)) → All F (set xs k y)
+pub all-put : {A : Type 0} {F : A → Type 0} (z : A) (xs : List A) (k : ℕ) (y : A) → F y → ((i : ℕ) → i < length xs → (i ≡ k → ⊥) → F (getD xs i z))
+    → All F (set xs k y)
 all-put z [] k y f h = none
 all-put z (x ∷ xs) zero y f h = both f (at-all z xs (λ i l. h (suc i) (omega arith) (λ e. omega arith)))
 all-put z (x ∷ xs) (suc k) y f h = both (h 0 (omega arith) (λ e. omega arith)) (all-put z xs k y f (λ i l d. h (suc i) (omega arith) (λ e. d (omega arith))))
@@ -248,7 +249,8 @@ module _ {A : Type 0} (alike : A → A → Bool) (z : A) where
   any-snoc f (y ∷ xs) x e h = or-both (f y) _ (or-fst (f y) _ e) (any-snoc f xs x (or-snd (f y) _ e) h)
 
   -- a last element that none before is alike
-  pub unique-snoc : (xs : List A) (x : A) → unique alike xs ≡ true → ((k : ℕ) → k < length xs → alike (getD xs k z) x ≡ false) → unique alike (xs ++ (x ∷ [])) ≡ true
+  pub unique-snoc : (xs : List A) (x : A) → unique alike xs ≡ true → ((k : ℕ) → k < length xs → alike (getD xs k z) x ≡ false)
+      → unique alike (xs ++ (x ∷ [])) ≡ true
   unfolding unique any
   unique-snoc [] x e h = refl
   unique-snoc (y ∷ xs) x e h =
@@ -268,5 +270,6 @@ module _ {A B : Type 0} (f : A → B) (alike : B → B → Bool) where
   unique-map (x ∷ xs) = ap₂ (λ a b. not a && b) (any-map (f x) xs) (unique-map xs)
 
   -- so it is not changed by an element with the same
-  pub unique-set : (z : A) (xs : List A) (k : ℕ) (y : A) → f y ≡ f (getD xs k z) → unique (λ x y. alike (f x) (f y)) xs ≡ true → unique (λ x y. alike (f x) (f y)) (set xs k y) ≡ true
+  pub unique-set : (z : A) (xs : List A) (k : ℕ) (y : A) → f y ≡ f (getD xs k z) → unique (λ x y. alike (f x) (f y)) xs ≡ true
+      → unique (λ x y. alike (f x) (f y)) (set xs k y) ≡ true
   unique-set z xs k y e u = unique-map (set xs k y) ∙ (ap (unique alike) (map-set-same f xs k y z e) ∙ (sym (unique-map xs) ∙ u))

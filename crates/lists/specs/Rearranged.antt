@@ -129,7 +129,8 @@ module _ {A : Type 0} (alike : A → A → Bool) (own : (x : A) → alike x x �
       and-both _ _ (ap not (any-rest (alike y) i (not-true _ (and-fst _ _ u)))) (unique-rest i (and-snd (not (any (alike y) ys)) _ u))
 
   -- where no other element is like it, the one put in is found and taken out
-  pub found-again : (x : A) {xs ys : List A} → Inserted x xs ys → any (alike x) xs ≡ false → (place (alike x) ys < length ys) × (without (place (alike x) ys) ys ≡ xs)
+  pub found-again : (x : A) {xs ys : List A} → Inserted x xs ys → any (alike x) xs ≡ false
+      → (place (alike x) ys < length ys) × (without (place (alike x) ys) ys ≡ xs)
   unfolding place without any
   found-again x (front {xs = xs}) e = rw (pick-true (alike x x) 0 (suc (place (alike x) xs)) (own x), place) (omega arith, refl)
   found-again x (behind {y = y} {xs = xs} {ys = ys} i) e =

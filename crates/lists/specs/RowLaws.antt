@@ -72,7 +72,8 @@ module _ {A : Type 0} (w : ℕ) where
       let e : i + (n + (m - (i + n))) ≡ m = omega arith in
       rw e at (inside b i n (m - (i + n)) (rw e f))
 
-  over : (b : List A) (i k c : ℕ) (x : List A) → length x ≡ k * w → (i + (k + c)) * w ≤ length b → rows w (i + (k + c)) (overwrite b (i * w) x) ≡ overwrite (rows w (i + (k + c)) b) i (rows w k x)
+  over : (b : List A) (i k c : ℕ) (x : List A) → length x ≡ k * w → (i + (k + c)) * w ≤ length b
+      → rows w (i + (k + c)) (overwrite b (i * w) x) ≡ overwrite (rows w (i + (k + c)) b) i (rows w k x)
   unfolding overwrite
   over b i k c x e f =
       let g : i * w + (k * w + c * w) ≤ length b = rw (add-mul i (k + c) w, add-mul k c w) at f in
@@ -81,7 +82,8 @@ module _ {A : Type 0} (w : ℕ) where
       rw (rows-append i (k + c) (take (i * w) b) (x ++ drop (i * w + length x) b) a, rows-append k c x (drop (i * w + length x) b) e, rows-of-take i b (omega arith), rows-take i (k + c) b, length-rows k x, e)
       (ap {B = List (List A)} (λ r. rows w i b ++ (rows w k x ++ r)) (rw (s, rows-drop (i + k) c b, add-mul i k w)))
 
-  pub rows-overwrite : (m : ℕ) (b : List A) (i k : ℕ) (x : List A) → length x ≡ k * w → i + k ≤ m → m * w ≤ length b → rows w m (overwrite b (i * w) x) ≡ overwrite (rows w m b) i (rows w k x)
+  pub rows-overwrite : (m : ℕ) (b : List A) (i k : ℕ) (x : List A) → length x ≡ k * w → i + k ≤ m → m * w ≤ length b
+      → rows w m (overwrite b (i * w) x) ≡ overwrite (rows w m b) i (rows w k x)
   rows-overwrite m b i k x e h f =
       let s : i + (k + (m - (i + k))) ≡ m = omega arith in
       rw s at (over b i k (m - (i + k)) x e (rw s f))
@@ -97,7 +99,8 @@ module _ {A : Type 0} (w : ℕ) where
       ∙ overwrite-one (rows w m b) i x (omega arith)
 
   -- an overwrite inside row i
-  pub rows-within : (m : ℕ) (b : List A) (i k : ℕ) (x : List A) → k + length x ≤ w → i < m → m * w ≤ length b → rows w m (overwrite b (i * w + k) x) ≡ set (rows w m b) i (overwrite (getD (rows w m b) i []) k x)
+  pub rows-within : (m : ℕ) (b : List A) (i k : ℕ) (x : List A) → k + length x ≤ w → i < m → m * w ≤ length b
+      → rows w m (overwrite b (i * w + k) x) ≡ set (rows w m b) i (overwrite (getD (rows w m b) i []) k x)
   rows-within m b i k x g h f =
       let e : i * w + w ≤ m * w = row-fits w m i h in
       let p : length (part (i * w) w b) ≡ w = length-part (i * w) w b (omega arith) in

@@ -72,7 +72,8 @@ module _ {A : Type 0} (f : A → Bool) where
   place-first [] z i h = absurd (omega arith)
   place-first (x ∷ xs) z i h = go (f x) refl (place-first xs z) i h
     where
-      go : (b : Bool) → f x ≡ b → ((i : ℕ) → i < place f xs → f (getD xs i z) ≡ false) → (i : ℕ) → i < pick b 0 (suc (place f xs)) → f (getD (x ∷ xs) i z) ≡ false
+      go : (b : Bool) → f x ≡ b → ((i : ℕ) → i < place f xs → f (getD xs i z) ≡ false) → (i : ℕ) → i < pick b 0 (suc (place f xs))
+          → f (getD (x ∷ xs) i z) ≡ false
       go true e ih i l = absurd (omega arith)
       go false e ih zero l = e
       go false e ih (suc i) l = ih i (omega arith)

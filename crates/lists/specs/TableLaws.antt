@@ -19,17 +19,20 @@ module _ {A B : Type 0} (v : List A → B) (w n : ℕ) where
   length-table b = length-map (rows w n b) v ∙ length-rows w n b
 
   -- k rows from row i
-  pub table-overwrite : (b : List A) (i k : ℕ) (x : List A) → length x ≡ k * w → i + k ≤ n → n * w ≤ length b → table v w n (overwrite b (i * w) x) ≡ overwrite (table v w n b) i (map v (rows w k x))
+  pub table-overwrite : (b : List A) (i k : ℕ) (x : List A) → length x ≡ k * w → i + k ≤ n → n * w ≤ length b
+      → table v w n (overwrite b (i * w) x) ≡ overwrite (table v w n b) i (map v (rows w k x))
   unfolding table
   table-overwrite b i k x e h f = ap (map v) (rows-overwrite w n b i k x e h f) ∙ map-overwrite v (rows w n b) i (rows w k x)
 
   -- row i
-  pub table-set : (b : List A) (i : ℕ) (x : List A) → length x ≡ w → i < n → n * w ≤ length b → table v w n (overwrite b (i * w) x) ≡ set (table v w n b) i (v x)
+  pub table-set : (b : List A) (i : ℕ) (x : List A) → length x ≡ w → i < n → n * w ≤ length b
+      → table v w n (overwrite b (i * w) x) ≡ set (table v w n b) i (v x)
   unfolding table
   table-set b i x e h f = ap (map v) (rows-set w n b i x e h f) ∙ map-set v (rows w n b) i x
 
   -- inside row i
-  pub table-within : (b : List A) (i k : ℕ) (x : List A) → k + length x ≤ w → i < n → n * w ≤ length b → table v w n (overwrite b (i * w + k) x) ≡ set (table v w n b) i (v (overwrite (part (i * w) w b) k x))
+  pub table-within : (b : List A) (i k : ℕ) (x : List A) → k + length x ≤ w → i < n → n * w ≤ length b
+      → table v w n (overwrite b (i * w + k) x) ≡ set (table v w n b) i (v (overwrite (part (i * w) w b) k x))
   unfolding table
   table-within b i k x g h f =
       ap (map v) (rows-within w n b i k x g h f)

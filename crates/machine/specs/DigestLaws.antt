@@ -60,7 +60,8 @@ module _ (c : Config) where
       new : List (List ℕ)
       new = tab (last q - first q) (λ j. c .digest (pageOf (bytesAfter q b) (first q + j)))
 
-      other : (k : ℕ) → k < pagesFor (sizeAfter q (length b)) → (k < first q) ⊎ (last q ≤ k) → getD (digestsOf c b) k (zeroDigest c) ≡ c .digest (pageOf (bytesAfter q b) k)
+      other : (k : ℕ) → k < pagesFor (sizeAfter q (length b)) → (k < first q) ⊎ (last q ≤ k)
+          → getD (digestsOf c b) k (zeroDigest c) ≡ c .digest (pageOf (bytesAfter q b) k)
       other k h o = digest-or-zero b k ∙ ap (c .digest) (sym (after-apart q b k f o h))
 
       cell : (k : ℕ) → k < pagesFor (sizeAfter q (length b)) → Where (first q) (last q - first q) k

@@ -81,7 +81,8 @@ module _ (c : Config) (S : Store) where
   unfolding apply
   deleted s k = (refl, refl)
 
-  pub requested : (s : State S) (p : Pending) (q : List ℕ) → (apply c S s (send p q) .outcome ≡ plain (ask q)) × (apply c S s (send p q) .state .skeleton .pending ≡ p)
+  pub requested : (s : State S) (p : Pending) (q : List ℕ)
+      → (apply c S s (send p q) .outcome ≡ plain (ask q)) × (apply c S s (send p q) .state .skeleton .pending ≡ p)
   unfolding apply
   requested s p q = (refl, refl)
 
@@ -119,7 +120,8 @@ module _ (c : Config) (S : Store) where
   unfolding decide
   at-once a h = record { next = a; goes = h; is = refl }
 
-  page-first : (b : Bool) (x y : Result S) → onward (x .outcome .answer) ≡ true → y .outcome .answer ≡ stopped 5 → Behind ((5, not b) ∷ []) (pick b x y .outcome .answer)
+  page-first : (b : Bool) (x y : Result S) → onward (x .outcome .answer) ≡ true → y .outcome .answer ≡ stopped 5
+      → Behind ((5, not b) ∷ []) (pick b x y .outcome .answer)
   unfolding decide pick
   page-first true x y h e = record { next = x .outcome .answer; goes = h; is = refl }
   page-first false x y h e = record { next = x .outcome .answer; goes = h; is = e }

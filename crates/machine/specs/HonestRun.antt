@@ -40,7 +40,8 @@ module _ (c : Config) (fit : Fit c) where
   page-long t k i r e = both (ap not (eq-eqb _ _ (ap length e ∙ length-tab 1024 _))) all-none
 
   -- a right reply passes every check
-  right-passes : (t : State (tree c)) (r : List ℕ) → Valid (c .width) (t .skeleton) → (p : Pending) → RightFor c t r p → Passed (replyChecks (c .width) (t .skeleton .tables) r p)
+  right-passes : (t : State (tree c)) (r : List ℕ) → Valid (c .width) (t .skeleton) → (p : Pending) → RightFor c t r p
+      → Passed (replyChecks (c .width) (t .skeleton .tables) r p)
   unfolding RightFor
   right-passes t r v idle h = unfold replyChecks in all-none
   right-passes t r v (asked (creating p k m name)) h = right-id (c .width) (t .skeleton .tables) r p k m name h
@@ -71,7 +72,8 @@ module _ (c : Config) (fit : Fit c) where
       pick-ind Calm (ltb i (last q)) (λ _. pick-ind Calm (fetches q _ i) (λ _. refl) (λ _. refl)) (λ _. pick-ind Calm (cuts q) (λ _. refl) (λ _. refl))
 
   -- the page that a right reply brings
-  page-right : (t : State (tree c)) (p : Pending) (r : List ℕ) (k i : ℕ) → Right c t r → t .skeleton .pending ≡ p → (RightFor c t r p → r ≡ pageOf (getD (t .contents) k []) i)
+  page-right : (t : State (tree c)) (p : Pending) (r : List ℕ) (k i : ℕ) → Right c t r → t .skeleton .pending ≡ p
+      → (RightFor c t r p → r ≡ pageOf (getD (t .contents) k []) i)
       → equal r (pageOf (getD (t .contents) k []) i) ≡ true
   unfolding Right
   page-right t p r k i ri w f = rw (f (subst (RightFor c t r) w ri)) (equal-refl (pageOf (getD (t .contents) k []) i))
@@ -80,7 +82,8 @@ module _ (c : Config) (fit : Fit c) where
   unfolding HonestAt
   right-reply g t e r a q ho he = rw he at ho
 
-  calm : (g : State (guard c)) (t : State (tree c)) → Valid (c .width) (t .skeleton) → {m : Move} {e : Event} → Fits c (t .skeleton) e m → HonestAt c g t e → Calm (apply c (tree c) t m)
+  calm : (g : State (guard c)) (t : State (tree c)) → Valid (c .width) (t .skeleton) → {m : Move} {e : Event} → Fits c (t .skeleton) e m → HonestAt c g t e
+      → Calm (apply c (tree c) t m)
   unfolding apply isStop readOn askStore finishChange
   calm g t v fRefuse ho = refl
   calm g t v {e = e} (fHalt {n = n} {r = r} {a = a} {q = q} he f) ho =
@@ -109,14 +112,16 @@ module _ (c : Config) (fit : Fit c) where
   lookup-head s ss d e = rw e (pick-true _ _ _ (equal-refl (s .digest)))
 
   -- a load of the latest save
-  sure-load : (t : State (tree c)) → Kept c Any Any t → (i : Image) (image d : List ℕ) → parse (c .width) image ≡ some i → OfLatest c t image d → Agree c t (loading i d)
+  sure-load : (t : State (tree c)) → Kept c Any Any t → (i : Image) (image d : List ℕ) → parse (c .width) image ≡ some i → OfLatest c t image d
+      → Agree c t (loading i d)
   unfolding goBack
   sure-load t v i image d hp o =
       let gs : GoodSave c Any Any (o .latest) = all-head (subst (All (GoodSave c Any Any)) (o .saves) (v .saves)) in
       rw (o .saves, lookup-head (o .latest) (o .earlier) d (o .digest))
       (read-back c fit Any Any (o .latest .files) (gs .good) (gs .valid) i (subst (λ x. parse (c .width) x ≡ some i) (o .image) hp))
 
-  sure : (t : State (tree c)) → Kept c Any Any t → {m : Move} {e : Event} → Fits c (t .skeleton) e m → HonestAt c (guardOf c t) t e → judge c (t .skeleton) e ≡ m → Agree c t m
+  sure : (t : State (tree c)) → Kept c Any Any t → {m : Move} {e : Event} → Fits c (t .skeleton) e m → HonestAt c (guardOf c t) t e
+      → judge c (t .skeleton) e ≡ m → Agree c t m
   unfolding HonestAt step apply guardOf isDone
   sure t v fRefuse ho mq = tt
   sure t v (fHalt he f) ho mq = tt

@@ -71,5 +71,6 @@ module _ (c : Config) (g : State (guard c)) (image digest : List ℕ) (b : Bytes
         ∙ ap (λ (ds : List (List ℕ)). print (c .width) (its .0, ds)) (ap flatten (map-id (divide (its .0) (its .1))) ∙ flatten-divide (its .0) (its .1) n)
         ∙ w .2
 
-  pub load-was-saved : isRefusal c (guard c) (step c (guard c) g (load image digest) .outcome .answer) ≡ false → (c .digest image ≡ digest) × (imageOf c (guard c) after ≡ image)
+  pub load-was-saved : isRefusal c (guard c) (step c (guard c) g (load image digest) .outcome .answer) ≡ false
+      → (c .digest image ≡ digest) × (imageOf c (guard c) after ≡ image)
   load-was-saved h = let p = not-refused c (guard c) g (load image digest) h in (digest-right p p, saves-so p)

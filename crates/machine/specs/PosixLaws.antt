@@ -73,7 +73,8 @@ module _ (c : Config) (S : Store) (s : State S) where
   write-moves k o p d h = (refl, cursor-set o (p + length d) h)
 
   -- rights of an open file outlive a chmod
-  pub chmod-keeps-rights : (t : Tables) (w k m : ℕ) (r : List ℕ) → apply c S s (replyAction w t r (asked (changing k m))) .state .skeleton .tables .opens ≡ t .opens
+  pub chmod-keeps-rights : (t : Tables) (w k m : ℕ) (r : List ℕ)
+      → apply c S s (replyAction w t r (asked (changing k m))) .state .skeleton .tables .opens ≡ t .opens
   unfolding apply replyAction
   chmod-keeps-rights t w k m r = refl
 

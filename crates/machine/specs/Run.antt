@@ -167,7 +167,8 @@ module _ (c : Config) (fit : Fit c) (M N : List ℕ → Type 0) where
   is-plain e r a q he = rw he tt
 
   -- a plain event changes no saves
-  same-saves : (t : State (tree c)) (e : Event) → Plain e → (o : Outcome) (ss : List Saved) → ss ≡ t .saves → digestsKept ss ≡ given e o ++ digestsKept (t .saves)
+  same-saves : (t : State (tree c)) (e : Event) → Plain e → (o : Outcome) (ss : List Saved) → ss ≡ t .saves
+      → digestsKept ss ≡ given e o ++ digestsKept (t .saves)
   same-saves t e p o ss q = ap digestsKept q ∙ rw (given-plain e o p)
 
   abbrev Quiet : State (tree c) → Result (tree c) → Type 0
@@ -203,7 +204,8 @@ module _ (c : Config) (fit : Fit c) (M N : List ℕ → Type 0) where
   unfolding goBack
   back-valid t v h d = go (lookup (t .saves) d) (λ s e. lookup-good c M N (t .saves) d (v .saves) s e .0 .valid)
     where
-      go : (o : Option Saved) → ((s : Saved) → o ≡ some s → ValidNodes (c .width) (s .files .nodes)) → ValidNodes (c .width) (goBack o (files c (tree c) t) .nodes)
+      go : (o : Option Saved) → ((s : Saved) → o ≡ some s → ValidNodes (c .width) (s .files .nodes))
+          → ValidNodes (c .width) (goBack o (files c (tree c) t) .nodes)
       go none f = h
       go (some s) f = f s refl
 

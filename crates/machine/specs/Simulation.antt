@@ -87,7 +87,8 @@ module _ (c : Config) where
   guard-is t e = ap (λ p. guardWith c t (progressOf c (t .contents) p)) e
 
   -- a change is done
-  finish-same : (t : State (tree c)) (k o : ℕ) (q : Change) → Aligned (t .skeleton .tables .nodes) (t .contents) → FitsSize q (nodeAt (t .skeleton .tables .nodes) k .size)
+  finish-same : (t : State (tree c)) (k o : ℕ) (q : Change) → Aligned (t .skeleton .tables .nodes) (t .contents)
+      → FitsSize q (nodeAt (t .skeleton .tables .nodes) k .size)
       → finishChange c (guard c) (beside t [] (sentDigests c (bytesOf t k) q (last q))) k o q ≡ resultOf (finishChange c (tree c) t k o q)
   unfolding finishChange resultOf guardOf progressOf
   finish-same t k o q al f =
@@ -95,7 +96,8 @@ module _ (c : Config) where
       let e : nodeAt (t .skeleton .tables .nodes) k .size ≡ length x = aligned-at (t .skeleton .tables .nodes) (t .contents) al k in
       rw (digests-at c (t .contents) k, e, replaced-digests c q x (rw e at f), map-set (digestsOf c) (t .contents) k (bytesAfter q x))
 
-  stored-same : (t : State (tree c)) (k o : ℕ) (q : Change) → Aligned (t .skeleton .tables .nodes) (t .contents) → FitsSize q (nodeAt (t .skeleton .tables .nodes) k .size)
+  stored-same : (t : State (tree c)) (k o : ℕ) (q : Change) → Aligned (t .skeleton .tables .nodes) (t .contents)
+      → FitsSize q (nodeAt (t .skeleton .tables .nodes) k .size)
       → pagesStored c (guard c) (beside t [] (sentDigests c (bytesOf t k) q (last q))) k o q ≡ resultOf (pagesStored c (tree c) t k o q)
   unfolding pagesStored resultOf guardOf progressOf
   stored-same t k o q al f = pick-map resultOf (cuts q) (λ e. refl) (λ e. finish-same t k o q al f)

@@ -126,7 +126,8 @@ module _ (c : Config) where
         })
 
 module _ (c : Config) (digest-fits : (s : List ℕ) → Digest (c .digest s)) where
-  digested-replaced : (ds : List (List ℕ)) (size from : ℕ) (new : List (List ℕ)) → All Digest ds → All Digest new → All Digest (replaced (zeroDigest c) ds size from new)
+  digested-replaced : (ds : List (List ℕ)) (size from : ℕ) (new : List (List ℕ)) → All Digest ds → All Digest new
+      → All Digest (replaced (zeroDigest c) ds size from new)
   unfolding replaced zeroDigest
   digested-replaced ds size from new a b =
       all-tab (pagesFor size) _ (λ i h. pick-ind Digest (inside from (length new) i)

@@ -61,7 +61,8 @@ module _ (c : Config) (S : Store) (long : (x : S .Content) (q : Change) (i : ℕ
   move-short s (loading i d) h = omega arith
 
   -- at most 1,037 bytes, at any width
-  pub request-fits : (s : State S) → Valid (c .width) (s .skeleton) → (e : Event) → EventBytes e → length (requestBytes (step c S s e .outcome .answer)) ≤ requestLength c
+  pub request-fits : (s : State S) → Valid (c .width) (s .skeleton) → (e : Event) → EventBytes e
+      → length (requestBytes (step c S s e .outcome .answer)) ≤ requestLength c
   unfolding step
   request-fits s v e b = move-short s (judge c (s .skeleton) e) (judge-modest c (s .skeleton) v e b)
 

@@ -128,7 +128,8 @@ module _ (c : Config) (S : Store) where
       go (load i d) = rw h here
 
 -- A fresh one takes a create of a name of the right form and length: its request goes out.
-pub fresh-creates : (c : Config) (S : Store) (m : ℕ) (x : List ℕ) (a q : ℕ) → m ≤ 7 → componentForm x ≡ true → length x ≤ NAME-BYTES → Bytes x → answerLength c ≤ a → requestLength c ≤ q
+pub fresh-creates : (c : Config) (S : Store) (m : ℕ) (x : List ℕ) (a q : ℕ) → m ≤ 7 → componentForm x ≡ true → length x ≤ NAME-BYTES → Bytes x
+    → answerLength c ≤ a → requestLength c ≤ q
     → step c S (fresh c S) (call (callBytes (c .width) (create m (x ∷ []))) a q) .outcome ≡ plain (ask (callBytes (c .width) (create m (x ∷ []))))
 unfolding step apply callAction every
 fresh-creates c S m x a q mode form short b h l =

@@ -34,7 +34,8 @@ module _ (c : Config) (S : Store) where
   unfolding pagesStored
   stored-valid s k o q v x = pick-ind Keeps (cuts q) (λ e. record { tables = v; pending = x }) (λ e. finish-valid s k o q v x)
 
-  store-valid : (s : State S) (k o : ℕ) (q : Change) (i : ℕ) (r : List ℕ) → TablesValid s → PageFits (s .skeleton .tables .nodes) (s .skeleton .tables .opens) k o q i
+  store-valid : (s : State S) (k o : ℕ) (q : Change) (i : ℕ) (r : List ℕ) → TablesValid s
+      → PageFits (s .skeleton .tables .nodes) (s .skeleton .tables .opens) k o q i
       → Keeps (askStore c S s k o q i r)
   unfolding askStore
   store-valid s k o q i r v x = record { tables = v; pending = x }

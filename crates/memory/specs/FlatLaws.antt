@@ -27,7 +27,8 @@ flat-rows w (suc n) x e =
     let g : length x ≡ n * w + w = rw (suc-mul n w) at e in
     rw (flat-rows w n (drop w x) (rw (length-drop w x) (omega arith))) (take-append-drop w x)
 
-pub first-digests : (m : List ℕ) (n : ℕ) → n ≤ PAGES → memorySize ≤ length m → take n (memOf m .digests) ≡ rows digestWidth n (part digestsAt (n * digestWidth) m)
+pub first-digests : (m : List ℕ) (n : ℕ) → n ≤ PAGES → memorySize ≤ length m
+    → take n (memOf m .digests) ≡ rows digestWidth n (part digestsAt (n * digestWidth) m)
 unfolding memOf memFrom table part
 first-digests m n h f =
     let b = part digestsAt (PAGES * digestWidth) m in
@@ -36,7 +37,8 @@ first-digests m n h f =
     ∙ sym (rows-part digestWidth PAGES b 0 n (omega arith) (omega arith))
     ∙ ap (rows digestWidth n) (part-part digestsAt (PAGES * digestWidth) 0 (n * digestWidth) m (omega arith))
 
-pub flat-digests : (m : List ℕ) (n : ℕ) → n ≤ PAGES → memorySize ≤ length m → put-all (bytes digestWidth) (take n (memOf m .digests)) ≡ part digestsAt (n * digestWidth) m
+pub flat-digests : (m : List ℕ) (n : ℕ) → n ≤ PAGES → memorySize ≤ length m
+    → put-all (bytes digestWidth) (take n (memOf m .digests)) ≡ part digestsAt (n * digestWidth) m
 flat-digests m n h f =
     ap (put-all (bytes digestWidth)) (first-digests m n h f)
     ∙ flat-rows digestWidth n (part digestsAt (n * digestWidth) m) (length-part digestsAt (n * digestWidth) m (omega arith))

@@ -25,23 +25,30 @@ use Rattle.memory.specs.Layout.{memOf, memFrom, memorySize, areaSizes, h
 
 -- One law for each area: a write of x at b of the area changes that field of the view as it changes the area, and leaves the others.
 module _ (m x : List ℕ) (fits : memorySize ≤ length m) (b : ℕ) where
-  written : (at k : ℕ) → at ≡ total (take k areaSizes) + b → k < 5 → b + length x ≤ getD areaSizes k 0 → memOf (overwrite m at x) ≡ memFrom (set (areas 0 areaSizes m) k (overwrite (getD (areas 0 areaSizes m) k []) b x))
+  written : (at k : ℕ) → at ≡ total (take k areaSizes) + b → k < 5 → b + length x ≤ getD areaSizes k 0
+      → memOf (overwrite m at x) ≡ memFrom (set (areas 0 areaSizes m) k (overwrite (getD (areas 0 areaSizes m) k []) b x))
   unfolding memOf
   written at k e h g = ap memFrom (areas-overwrite m at x areaSizes 0 k b (omega arith) h g fits)
 
-  in-head : (y : List ℕ) → b + length x ≤ nodesAt → table decode 8 headNumbers (overwrite (part 0 nodesAt m) b x) ≡ y → memOf (overwrite m b x) ≡ withHead y (memOf m)
+  in-head : (y : List ℕ) → b + length x ≤ nodesAt → table decode 8 headNumbers (overwrite (part 0 nodesAt m) b x) ≡ y
+      → memOf (overwrite m b x) ≡ withHead y (memOf m)
   unfolding memOf memFrom
   in-head y h e = written b 0 (omega arith) (omega arith) h ∙ ap (λ (r : List ℕ). withHead r (memOf m)) e
 
-  in-nodes : (y : List Node) → b + length x ≤ NODES * nodeWidth → table nodeOf nodeWidth NODES (overwrite (part nodesAt (NODES * nodeWidth) m) b x) ≡ y → memOf (overwrite m (nodesAt + b) x) ≡ withNodes y (memOf m)
+  in-nodes : (y : List Node) → b + length x ≤ NODES * nodeWidth → table nodeOf nodeWidth NODES (overwrite (part nodesAt (NODES * nodeWidth) m) b x) ≡ y
+      → memOf (overwrite m (nodesAt + b) x) ≡ withNodes y (memOf m)
   unfolding memOf memFrom
   in-nodes y h e = written (nodesAt + b) 1 (omega arith) (omega arith) h ∙ ap (λ (r : List Node). withNodes r (memOf m)) e
 
-  in-opens : (y : List OpenFile) → b + length x ≤ openRows * openWidth → table openOf openWidth openRows (overwrite (part opensAt (openRows * openWidth) m) b x) ≡ y → memOf (overwrite m (opensAt + b) x) ≡ withOpens y (memOf m)
+  in-opens : (y : List OpenFile) → b + length x ≤ openRows * openWidth
+      → table openOf openWidth openRows (overwrite (part opensAt (openRows * openWidth) m) b x) ≡ y
+      → memOf (overwrite m (opensAt + b) x) ≡ withOpens y (memOf m)
   unfolding memOf memFrom
   in-opens y h e = written (opensAt + b) 2 (omega arith) (omega arith) h ∙ ap (λ (r : List OpenFile). withOpens r (memOf m)) e
 
-  pub in-digests : (y : List (List ℕ)) → b + length x ≤ PAGES * digestWidth → table (λ r. r) digestWidth PAGES (overwrite (part digestsAt (PAGES * digestWidth) m) b x) ≡ y → memOf (overwrite m (digestsAt + b) x) ≡ withDigests y (memOf m)
+  pub in-digests : (y : List (List ℕ)) → b + length x ≤ PAGES * digestWidth
+      → table (λ r. r) digestWidth PAGES (overwrite (part digestsAt (PAGES * digestWidth) m) b x) ≡ y
+      → memOf (overwrite m (digestsAt + b) x) ≡ withDigests y (memOf m)
   unfolding memOf memFrom
   in-digests y h e = written (digestsAt + b) 3 (omega arith) (omega arith) h ∙ ap (λ (r : List (List ℕ)). withDigests r (memOf m)) e
 
@@ -62,7 +69,8 @@ module _ (m x : List ℕ) (fits : memorySize ≤ length m) (i : ℕ) where
   unfolding memOf memFrom
   mem-node e h = in-nodes m x fits (i * nodeWidth) _ (omega arith) (table-set nodeOf nodeWidth NODES (part nodesAt (NODES * nodeWidth) m) i x e h (whole nodesAt (NODES * nodeWidth) (omega arith)))
 
-  pub mem-node-field : (k : ℕ) → k + length x ≤ nodeWidth → i < NODES → memOf (overwrite m (nodesAt + i * nodeWidth + k) x) ≡ withNodes (set (memOf m .nodes) i (nodeOf (overwrite (part (nodesAt + i * nodeWidth) nodeWidth m) k x))) (memOf m)
+  pub mem-node-field : (k : ℕ) → k + length x ≤ nodeWidth → i < NODES
+      → memOf (overwrite m (nodesAt + i * nodeWidth + k) x) ≡ withNodes (set (memOf m .nodes) i (nodeOf (overwrite (part (nodesAt + i * nodeWidth) nodeWidth m) k x))) (memOf m)
   unfolding memOf memFrom
   mem-node-field k e h =
       ap (λ (a : ℕ). memOf (overwrite m a x)) (add-assoc nodesAt (i * nodeWidth) k)
@@ -74,7 +82,8 @@ module _ (m x : List ℕ) (fits : memorySize ≤ length m) (i : ℕ) where
   unfolding memOf memFrom
   mem-open e h = in-opens m x fits (i * openWidth) _ (omega arith) (table-set openOf openWidth openRows (part opensAt (openRows * openWidth) m) i x e h (whole opensAt (openRows * openWidth) (omega arith)))
 
-  pub mem-open-field : (k : ℕ) → k + length x ≤ openWidth → i < openRows → memOf (overwrite m (opensAt + i * openWidth + k) x) ≡ withOpens (set (memOf m .opens) i (openOf (overwrite (part (opensAt + i * openWidth) openWidth m) k x))) (memOf m)
+  pub mem-open-field : (k : ℕ) → k + length x ≤ openWidth → i < openRows
+      → memOf (overwrite m (opensAt + i * openWidth + k) x) ≡ withOpens (set (memOf m .opens) i (openOf (overwrite (part (opensAt + i * openWidth) openWidth m) k x))) (memOf m)
   unfolding memOf memFrom
   mem-open-field k e h =
       ap (λ (a : ℕ). memOf (overwrite m a x)) (add-assoc opensAt (i * openWidth) k)
@@ -93,19 +102,22 @@ module _ (m : List ℕ) (fits : memorySize ≤ length m) (from to n : ℕ) where
       let e : from * w + n * w ≤ c * w = rw add-mul at (mul-le-mul-right {m = from + n} {n = c} w h) in
       length-part (a + from * w) (n * w) m (omega arith)
 
-  pub mem-nodes-move : from + n ≤ NODES → to + n ≤ NODES → memOf (overwrite m (nodesAt + to * nodeWidth) (part (nodesAt + from * nodeWidth) (n * nodeWidth) m)) ≡ withNodes (overwrite (memOf m .nodes) to (part from n (memOf m .nodes))) (memOf m)
+  pub mem-nodes-move : from + n ≤ NODES → to + n ≤ NODES
+      → memOf (overwrite m (nodesAt + to * nodeWidth) (part (nodesAt + from * nodeWidth) (n * nodeWidth) m)) ≡ withNodes (overwrite (memOf m .nodes) to (part from n (memOf m .nodes))) (memOf m)
   unfolding memOf memFrom
   mem-nodes-move h g =
       let e = size nodesAt nodeWidth NODES h (omega arith) in
       in-nodes m (part (nodesAt + from * nodeWidth) (n * nodeWidth) m) fits (to * nodeWidth) _ (omega arith) (table-move nodeOf nodeWidth NODES nodesAt m from to n h g (omega arith))
 
-  pub mem-opens-move : from + n ≤ openRows → to + n ≤ openRows → memOf (overwrite m (opensAt + to * openWidth) (part (opensAt + from * openWidth) (n * openWidth) m)) ≡ withOpens (overwrite (memOf m .opens) to (part from n (memOf m .opens))) (memOf m)
+  pub mem-opens-move : from + n ≤ openRows → to + n ≤ openRows
+      → memOf (overwrite m (opensAt + to * openWidth) (part (opensAt + from * openWidth) (n * openWidth) m)) ≡ withOpens (overwrite (memOf m .opens) to (part from n (memOf m .opens))) (memOf m)
   unfolding memOf memFrom
   mem-opens-move h g =
       let e = size opensAt openWidth openRows h (omega arith) in
       in-opens m (part (opensAt + from * openWidth) (n * openWidth) m) fits (to * openWidth) _ (omega arith) (table-move openOf openWidth openRows opensAt m from to n h g (omega arith))
 
-  pub mem-digests-move : from + n ≤ PAGES → to + n ≤ PAGES → memOf (overwrite m (digestsAt + to * digestWidth) (part (digestsAt + from * digestWidth) (n * digestWidth) m)) ≡ withDigests (overwrite (memOf m .digests) to (part from n (memOf m .digests))) (memOf m)
+  pub mem-digests-move : from + n ≤ PAGES → to + n ≤ PAGES
+      → memOf (overwrite m (digestsAt + to * digestWidth) (part (digestsAt + from * digestWidth) (n * digestWidth) m)) ≡ withDigests (overwrite (memOf m .digests) to (part from n (memOf m .digests))) (memOf m)
   unfolding memOf memFrom
   mem-digests-move h g =
       let e = size digestsAt digestWidth PAGES h (omega arith) in
@@ -113,7 +125,8 @@ module _ (m : List ℕ) (fits : memorySize ≤ length m) (from to n : ℕ) where
 
 -- n digests of the staging area, from its byte 4,096 on, kept as digests from i on
 module _ (m : List ℕ) (fits : memorySize ≤ length m) (i n : ℕ) where
-  pub mem-keep : i + n ≤ PAGES → n ≤ newDigests → memOf (overwrite m (digestsAt + i * digestWidth) (part (stagingAt + dataSize) (n * digestWidth) m)) ≡ withDigests (overwrite (memOf m .digests) i (rows digestWidth n (part dataSize (n * digestWidth) (memOf m .staged)))) (memOf m)
+  pub mem-keep : i + n ≤ PAGES → n ≤ newDigests
+      → memOf (overwrite m (digestsAt + i * digestWidth) (part (stagingAt + dataSize) (n * digestWidth) m)) ≡ withDigests (overwrite (memOf m .digests) i (rows digestWidth n (part dataSize (n * digestWidth) (memOf m .staged)))) (memOf m)
   unfolding memOf memFrom
   mem-keep h g =
       let x = part (stagingAt + dataSize) (n * digestWidth) m in
@@ -152,7 +165,9 @@ module _ (m : List ℕ) (i : ℕ) where
       ∙ ap (λ (k : ℕ). part (a + 23) (k % 33) m) e
 
   -- a name that has other bytes than the row, w of them from k on, is not the node's
-  pub not-child : (p : ℕ) (name : List ℕ) (k w x y : ℕ) → i < NODES → memorySize ≤ length m → k + w ≤ length name → x ≡ decode (part (nodesAt + i * nodeWidth + 23 + k) w m) → y ≡ decode (part k w name) → eqb x y ≡ false → isChild p name (nodeAt (memOf m .nodes) i) ≡ false
+  pub not-child : (p : ℕ) (name : List ℕ) (k w x y : ℕ) → i < NODES → memorySize ≤ length m → k + w ≤ length name
+      → x ≡ decode (part (nodesAt + i * nodeWidth + 23 + k) w m) → y ≡ decode (part k w name) → eqb x y ≡ false
+      → isChild p name (nodeAt (memOf m .nodes) i) ≡ false
   not-child p name k w x y h f g ex ey d = rw (equal-no _ name differs, and-false)
     where
       differs : nodeAt (memOf m .nodes) i .name ≡ name → ⊥
@@ -195,7 +210,8 @@ module _ (m : List ℕ) (fits : memorySize ≤ length m) (i x : ℕ) where
       mem-node-field m (encode 4 x) fits i 18 (omega arith) h
       ∙ ap (λ (y : Node). withNodes (set (memOf m .nodes) i y) (memOf m)) (node-with-size x r (omega arith) f ∙ ap (withSize x) (sym (node-at m i h)))
 
-  pub mem-cursor : i < openRows → x < 256 ^ 4 → memOf (overwrite m (opensAt + i * openWidth + 16) (encode 4 x)) ≡ withOpens (setCursor (memOf m .opens) i x) (memOf m)
+  pub mem-cursor : i < openRows → x < 256 ^ 4
+      → memOf (overwrite m (opensAt + i * openWidth + 16) (encode 4 x)) ≡ withOpens (setCursor (memOf m .opens) i x) (memOf m)
   unfolding setCursor setField
   mem-cursor h f =
       let r = part (opensAt + i * openWidth) openWidth m in

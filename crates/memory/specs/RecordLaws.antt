@@ -54,7 +54,8 @@ module _ (id parent kind mode size n : ℕ) where
   unfolding nodeFront encode
   length-front = refl
 
-  pub read-node : (q : List ℕ) → id < 256 ^ 8 → parent < 256 ^ 8 → size < 256 ^ 4 → nodeOf (nodeFront id parent kind mode size n ++ q) ≡ withSize size (newNode id parent kind mode (take (n % 33) q))
+  pub read-node : (q : List ℕ) → id < 256 ^ 8 → parent < 256 ^ 8 → size < 256 ^ 4
+      → nodeOf (nodeFront id parent kind mode size n ++ q) ≡ withSize size (newNode id parent kind mode (take (n % 33) q))
   unfolding nodeFront nodeOf rowName field part encode
   read-node q hi hp hs =
       λ k. record {

@@ -136,7 +136,7 @@ pub fn is_child(m: &[u8], i: usize, parent: u64, name: &[u8]) -> bool
 }
 
 // Whether node i has this parent and may have this name: it has the same last bytes where a name of that length ends.
-pub fn is_like(m: &[u8], i: usize, parent: u64, name: &[u8]) -> bool
+pub fn may_be_child(m: &[u8], i: usize, parent: u64, name: &[u8]) -> bool
     requires { ⌜ (i < NODES) × (memorySize ≤ length (now m)) ⌝ }
     ensures { λ r. ⌜ (r ≡ false → isChild parent (now (name .entry)) (nodeAt (memOf (now (m .entry)) .nodes) i) ≡ false) ⌝ }
 {
@@ -240,7 +240,8 @@ pub fn set_size(m: &mut [u8], i: usize, size: u32)
 
 pub fn move_nodes(m: &mut [u8], from: usize, to: usize, n: usize)
     requires { ⌜ (from + n ≤ NODES) × (to + n ≤ NODES) × (memorySize ≤ length (now m)) ⌝ }
-    ensures { λ _. ⌜ memOf (now (m .exit)) ≡ withNodes (overwrite (memOf (now (m .entry)) .nodes) to (part from n (memOf (now (m .entry)) .nodes))) (memOf (now (m .entry))) ⌝ }
+    ensures { λ _. ⌜ memOf (now (m .exit)) ≡ withNodes (overwrite (memOf (now (m .entry)) .nodes) to
+        (part from n (memOf (now (m .entry)) .nodes))) (memOf (now (m .entry))) ⌝ }
     ensures { λ _. ⌜ length (now (m .exit)) ≡ length (now (m .entry)) ⌝ }
 {
     buffers::shift(
@@ -343,7 +344,8 @@ pub fn set_cursor(m: &mut [u8], i: usize, cursor: u32)
 
 pub fn move_opens(m: &mut [u8], from: usize, to: usize, n: usize)
     requires { ⌜ (from + n ≤ openRows) × (to + n ≤ openRows) × (memorySize ≤ length (now m)) ⌝ }
-    ensures { λ _. ⌜ memOf (now (m .exit)) ≡ withOpens (overwrite (memOf (now (m .entry)) .opens) to (part from n (memOf (now (m .entry)) .opens))) (memOf (now (m .entry))) ⌝ }
+    ensures { λ _. ⌜ memOf (now (m .exit)) ≡ withOpens (overwrite (memOf (now (m .entry)) .opens) to
+        (part from n (memOf (now (m .entry)) .opens))) (memOf (now (m .entry))) ⌝ }
     ensures { λ _. ⌜ length (now (m .exit)) ≡ length (now (m .entry)) ⌝ }
 {
     buffers::shift(
@@ -375,7 +377,8 @@ pub fn put_digest(m: &mut [u8], k: usize, x: [u8; DIGEST_WIDTH])
 
 pub fn move_digests(m: &mut [u8], from: usize, to: usize, n: usize)
     requires { ⌜ (from + n ≤ PAGES) × (to + n ≤ PAGES) × (memorySize ≤ length (now m)) ⌝ }
-    ensures { λ _. ⌜ memOf (now (m .exit)) ≡ withDigests (overwrite (memOf (now (m .entry)) .digests) to (part from n (memOf (now (m .entry)) .digests))) (memOf (now (m .entry))) ⌝ }
+    ensures { λ _. ⌜ memOf (now (m .exit)) ≡ withDigests (overwrite (memOf (now (m .entry)) .digests) to
+        (part from n (memOf (now (m .entry)) .digests))) (memOf (now (m .entry))) ⌝ }
     ensures { λ _. ⌜ length (now (m .exit)) ≡ length (now (m .entry)) ⌝ }
 {
     buffers::shift(
@@ -389,7 +392,8 @@ pub fn move_digests(m: &mut [u8], from: usize, to: usize, n: usize)
 // The first n digests, one behind the other.
 pub fn digests(m: &[u8], n: usize) -> &[u8]
     requires { ⌜ (n ≤ PAGES) × (memorySize ≤ length (now m)) ⌝ }
-    ensures { λ r. ⌜ (now r ≡ put-all (bytes digestWidth) (take n (memOf (now (m .entry)) .digests))) × (length (now r) ≡ n * digestWidth) ⌝ }
+    ensures { λ r. ⌜ (now r ≡ put-all (bytes digestWidth) (take n (memOf (now (m .entry)) .digests)))
+        × (length (now r) ≡ n * digestWidth) ⌝ }
 {
     let at = DIGESTS_AT;
     let end = at + n * DIGEST_WIDTH;
@@ -399,7 +403,8 @@ pub fn digests(m: &[u8], n: usize) -> &[u8]
 // n digests that stand one behind the other, kept as the first n.
 pub fn put_digests(m: &mut [u8], n: usize, x: &[u8])
     requires { ⌜ (n ≤ PAGES) × (length (now x) ≡ n * digestWidth) × (memorySize ≤ length (now m)) ⌝ }
-    ensures { λ _. ⌜ memOf (now (m .exit)) ≡ withDigests (overwrite (memOf (now (m .entry)) .digests) 0 (rows digestWidth n (now (x .entry)))) (memOf (now (m .entry))) ⌝ }
+    ensures { λ _. ⌜ memOf (now (m .exit)) ≡ withDigests (overwrite (memOf (now (m .entry)) .digests) 0
+        (rows digestWidth n (now (x .entry)))) (memOf (now (m .entry))) ⌝ }
     ensures { λ _. ⌜ length (now (m .exit)) ≡ length (now (m .entry)) ⌝ }
 {
     buffers::put(m, DIGESTS_AT, x);
@@ -418,7 +423,8 @@ pub fn staged(m: &[u8], at: usize, n: usize) -> &[u8]
 
 pub fn stage(m: &mut [u8], at: usize, x: &[u8])
     requires { ⌜ (at + length (now x) ≤ stagingSize) × (memorySize ≤ length (now m)) ⌝ }
-    ensures { λ _. ⌜ memOf (now (m .exit)) ≡ withStaged (overwrite (memOf (now (m .entry)) .staged) at (now (x .entry))) (memOf (now (m .entry))) ⌝ }
+    ensures { λ _. ⌜ memOf (now (m .exit)) ≡ withStaged (overwrite (memOf (now (m .entry)) .staged) at (now (x .entry)))
+        (memOf (now (m .entry))) ⌝ }
     ensures { λ _. ⌜ length (now (m .exit)) ≡ length (now (m .entry)) ⌝ }
 {
     buffers::put(m, STAGING_AT + at, x);
@@ -427,7 +433,8 @@ pub fn stage(m: &mut [u8], at: usize, x: &[u8])
 // Digest k of the new ones in the staging area.
 pub fn stage_digest(m: &mut [u8], k: usize, x: [u8; DIGEST_WIDTH])
     requires { ⌜ (k < newDigests) × (memorySize ≤ length (now m)) ⌝ }
-    ensures { λ _. ⌜ memOf (now (m .exit)) ≡ withStaged (overwrite (memOf (now (m .entry)) .staged) (dataSize + k * digestWidth) x) (memOf (now (m .entry))) ⌝ }
+    ensures { λ _. ⌜ memOf (now (m .exit)) ≡ withStaged (overwrite (memOf (now (m .entry)) .staged) (dataSize + k * digestWidth) x)
+        (memOf (now (m .entry))) ⌝ }
     ensures { λ _. ⌜ length (now (m .exit)) ≡ length (now (m .entry)) ⌝ }
 {
     buffers::put(m, STAGING_AT + (DATA_SIZE + k * DIGEST_WIDTH), &x);
@@ -436,7 +443,8 @@ pub fn stage_digest(m: &mut [u8], k: usize, x: [u8; DIGEST_WIDTH])
 // The first n new digests, kept from digest i on.
 pub fn keep_digests(m: &mut [u8], i: usize, n: usize)
     requires { ⌜ (i + n ≤ PAGES) × (n ≤ newDigests) × (memorySize ≤ length (now m)) ⌝ }
-    ensures { λ _. ⌜ memOf (now (m .exit)) ≡ withDigests (overwrite (memOf (now (m .entry)) .digests) i (rows digestWidth n (part dataSize (n * digestWidth) (memOf (now (m .entry)) .staged)))) (memOf (now (m .entry))) ⌝ }
+    ensures { λ _. ⌜ memOf (now (m .exit)) ≡ withDigests (overwrite (memOf (now (m .entry)) .digests) i
+        (rows digestWidth n (part dataSize (n * digestWidth) (memOf (now (m .entry)) .staged)))) (memOf (now (m .entry))) ⌝ }
     ensures { λ _. ⌜ length (now (m .exit)) ≡ length (now (m .entry)) ⌝ }
 {
     buffers::shift(

@@ -104,7 +104,8 @@ module _ (c : Config) (s : State (digestStore c)) (v : Move) where
     request = ap (λ d. atFront (requestBytes (apply c (digestStore c) s d .outcome .answer)) q) (sym z);
   }
 
-  pub done-sends : (t : Tables) (x : List (List (List ℕ))) (n : ℕ) (m q : List ℕ) → apply c (digestStore c) s v ≡ ending c (digestStore c) s (done n []) t x → stateOf c m ≡ ends c s t x
+  pub done-sends : (t : Tables) (x : List (List (List ℕ))) (n : ℕ) (m q : List ℕ) → apply c (digestStore c) s v ≡ ending c (digestStore c) s (done n []) t x
+      → stateOf c m ≡ ends c s t x
       → Sends c (apply c (digestStore c) s v) (Done n 0) m q q
   unfolding answerIn requestBytes overwrite ends
   done-sends t x n m q z g = record {
@@ -113,11 +114,13 @@ module _ (c : Config) (s : State (digestStore c)) (v : Move) where
     request = ap (λ d. atFront (requestBytes (d .outcome .answer)) q) (sym z);
   }
 
-  pub finish-sends : (t : Tables) (n : ℕ) (m q : List ℕ) → v ≡ finish t n [] → stateOf c m ≡ ends c s t (s .contents) → Sends c (apply c (digestStore c) s v) (Done n 0) m q q
+  pub finish-sends : (t : Tables) (n : ℕ) (m q : List ℕ) → v ≡ finish t n [] → stateOf c m ≡ ends c s t (s .contents)
+      → Sends c (apply c (digestStore c) s v) (Done n 0) m q q
   unfolding apply
   finish-sends t n m q z g = done-sends t (s .contents) n m q (ap (apply c (digestStore c) s) z) g
 
-  pub request-sends : (p : Pending) (x m q q′ : List ℕ) (o : Outcome) → v ≡ send p x → stateOf c m ≡ waits c s p gatheredNone → q′ ≡ atFront x q → o ≡ Ask (length x) → length x ≤ length q
+  pub request-sends : (p : Pending) (x m q q′ : List ℕ) (o : Outcome) → v ≡ send p x → stateOf c m ≡ waits c s p gatheredNone → q′ ≡ atFront x q
+      → o ≡ Ask (length x) → length x ≤ length q
       → Sends c (apply c (digestStore c) s v) o m q q′
   unfolding apply
   request-sends p x m q q′ o z g u e h = asking-sends c s _ p x gatheredNone m q q′ o (ap (apply c (digestStore c) s) z) g u e h

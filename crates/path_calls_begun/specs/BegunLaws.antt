@@ -40,7 +40,8 @@ module _ {A B : Type 0} (F : A → B → Type 0) (a : ℕ → A) (b : ℕ → B)
   both-decided ((n, true) ∷ cs) x y g = stop n
   both-decided ((n, false) ∷ cs) x y g = both-decided cs x y (λ p. g (both refl p))
 
-  pub both-judged : (checks : Path → List Check) (x : Path → A) (y : Path → B) (s : List ℕ) → ((p : Path) → readPath s ≡ some p → Passed (checks p) → F (x p) (y p))
+  pub both-judged : (checks : Path → List Check) (x : Path → A) (y : Path → B) (s : List ℕ)
+      → ((p : Path) → readPath s ≡ some p → Passed (checks p) → F (x p) (y p))
       → F (judged a checks x s) (judged b checks y s)
   unfolding judged
   both-judged checks x y s g = go (readPath s) refl
@@ -81,14 +82,16 @@ module _ (t : Tables) (w : ℕ) (path : List ℕ) (make : Path → Call) where
         passes = λ k q. record { its = p; reads = e; passed = h; leads = cc; moves = refl };
       })
 
-pub refused-sends : (c : Config) (s : State (digestStore c)) (path : List ℕ) (make : Path → Call) (r : Walked) (n : ℕ) (m q : List ℕ) → r ≡ nodeFor (s .skeleton .tables) path make
+pub refused-sends : (c : Config) (s : State (digestStore c)) (path : List ℕ) (make : Path → Call) (r : Walked) (n : ℕ) (m q : List ℕ)
+    → r ≡ nodeFor (s .skeleton .tables) path make
     → r ≡ refusedNode n → stateOf c m ≡ s → Sends c (begun c s path make) (Refused n) m q q
 unfolding begun
 refused-sends c s path make r n m q e f g = refusal-sends c s _ n m q (says (s .skeleton .tables) (c .width) path make .refuses n (sym e ∙ f)) g
 
 module _ (path : List ℕ) (kind number : ℕ) (on : OnNode kind) where
   -- what is known of a call that passes: its node is there, and its path is not too long
-  pub passes-node : (t : Tables) (r : Walked) (k : ℕ) → r ≡ nodeFor t path (madeBy kind number) → r ≡ node k → 0 < length (t .nodes) → (k < length (t .nodes)) × (length path ≤ PATH-BYTES)
+  pub passes-node : (t : Tables) (r : Walked) (k : ℕ) → r ≡ nodeFor t path (madeBy kind number) → r ≡ node k → 0 < length (t .nodes)
+      → (k < length (t .nodes)) × (length path ≤ PATH-BYTES)
   passes-node t r k e f h =
       let p = says t 0 path (madeBy kind number) .passes k (sym e ∙ f) in
       let (cs, q) = walks-first t 0 number (p .its) on in

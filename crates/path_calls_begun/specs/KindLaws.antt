@@ -87,7 +87,8 @@ module _ (t : Tables) (s : List ℕ) (n k : ℕ) where
   readdir-made e = subst (λ j. nodeFor t s readdir ≡ nodeFor t s (madeBy j n)) (sym e) refl
 
 -- chmod is judged as stat is
-pub reach-made : (t : Tables) (s : List ℕ) (n : ℕ) {k : ℕ} → OnNode k → (k ≡ 3 → ⊥) → (k ≡ 9 → ⊥) → (k ≡ 10 → ⊥) → (k ≡ 12 → ⊥) → nodeFor t s stat ≡ nodeFor t s (madeBy k n)
+pub reach-made : (t : Tables) (s : List ℕ) (n : ℕ) {k : ℕ} → OnNode k → (k ≡ 3 → ⊥) → (k ≡ 9 → ⊥) → (k ≡ 10 → ⊥) → (k ≡ 12 → ⊥)
+    → nodeFor t s stat ≡ nodeFor t s (madeBy k n)
 unfolding nodeFor madeBy callChecks pick
 reach-made t s n isOpen a b c d = absurd (a refl)
 reach-made t s n isRemove a b c d = absurd (b refl)

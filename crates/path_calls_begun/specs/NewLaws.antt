@@ -91,7 +91,8 @@ module _ (path : List ℕ) (kind number : ℕ) (new : NewKind kind) where
     passes : (d at : ℕ) → r ≡ In d at → Passes t w d at m
     never : r ≡ Root → ⊥
 
-  says : (t : Tables) (w : ℕ) → Says t w (placeFor t path (madeBy kind number)) (judged refuse (λ p. callChecks t (madeBy kind number p)) (λ p. callAction t w (madeBy kind number p)) path)
+  says : (t : Tables) (w : ℕ)
+      → Says t w (placeFor t path (madeBy kind number)) (judged refuse (λ p. callChecks t (madeBy kind number p)) (λ p. callAction t w (madeBy kind number p)) path)
   unfolding placeFor
   says t w =
       both-judged (Says t w) refusedPlace refuse
@@ -117,7 +118,8 @@ module _ (path : List ℕ) (kind number : ℕ) (new : NewKind kind) where
   its-name : (t : Tables) (w d at : ℕ) (m : Move) → 0 < length (t .nodes) → (p : Passes t w d at m) → (drop at path ≡ lastOf (p .its)) × (d < length (t .nodes))
   its-name t w d at m h p = go (p .its) (p .reads) (p .passed) (p .leads) (p .starts)
     where
-      go : (q : Path) → readPath path ≡ some q → Passed (newChecks t q) → parentOf (t .nodes) 0 q ≡ d → length path - length (lastOf q) ≡ at → (drop at path ≡ lastOf q) × (d < length (t .nodes))
+      go : (q : Path) → readPath path ≡ some q → Passed (newChecks t q) → parentOf (t .nodes) 0 q ≡ d → length path - length (lastOf q) ≡ at
+          → (drop at path ≡ lastOf q) × (d < length (t .nodes))
       go [] r a l s =
           let e = head-false (all-right (reachParent t []) _ a) in
           absurd (true≢false (sym (ap not (lt-leb (length (t .nodes)) (walk (t .nodes) 0 []) (unfold walk in h))) ∙ e))
@@ -155,7 +157,8 @@ module _ (path : List ℕ) (kind number : ℕ) (new : NewKind kind) where
     unfolding begun
     new-refused r n m q e f g = refusal-sends c s _ n m q (says here (c .width) .refuses n (sym e ∙ f)) g
 
-    pub new-sends : (r : Placed) (d at : ℕ) (m q q′ : List ℕ) (o : Outcome) → 0 < length (here .nodes) → r ≡ placeFor here path (madeBy kind number) → r ≡ In d at
+    pub new-sends : (r : Placed) (d at : ℕ) (m q q′ : List ℕ) (o : Outcome) → 0 < length (here .nodes) → r ≡ placeFor here path (madeBy kind number)
+        → r ≡ In d at
         → stateOf c m ≡ waits c s (asked (creating (nodeAt (here .nodes) d .id) kind number (drop at path))) gatheredNone → q′ ≡ atFront (pathRequest kind number path) q
         → o ≡ Ask (length (pathRequest kind number path)) → length (pathRequest kind number path) ≤ length q → Sends c (begun c s path (madeBy kind number)) o m q q′
     unfolding begun

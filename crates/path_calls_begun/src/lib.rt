@@ -42,7 +42,8 @@ fn judge(m: &[u8], n: usize, o: usize, kind: u8, number: u8, path: &[u8]) -> pat
 // The call waits for its reply.
 fn wait(m: &mut [u8], kind: u8, number: u8, k: usize)
     requires { ⌜ (k < NODES) × (memorySize ≤ length (now m)) ⌝ }
-    ensures { λ _. ⌜ ((c : Config) → stateOf c (now (m .exit)) ≡ waits c (stateOf c (now (m .entry))) (asked (questionOf kind number k)) gatheredNone) ⌝ }
+    ensures { λ _. ⌜ ((c : Config)
+        → stateOf c (now (m .exit)) ≡ waits c (stateOf c (now (m .entry))) (asked (questionOf kind number k)) gatheredNone) ⌝ }
     ensures { λ _. ⌜ length (now (m .exit)) ≡ length (now (m .entry)) ⌝ }
 {
     if kind == 3 {
@@ -63,7 +64,8 @@ fn wait(m: &mut [u8], kind: u8, number: u8, k: usize)
 // remove and rmdir; else stat.
 fn wait_plain(m: &mut [u8], kind: u8, k: usize)
     requires { ⌜ (k < NODES) × (memorySize ≤ length (now m)) ⌝ }
-    ensures { λ _. ⌜ ((c : Config) → stateOf c (now (m .exit)) ≡ waits c (stateOf c (now (m .entry))) (asked (plainQuestion kind k)) gatheredNone) ⌝ }
+    ensures { λ _. ⌜ ((c : Config)
+        → stateOf c (now (m .exit)) ≡ waits c (stateOf c (now (m .entry))) (asked (plainQuestion kind k)) gatheredNone) ⌝ }
     ensures { λ _. ⌜ length (now (m .exit)) ≡ length (now (m .entry)) ⌝ }
 {
     if kind == 9 {
@@ -87,9 +89,11 @@ fn send(
     request: &mut [u8],
 ) -> outcomes::Outcome
     requires { ⌜ (k < NODES) × (length (now path) ≤ PATH-BYTES) × (memorySize ≤ length (now m)) × (storeLength ≤ length (now request)) ⌝ }
-    ensures { λ _. ⌜ ((c : Config) → stateOf c (now (m .exit)) ≡ waits c (stateOf c (now (m .entry))) (asked (questionOf kind number k)) gatheredNone) ⌝ }
+    ensures { λ _. ⌜ ((c : Config)
+        → stateOf c (now (m .exit)) ≡ waits c (stateOf c (now (m .entry))) (asked (questionOf kind number k)) gatheredNone) ⌝ }
     ensures { λ _. ⌜ length (now (m .exit)) ≡ length (now (m .entry)) ⌝ }
-    ensures { λ r. ⌜ (now (request .exit) ≡ atFront (pathRequest kind number (now (path .entry))) (now (request .entry))) × (r ≡ Ask (length (pathRequest kind number (now (path .entry))))) ⌝ }
+    ensures { λ r. ⌜ (now (request .exit) ≡ atFront (pathRequest kind number (now (path .entry))) (now (request .entry)))
+        × (r ≡ Ask (length (pathRequest kind number (now (path .entry))))) ⌝ }
 {
     wait(m, kind, number, k);
     let l = requests::write_path(request, kind, number, path);
@@ -106,7 +110,9 @@ pub fn begin_on_node(
     request: &mut [u8],
 ) -> outcomes::Outcome
     requires { ⌜ NumberFits kind number × (2 < kind) × (memorySize ≤ length (now m)) × (storeLength ≤ length (now request)) ⌝ }
-    ensures { λ r. ⌜ ((c : Config) → 0 < length (stateOf c (now (m .entry)) .skeleton .tables .nodes) → Sends c (begun c (stateOf c (now (m .entry))) (now (path .entry)) (madeBy kind number)) r (now (m .exit)) (now (request .entry)) (now (request .exit))) ⌝ }
+    ensures { λ r. ⌜ ((c : Config) → 0 < length (stateOf c (now (m .entry)) .skeleton .tables .nodes)
+        → Sends c (begun c (stateOf c (now (m .entry))) (now (path .entry)) (madeBy kind number)) r (now (m .exit)) (now (request .entry))
+        (now (request .exit))) ⌝ }
     ensures { λ _. ⌜ length (now (m .exit)) ≡ length (now (m .entry)) ⌝ }
 {
     let g = guard_state::Guard::load(m);
@@ -133,10 +139,15 @@ fn send_new(
     start: usize,
     request: &mut [u8],
 ) -> outcomes::Outcome
-    requires { ⌜ (parent < NODES) × (start ≤ length (now path)) × (length (drop start (now path)) ≤ NAME-BYTES) × (length (now path) ≤ PATH-BYTES) × (memorySize ≤ length (now m)) × (storeLength ≤ length (now request)) ⌝ }
-    ensures { λ _. ⌜ ((c : Config) → stateOf c (now (m .exit)) ≡ waits c (stateOf c (now (m .entry))) (asked (creating (nodeAt (memOf (now (m .entry)) .nodes) parent .id) kind number (drop start (now (path .entry))))) gatheredNone) ⌝ }
+    requires { ⌜ (parent < NODES) × (start ≤ length (now path)) × (length (drop start (now path)) ≤ NAME-BYTES)
+        × (length (now path) ≤ PATH-BYTES) × (memorySize ≤ length (now m)) × (storeLength ≤ length (now request)) ⌝ }
+    ensures { λ _. ⌜ ((c : Config)
+        → stateOf c (now (m .exit)) ≡ waits c (stateOf c (now (m .entry)))
+        (asked (creating (nodeAt (memOf (now (m .entry)) .nodes) parent .id) kind number
+        (drop start (now (path .entry))))) gatheredNone) ⌝ }
     ensures { λ _. ⌜ length (now (m .exit)) ≡ length (now (m .entry)) ⌝ }
-    ensures { λ r. ⌜ (now (request .exit) ≡ atFront (pathRequest kind number (now (path .entry))) (now (request .entry))) × (r ≡ Ask (length (pathRequest kind number (now (path .entry))))) ⌝ }
+    ensures { λ r. ⌜ (now (request .exit) ≡ atFront (pathRequest kind number (now (path .entry))) (now (request .entry)))
+        × (r ≡ Ask (length (pathRequest kind number (now (path .entry))))) ⌝ }
 {
     let id = memory::node_id(m, parent);
     guard_state::wait_create(m, id, kind, number, &path[start..]);
@@ -153,7 +164,9 @@ pub fn begin_new(
     request: &mut [u8],
 ) -> outcomes::Outcome
     requires { ⌜ (1 ≤ kind) × (kind ≤ 2) × (memorySize ≤ length (now m)) × (storeLength ≤ length (now request)) ⌝ }
-    ensures { λ r. ⌜ ((c : Config) → 0 < length (stateOf c (now (m .entry)) .skeleton .tables .nodes) → Sends c (begun c (stateOf c (now (m .entry))) (now (path .entry)) (madeBy kind number)) r (now (m .exit)) (now (request .entry)) (now (request .exit))) ⌝ }
+    ensures { λ r. ⌜ ((c : Config) → 0 < length (stateOf c (now (m .entry)) .skeleton .tables .nodes)
+        → Sends c (begun c (stateOf c (now (m .entry))) (now (path .entry)) (madeBy kind number)) r (now (m .exit)) (now (request .entry))
+        (now (request .exit))) ⌝ }
     ensures { λ _. ⌜ length (now (m .exit)) ≡ length (now (m .entry)) ⌝ }
 {
     let g = guard_state::Guard::load(m);

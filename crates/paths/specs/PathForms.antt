@@ -90,7 +90,8 @@ after-slash : (x : ℕ) (s : List ℕ) → pathForm (afterSlash (x ∷ s)) ≡ p
 unfolding afterSlash partsForm pathForm pick
 after-slash x s = go (every componentForm (split (x ∷ s)))
   where
-    go : (b : Bool) → pathForm (pick b (some (split (x ∷ s))) none) ≡ pick b (lengthForm (ltb PATH-BYTES (length (slash ∷ x ∷ s)) || any isLong (split (x ∷ s)))) Malformed
+    go : (b : Bool)
+        → pathForm (pick b (some (split (x ∷ s))) none) ≡ pick b (lengthForm (ltb PATH-BYTES (length (slash ∷ x ∷ s)) || any isLong (split (x ∷ s)))) Malformed
     go true = ap lengthForm (long-parts (x ∷ s))
     go false = refl
 

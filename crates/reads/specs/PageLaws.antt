@@ -36,7 +36,8 @@ module _ (c : Config) (s : State (digestStore c)) (k o p n i : ℕ) where
   asks-next a h = pick-false _ _ _ (lt-leb (p + n) (i * PAGE-BYTES + PAGE-BYTES) h)
 
   -- the next page is asked for
-  pub next-sends : (d j : ℕ) (b x y m q q′ : List ℕ) (r : Outcome) → d ≡ openAt (s .skeleton .tables .opens) o .descriptor → j ≡ suc i → i * PAGE-BYTES + PAGE-BYTES < p + n → s .progress ≡ gatheredRead b
+  pub next-sends : (d j : ℕ) (b x y m q q′ : List ℕ) (r : Outcome) → d ≡ openAt (s .skeleton .tables .opens) o .descriptor → j ≡ suc i
+      → i * PAGE-BYTES + PAGE-BYTES < p + n → s .progress ≡ gatheredRead b
       → y ≡ pagePart x p n i → stateOf c m ≡ waits c s (reading k o p n j) (gatheredRead (b ++ y)) → q′ ≡ atFront (fetchRequest d j) q → r ≡ Ask (length (fetchRequest d j)) → storeLength ≤ length q
       → Sends c (readOn c (digestStore c) s k o p n i (digestStore c .gather (s .progress) p n i x)) r m q q′
   next-sends d j b x y m q q′ r u v h f g w z e l =
@@ -54,7 +55,8 @@ cursor-ends c m x o e h f =
     ap (λ (t : Mem). let q = numbersOf (t .head) in restingState c (viewOf (q .nodes) (q .opens) t)) f ∙ ap (restingState c) (view-cursor (memOf m) (g .nodes) (g .opens) o e h)
 
 -- the last page came: the bytes stand at the front of the answer buffer
-pub last-fills : (c : Config) (s : State (digestStore c)) (k o p n i l : ℕ) (b x y m a a′ : List ℕ) → p + n ≤ i * PAGE-BYTES + PAGE-BYTES → s .progress ≡ gatheredRead b → y ≡ pagePart x p n i
+pub last-fills : (c : Config) (s : State (digestStore c)) (k o p n i l : ℕ) (b x y m a a′ : List ℕ) → p + n ≤ i * PAGE-BYTES + PAGE-BYTES
+    → s .progress ≡ gatheredRead b → y ≡ pagePart x p n i
     → stateOf c m ≡ ends c s (cursorTo (s .skeleton .tables) o (p + n)) (s .contents) → a′ ≡ atFront (b ++ y) a → l ≡ length (b ++ y)
     → Fills c (readOn c (digestStore c) s k o p n i (digestStore c .gather (s .progress) p n i x)) (Done n l) m a a′
 unfolding readOn answerIn answerBytes ends
@@ -88,7 +90,8 @@ part-cells x a k h =
     ∙ ap (λ (i : ℕ). tab i (λ j. getD (part a k x) j 0)) (length-part a k x h)
     ∙ tab-cong k _ _ (λ j l. getD-part a k j x 0 l)
 
-pub page-part : (x : List ℕ) (p n i s e : ℕ) → length x ≡ PAGE-BYTES → s ≡ max p (i * PAGE-BYTES) - i * PAGE-BYTES → e ≡ min (p + n) (i * PAGE-BYTES + PAGE-BYTES) - i * PAGE-BYTES → s ≤ e
+pub page-part : (x : List ℕ) (p n i s e : ℕ) → length x ≡ PAGE-BYTES → s ≡ max p (i * PAGE-BYTES) - i * PAGE-BYTES
+    → e ≡ min (p + n) (i * PAGE-BYTES + PAGE-BYTES) - i * PAGE-BYTES → s ≤ e
     → part s (e - s) x ≡ pagePart x p n i
 unfolding pagePart
 page-part x p n i s e h f g l =

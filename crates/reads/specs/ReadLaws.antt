@@ -39,7 +39,8 @@ use Rattle.reads.specs.Begun.{readOf, leftOf}
 
 -- what is left to read, step by step
 module _ (m : List ℕ) (c : Config) where
-  pub left-loaded : (n o k count left over size cursor : ℕ) → n ≡ numbersOf (memOf m .head) .nodes → o < numbersOf (memOf m .head) .opens → left ≡ min count over → over ≡ size - cursor
+  pub left-loaded : (n o k count left over size cursor : ℕ) → n ≡ numbersOf (memOf m .head) .nodes → o < numbersOf (memOf m .head) .opens
+      → left ≡ min count over → over ≡ size - cursor
       → size ≡ nodeAt (take n (memOf m .nodes)) k .size → cursor ≡ openAt (memOf m .opens) o .cursor → left ≡ leftOf (stateOf c m .skeleton .tables) o k count
   unfolding leftOf
   left-loaded n o k count left over size cursor e h l x y z =
@@ -68,7 +69,8 @@ module _ (c : Config) (s : State (digestStore c)) (o k count : ℕ) where
   unfolding readOf pick
   none-sends n m q e z g = finish-sends c s _ there 0 m q (ap (readOf there o k) (sym e ∙ z)) g
 
-  pub page-sends : (n p : ℕ) (row : OpenFile) (m q q′ : List ℕ) (r : Outcome) → n ≡ leftOf there o k count → (n ≡ 0 → ⊥) → row ≡ openAt (there .opens) o → p ≡ row .cursor
+  pub page-sends : (n p : ℕ) (row : OpenFile) (m q q′ : List ℕ) (r : Outcome) → n ≡ leftOf there o k count → (n ≡ 0 → ⊥) → row ≡ openAt (there .opens) o
+      → p ≡ row .cursor
       → stateOf c m ≡ waits c s (reading k o p n (pageAt p)) gatheredNone → q′ ≡ atFront (fetchRequest (row .descriptor) (pageAt p)) q → r ≡ Ask (length (fetchRequest (row .descriptor) (pageAt p)))
       → storeLength ≤ length q → Sends c (apply c (digestStore c) s (readOf there o k (leftOf there o k count))) r m q q′
   unfolding readOf
@@ -101,7 +103,8 @@ module _ (c : Config) (s : State (digestStore c)) (h count : ℕ) (r : Handled) 
   unfolding startedBy
   refused-sends n m q e g = refusal-sends c s _ n m q (read-stop (s .skeleton .tables) h count r known (c .width) n e) g
 
-  pub read-sends : (i j : ℕ) (m q q′ : List ℕ) (o : Outcome) → r ≡ Open i j → Sends c (apply c (digestStore c) s (readOf (s .skeleton .tables) i j (leftOf (s .skeleton .tables) i j count))) o m q q′
+  pub read-sends : (i j : ℕ) (m q q′ : List ℕ) (o : Outcome) → r ≡ Open i j
+      → Sends c (apply c (digestStore c) s (readOf (s .skeleton .tables) i j (leftOf (s .skeleton .tables) i j count))) o m q q′
       → Sends c (startedBy c s (read h count)) o m q q′
   unfolding startedBy
   read-sends i j m q q′ o e x = subst (λ (v : Move). Sends c (apply c (digestStore c) s v) o m q q′) (sym (read-move (s .skeleton .tables) h count r known (c .width) i j e)) x

@@ -31,10 +31,15 @@ fn fetch(
     count: usize,
     request: &mut [u8],
 ) -> outcomes::Outcome
-    requires { ⌜ (node < NODES) × (opened < openRows) × (position ≤ FILE-BYTES) × (count ≤ DATA-BYTES) × (memorySize ≤ length (now m)) × (storeLength ≤ length (now request)) ⌝ }
-    ensures { λ _. ⌜ ((c : Config) → stateOf c (now (m .exit)) ≡ waits c (stateOf c (now (m .entry))) (reading node opened position count (pageAt position)) gatheredNone) ⌝ }
+    requires { ⌜ (node < NODES) × (opened < openRows) × (position ≤ FILE-BYTES) × (count ≤ DATA-BYTES) × (memorySize ≤ length (now m))
+        × (storeLength ≤ length (now request)) ⌝ }
+    ensures { λ _. ⌜ ((c : Config)
+        → stateOf c (now (m .exit)) ≡ waits c (stateOf c (now (m .entry)))
+        (reading node opened position count (pageAt position)) gatheredNone) ⌝ }
     ensures { λ _. ⌜ length (now (m .exit)) ≡ length (now (m .entry)) ⌝ }
-    ensures { λ r. ⌜ (now (request .exit) ≡ atFront (fetchRequest (openAt (memOf (now (m .entry)) .opens) opened .descriptor) (pageAt position)) (now (request .entry))) × (r ≡ Ask (length (fetchRequest (openAt (memOf (now (m .entry)) .opens) opened .descriptor) (pageAt position)))) ⌝ }
+    ensures { λ r. ⌜ (now (request .exit) ≡ atFront (fetchRequest (openAt (memOf (now (m .entry)) .opens) opened .descriptor)
+        (pageAt position)) (now (request .entry)))
+        × (r ≡ Ask (length (fetchRequest (openAt (memOf (now (m .entry)) .opens) opened .descriptor) (pageAt position)))) ⌝ }
 {
     let descriptor = memory::open_descriptor(m, opened);
     let page = position / limits::PAGE_BYTES;
@@ -52,8 +57,13 @@ fn read_at(
     count: usize,
     request: &mut [u8],
 ) -> outcomes::Outcome
-    requires { ⌜ (n ≡ numbersOf (memOf (now m) .head) .nodes) × (opened < numbersOf (memOf (now m) .head) .opens) × (n ≤ NODES) × (opened < openRows) × (count ≤ DATA-BYTES) × (memorySize ≤ length (now m)) × (storeLength ≤ length (now request)) ⌝ }
-    ensures { λ r. ⌜ ((c : Config) → nodeAt (stateOf c (now (m .entry)) .skeleton .tables .nodes) node .size ≤ FILE-BYTES → Sends c (apply c (digestStore c) (stateOf c (now (m .entry))) (readOf (stateOf c (now (m .entry)) .skeleton .tables) opened node (leftOf (stateOf c (now (m .entry)) .skeleton .tables) opened node count))) r (now (m .exit)) (now (request .entry)) (now (request .exit))) ⌝ }
+    requires { ⌜ (n ≡ numbersOf (memOf (now m) .head) .nodes) × (opened < numbersOf (memOf (now m) .head) .opens) × (n ≤ NODES)
+        × (opened < openRows) × (count ≤ DATA-BYTES) × (memorySize ≤ length (now m)) × (storeLength ≤ length (now request)) ⌝ }
+    ensures { λ r. ⌜ ((c : Config) → nodeAt (stateOf c (now (m .entry)) .skeleton .tables .nodes) node .size ≤ FILE-BYTES
+        → Sends c (apply c (digestStore c) (stateOf c (now (m .entry)))
+        (readOf (stateOf c (now (m .entry)) .skeleton .tables) opened node
+        (leftOf (stateOf c (now (m .entry)) .skeleton .tables) opened node count))) r (now (m .exit)) (now (request .entry))
+        (now (request .exit))) ⌝ }
     ensures { λ _. ⌜ length (now (m .exit)) ≡ length (now (m .entry)) ⌝ }
 {
     let cursor = memory::open_cursor(m, opened) as usize;
@@ -75,7 +85,9 @@ fn read_at(
 // read: at most count bytes from the cursor on, of the open file with this handle.
 pub fn begin_read(m: &mut [u8], handle: u64, count: usize, request: &mut [u8]) -> outcomes::Outcome
     requires { ⌜ (count ≤ DATA-BYTES) × (memorySize ≤ length (now m)) × (storeLength ≤ length (now request)) ⌝ }
-    ensures { λ r. ⌜ ((c : Config) → Consistent c (stateOf c (now (m .entry))) → Sends c (startedBy c (stateOf c (now (m .entry))) (read handle count)) r (now (m .exit)) (now (request .entry)) (now (request .exit))) ⌝ }
+    ensures { λ r. ⌜ ((c : Config) → Consistent c (stateOf c (now (m .entry)))
+        → Sends c (startedBy c (stateOf c (now (m .entry))) (read handle count)) r (now (m .exit)) (now (request .entry))
+        (now (request .exit))) ⌝ }
     ensures { λ _. ⌜ length (now (m .exit)) ≡ length (now (m .entry)) ⌝ }
 {
     let g = guard_state::Guard::load(m);
@@ -101,8 +113,14 @@ fn next_page(
     more: &[u8],
     request: &mut [u8],
 ) -> outcomes::Outcome
-    requires { ⌜ (opened < numbersOf (memOf (now m) .head) .opens) × (page * PAGE-BYTES + PAGE-BYTES < position + count) × (bytes + length (now more) ≤ DATA-BYTES) × (node < NODES) × (opened < openRows) × (position ≤ FILE-BYTES) × (count ≤ DATA-BYTES) × (page < filePages) × (memorySize ≤ length (now m)) × (storeLength ≤ length (now request)) ⌝ }
-    ensures { λ r. ⌜ ((c : Config) (x : List ℕ) → now (more .entry) ≡ pagePart x position count page → stateOf c (now (m .entry)) .progress ≡ gatheredRead (take bytes (memOf (now (m .entry)) .staged)) → Sends c (readOn c (digestStore c) (stateOf c (now (m .entry))) node opened position count page (digestStore c .gather (stateOf c (now (m .entry)) .progress) position count page x)) r (now (m .exit)) (now (request .entry)) (now (request .exit))) ⌝ }
+    requires { ⌜ (opened < numbersOf (memOf (now m) .head) .opens) × (page * PAGE-BYTES + PAGE-BYTES < position + count)
+        × (bytes + length (now more) ≤ DATA-BYTES) × (node < NODES) × (opened < openRows) × (position ≤ FILE-BYTES) × (count ≤ DATA-BYTES)
+        × (page < filePages) × (memorySize ≤ length (now m)) × (storeLength ≤ length (now request)) ⌝ }
+    ensures { λ r. ⌜ ((c : Config) (x : List ℕ) → now (more .entry) ≡ pagePart x position count page
+        → stateOf c (now (m .entry)) .progress ≡ gatheredRead (take bytes (memOf (now (m .entry)) .staged))
+        → Sends c (readOn c (digestStore c) (stateOf c (now (m .entry))) node opened position count page
+        (digestStore c .gather (stateOf c (now (m .entry)) .progress) position count page x)) r (now (m .exit)) (now (request .entry))
+        (now (request .exit))) ⌝ }
     ensures { λ _. ⌜ length (now (m .exit)) ≡ length (now (m .entry)) ⌝ }
 {
     let descriptor = memory::open_descriptor(m, opened);
@@ -115,7 +133,8 @@ fn next_page(
 // The bytes of a read that is done, over the front of the answer buffer: those that are staged, and those of the last page.
 fn put_answer(m: &[u8], bytes: usize, more: &[u8], answer: &mut [u8])
     requires { ⌜ (bytes + length (now more) ≤ DATA-BYTES) × (DATA-BYTES ≤ length (now answer)) × (memorySize ≤ length (now m)) ⌝ }
-    ensures { λ _. ⌜ now (answer .exit) ≡ atFront (take bytes (memOf (now (m .entry)) .staged) ++ now (more .entry)) (now (answer .entry)) ⌝ }
+    ensures { λ _. ⌜ now (answer .exit) ≡ atFront (take bytes (memOf (now (m .entry)) .staged) ++ now (more .entry))
+        (now (answer .entry)) ⌝ }
 {
     let b = memory::staged(m, 0, bytes);
     buffers::put(answer, 0, b);
@@ -124,8 +143,11 @@ fn put_answer(m: &[u8], bytes: usize, more: &[u8], answer: &mut [u8])
 
 // The read is done: its cursor stands behind what it gave.
 fn end_read(m: &mut [u8], opened: usize, end: usize)
-    requires { ⌜ (opened < numbersOf (memOf (now m) .head) .opens) × (opened < openRows) × (end ≤ FILE-BYTES + DATA-BYTES) × (memorySize ≤ length (now m)) ⌝ }
-    ensures { λ _. ⌜ ((c : Config) → stateOf c (now (m .exit)) ≡ ends c (stateOf c (now (m .entry))) (cursorTo (stateOf c (now (m .entry)) .skeleton .tables) opened end) (stateOf c (now (m .entry)) .contents)) ⌝ }
+    requires { ⌜ (opened < numbersOf (memOf (now m) .head) .opens) × (opened < openRows) × (end ≤ FILE-BYTES + DATA-BYTES)
+        × (memorySize ≤ length (now m)) ⌝ }
+    ensures { λ _. ⌜ ((c : Config)
+        → stateOf c (now (m .exit)) ≡ ends c (stateOf c (now (m .entry)))
+        (cursorTo (stateOf c (now (m .entry)) .skeleton .tables) opened end) (stateOf c (now (m .entry)) .contents)) ⌝ }
     ensures { λ _. ⌜ length (now (m .exit)) ≡ length (now (m .entry)) ⌝ }
 {
     memory::set_cursor(m, opened, end as u32);
@@ -142,8 +164,14 @@ fn last_page(
     more: &[u8],
     answer: &mut [u8],
 ) -> outcomes::Outcome
-    requires { ⌜ (opened < numbersOf (memOf (now m) .head) .opens) × (opened < openRows) × (position ≤ FILE-BYTES) × (count ≤ DATA-BYTES) × (bytes + length (now more) ≤ DATA-BYTES) × (DATA-BYTES ≤ length (now answer)) × (memorySize ≤ length (now m)) ⌝ }
-    ensures { λ r. ⌜ ((c : Config) (k i : ℕ) (x : List ℕ) → position + count ≤ i * PAGE-BYTES + PAGE-BYTES → now (more .entry) ≡ pagePart x position count i → stateOf c (now (m .entry)) .progress ≡ gatheredRead (take bytes (memOf (now (m .entry)) .staged)) → Fills c (readOn c (digestStore c) (stateOf c (now (m .entry))) k opened position count i (digestStore c .gather (stateOf c (now (m .entry)) .progress) position count i x)) r (now (m .exit)) (now (answer .entry)) (now (answer .exit))) ⌝ }
+    requires { ⌜ (opened < numbersOf (memOf (now m) .head) .opens) × (opened < openRows) × (position ≤ FILE-BYTES) × (count ≤ DATA-BYTES)
+        × (bytes + length (now more) ≤ DATA-BYTES) × (DATA-BYTES ≤ length (now answer)) × (memorySize ≤ length (now m)) ⌝ }
+    ensures { λ r. ⌜ ((c : Config) (k i : ℕ) (x : List ℕ) → position + count ≤ i * PAGE-BYTES + PAGE-BYTES
+        → now (more .entry) ≡ pagePart x position count i
+        → stateOf c (now (m .entry)) .progress ≡ gatheredRead (take bytes (memOf (now (m .entry)) .staged))
+        → Fills c (readOn c (digestStore c) (stateOf c (now (m .entry))) k opened position count i
+        (digestStore c .gather (stateOf c (now (m .entry)) .progress) position count i x)) r (now (m .exit)) (now (answer .entry))
+        (now (answer .exit))) ⌝ }
     ensures { λ _. ⌜ length (now (m .exit)) ≡ length (now (m .entry)) ⌝ }
 {
     let l = bytes + more.len();
@@ -158,7 +186,8 @@ fn last_page(
 
 // The bytes of a page that lie in the read.
 fn page_part(reply: &[u8], position: usize, count: usize, page: usize) -> &[u8]
-    requires { ⌜ (length (now reply) ≡ PAGE-BYTES) × (position ≤ FILE-BYTES) × (count ≤ DATA-BYTES) × (page ≤ filePages) × (page * PAGE-BYTES < position + count) × (position < page * PAGE-BYTES + PAGE-BYTES) ⌝ }
+    requires { ⌜ (length (now reply) ≡ PAGE-BYTES) × (position ≤ FILE-BYTES) × (count ≤ DATA-BYTES) × (page ≤ filePages)
+        × (page * PAGE-BYTES < position + count) × (position < page * PAGE-BYTES + PAGE-BYTES) ⌝ }
     ensures { λ r. ⌜ (now r ≡ pagePart (now (reply .entry)) position count page) × (length (now r) ≤ count) ⌝ }
 {
     let at = page * limits::PAGE_BYTES;
@@ -196,8 +225,14 @@ fn take_page(
     answer: &mut [u8],
     request: &mut [u8],
 ) -> outcomes::Outcome
-    requires { ⌜ (opened < numbersOf (memOf (now m) .head) .opens) × (InRead position count page) × (length (now reply) ≡ PAGE-BYTES) × (bytes ≤ DATA-BYTES) × (node < NODES) × (opened < openRows) × (count ≤ DATA-BYTES) × (DATA-BYTES ≤ length (now answer)) × (memorySize ≤ length (now m)) × (storeLength ≤ length (now request)) ⌝ }
-    ensures { λ r. ⌜ ((c : Config) → bytes + length (pagePart (now (reply .entry)) position count page) ≤ DATA-BYTES → stateOf c (now (m .entry)) .progress ≡ gatheredRead (take bytes (memOf (now (m .entry)) .staged)) → Leaves c (readOn c (digestStore c) (stateOf c (now (m .entry))) node opened position count page (digestStore c .gather (stateOf c (now (m .entry)) .progress) position count page (now (reply .entry)))) r (now (m .exit)) (now (answer .entry)) (now (answer .exit)) (now (request .entry)) (now (request .exit))) ⌝ }
+    requires { ⌜ (opened < numbersOf (memOf (now m) .head) .opens) × (InRead position count page) × (length (now reply) ≡ PAGE-BYTES)
+        × (bytes ≤ DATA-BYTES) × (node < NODES) × (opened < openRows) × (count ≤ DATA-BYTES) × (DATA-BYTES ≤ length (now answer))
+        × (memorySize ≤ length (now m)) × (storeLength ≤ length (now request)) ⌝ }
+    ensures { λ r. ⌜ ((c : Config) → bytes + length (pagePart (now (reply .entry)) position count page) ≤ DATA-BYTES
+        → stateOf c (now (m .entry)) .progress ≡ gatheredRead (take bytes (memOf (now (m .entry)) .staged))
+        → Leaves c (readOn c (digestStore c) (stateOf c (now (m .entry))) node opened position count page
+        (digestStore c .gather (stateOf c (now (m .entry)) .progress) position count page (now (reply .entry)))) r (now (m .exit))
+        (now (answer .entry)) (now (answer .exit)) (now (request .entry)) (now (request .exit))) ⌝ }
     ensures { λ _. ⌜ length (now (m .exit)) ≡ length (now (m .entry)) ⌝ }
 {
     let more = page_part(reply, position, count, page);
@@ -217,8 +252,11 @@ pub fn accept_page(
     answer: &mut [u8],
     request: &mut [u8],
 ) -> outcomes::Outcome
-    requires { ⌜ (numbersOf (memOf (now m) .head) .call ≡ 8) × (DATA-BYTES ≤ length (now answer)) × (memorySize ≤ length (now m)) × (storeLength ≤ length (now request)) ⌝ }
-    ensures { λ r. ⌜ ((c : Config) → c .digest ≡ sha256 → Consistent c (stateOf c (now (m .entry))) → Leaves c (answered c (stateOf c (now (m .entry))) (now (reply .entry))) r (now (m .exit)) (now (answer .entry)) (now (answer .exit)) (now (request .entry)) (now (request .exit))) ⌝ }
+    requires { ⌜ (numbersOf (memOf (now m) .head) .call ≡ 8) × (DATA-BYTES ≤ length (now answer)) × (memorySize ≤ length (now m))
+        × (storeLength ≤ length (now request)) ⌝ }
+    ensures { λ r. ⌜ ((c : Config) → c .digest ≡ sha256 → Consistent c (stateOf c (now (m .entry)))
+        → Leaves c (answered c (stateOf c (now (m .entry))) (now (reply .entry))) r (now (m .exit)) (now (answer .entry))
+        (now (answer .exit)) (now (request .entry)) (now (request .exit))) ⌝ }
     ensures { λ _. ⌜ length (now (m .exit)) ≡ length (now (m .entry)) ⌝ }
 {
     let g = guard_state::Guard::load(m);

@@ -223,7 +223,8 @@ module _ (p : ℕ) where
       let e : unseen p ns (λ j. f (suc j)) ≡ select (hasParent p) ns = unseen-all ns (λ j. f (suc j)) (λ j. h (suc j)) in
       rw (h 0, e) (go (hasParent p n))
     where
-      go : (b : Bool) → pick (b && true) (n ∷ select (hasParent p) ns) (select (hasParent p) ns) ≡ pick b (n ∷ select (hasParent p) ns) (select (hasParent p) ns)
+      go : (b : Bool)
+          → pick (b && true) (n ∷ select (hasParent p) ns) (select (hasParent p) ns) ≡ pick b (n ∷ select (hasParent p) ns) (select (hasParent p) ns)
       go true = refl
       go false = refl
 
@@ -317,7 +318,8 @@ module _ (ns : List Node) (p : ℕ) (r : List ℕ) where
       abbrev entry : Entry
       entry = entryAt ID-BYTES r at
 
-      other : any (sameEntry entry) (map entryOf (unseen p ns (marks ms))) ≡ false → soundNodes ID-BYTES ns ≡ true → isListing ID-BYTES (children ns p) r ≡ false
+      other : any (sameEntry entry) (map entryOf (unseen p ns (marks ms))) ≡ false → soundNodes ID-BYTES ns ≡ true
+          → isListing ID-BYTES (children ns p) r ≡ false
       other a v = left v ∙ listing-other ID-BYTES (drop at r) entry (drop (entryEnd ID-BYTES r at) r) (entry-got ID-BYTES r at fits) (unseen p ns (marks ms)) some-left a
 
       pub listing-missing : length ns ≤ entryPlace ns p entry → soundNodes ID-BYTES ns ≡ true → isListing ID-BYTES (children ns p) r ≡ false

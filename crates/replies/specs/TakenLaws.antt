@@ -122,7 +122,8 @@ module _ (c : Config) (wide : c .width ≡ ID-BYTES) (s : State (digestStore c))
   unfolding answered
   answer-stops b x q e h g = stop-sends c s _ b x q (taken-stops c wide s r p waiting b e h) g
 
-  pub answer-finishes : (u : Tables) (n : ℕ) (x q : List ℕ) → 0 ≡ reasonFor t r p → replyAction ID-BYTES t r p ≡ finish u n [] → stateOf c x ≡ ends c s u (s .contents)
+  pub answer-finishes : (u : Tables) (n : ℕ) (x q : List ℕ) → 0 ≡ reasonFor t r p → replyAction ID-BYTES t r p ≡ finish u n []
+      → stateOf c x ≡ ends c s u (s .contents)
       → Sends c (answered c s r) (Done n 0) x q q
   unfolding answered
   answer-finishes u n x q e f g = finish-sends c s _ u n x q (taken-passes c wide s r p waiting e ∙ f) g
@@ -145,7 +146,8 @@ module _ (c : Config) (wide : c .width ≡ ID-BYTES) (s : State (digestStore c))
       let z : (q : List ℕ) → Sends c (answered c s r) (Stopped b) x q q = λ q. answer-stops b x q e h g in
       record { state = z [] .state; answer = λ q. z q .answer a; filled = sends-leaves c (answered c s r) (Stopped b) x [] [] (z []) a .filled }
 
-  pub answer-fills : (u : Tables) (n l : ℕ) (y x a a′ : List ℕ) → 0 ≡ reasonFor t r p → replyAction ID-BYTES t r p ≡ finish u n y → stateOf c x ≡ ends c s u (s .contents)
+  pub answer-fills : (u : Tables) (n l : ℕ) (y x a a′ : List ℕ) → 0 ≡ reasonFor t r p → replyAction ID-BYTES t r p ≡ finish u n y
+      → stateOf c x ≡ ends c s u (s .contents)
       → a′ ≡ atFront y a → l ≡ length y → length y ≤ length a → Fills c (answered c s r) (Done n l) x a a′
   unfolding answered apply answerIn answerBytes ends
   answer-fills u n l y x a a′ e f g w h m =

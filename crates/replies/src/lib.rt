@@ -30,7 +30,8 @@ pub fn judge_status(reply: &[u8], expected: i32) -> u8
 // A new node's id: 1 of another length, 3 where it is 0 or a node has it.
 pub fn judge_id(m: &[u8], n: usize, reply: &[u8]) -> u8
     requires { ⌜ (n ≤ NODES) × (memorySize ≤ length (now m)) ⌝ }
-    ensures { λ r. ⌜ ((parent kind mode : ℕ) (name : List ℕ) (o : ℕ) → r ≡ reasonFor (tablesIn n o (memOf (now (m .entry)))) (now (reply .entry)) (asked (creating parent kind mode name))) ⌝ }
+    ensures { λ r. ⌜ ((parent kind mode : ℕ) (name : List ℕ) (o : ℕ)
+        → r ≡ reasonFor (tablesIn n o (memOf (now (m .entry)))) (now (reply .entry)) (asked (creating parent kind mode name))) ⌝ }
 {
     if reply.len() != limits::ID_BYTES {
         return 1;
@@ -48,7 +49,8 @@ pub fn judge_id(m: &[u8], n: usize, reply: &[u8]) -> u8
 // A new descriptor: 1 of another length, 4 where it is out of range or an open file has it.
 pub fn judge_descriptor(m: &[u8], o: usize, reply: &[u8]) -> u8
     requires { ⌜ (o ≤ openRows) × (memorySize ≤ length (now m)) ⌝ }
-    ensures { λ r. ⌜ ((k rights n : ℕ) → r ≡ reasonFor (tablesIn n o (memOf (now (m .entry)))) (now (reply .entry)) (asked (opening k rights))) ⌝ }
+    ensures { λ r. ⌜ ((k rights n : ℕ)
+        → r ≡ reasonFor (tablesIn n o (memOf (now (m .entry)))) (now (reply .entry)) (asked (opening k rights))) ⌝ }
 {
     if reply.len() != 4 {
         return 1;
@@ -103,7 +105,10 @@ pub fn judge_stat(m: &[u8], n: usize, k: usize, reply: &[u8]) -> u8
 // Page i of the node in place k as a reply: 1 of another length, 5 where its digest is not the kept one, else 0. No valid table lacks the page.
 pub fn judge_page(m: &[u8], n: usize, k: usize, i: usize, reply: &[u8]) -> u8
     requires { ⌜ (n ≤ NODES) × (memorySize ≤ length (now m)) ⌝ }
-    ensures { λ r. ⌜ (k < n → i < pagesFor (nodeAt (memOf (now (m .entry)) .nodes) k .size) → pageTotal (take n (memOf (now (m .entry)) .nodes)) ≤ PAGES → r ≡ pageReason (getD (getD (divide (take n (memOf (now (m .entry)) .nodes)) (memOf (now (m .entry)) .digests)) k []) i []) (now (reply .entry))) ⌝ }
+    ensures { λ r. ⌜ (k < n → i < pagesFor (nodeAt (memOf (now (m .entry)) .nodes) k .size)
+        → pageTotal (take n (memOf (now (m .entry)) .nodes)) ≤ PAGES
+        → r ≡ pageReason (getD (getD (divide (take n (memOf (now (m .entry)) .nodes)) (memOf (now (m .entry)) .digests)) k []) i [])
+        (now (reply .entry))) ⌝ }
     ensures { λ r. ⌜ (r ≡ 0 → length (now (reply .entry)) ≡ PAGE-BYTES) ⌝ }
 {
     if reply.len() != limits::PAGE_BYTES {
@@ -151,7 +156,8 @@ fn entry_place(
     next: usize,
 ) -> usize
     requires { ⌜ (n ≤ NODES) × (memorySize ≤ length (now m)) × (end ≡ entryEnd ID-BYTES (now reply) at) × (end ≤ length (now reply)) ⌝ }
-    ensures { λ r. ⌜ (soundNodes ID-BYTES (take n (memOf (now (m .entry)) .nodes)) ≡ true → r ≡ entryPlace (take n (memOf (now (m .entry)) .nodes)) id (entryAt ID-BYTES (now (reply .entry)) at)) ⌝ }
+    ensures { λ r. ⌜ (soundNodes ID-BYTES (take n (memOf (now (m .entry)) .nodes)) ≡ true
+        → r ≡ entryPlace (take n (memOf (now (m .entry)) .nodes)) id (entryAt ID-BYTES (now (reply .entry)) at)) ⌝ }
 {
     let k = tables::find_node(m, n, numbers::number_at(reply, at, limits::ID_BYTES), next);
     if n <= k {
@@ -171,7 +177,9 @@ fn entry_place(
 // `next` is the place behind the last entry's: children that stand together, listed in their order, need one search.
 pub fn judge_listing(m: &[u8], n: usize, id: u64, reply: &[u8]) -> u8
     requires { ⌜ (n ≤ NODES) × (memorySize ≤ length (now m)) ⌝ }
-    ensures { λ r. ⌜ (soundNodes ID-BYTES (take n (memOf (now (m .entry)) .nodes)) ≡ true → (k o : ℕ) → nodeAt (take n (memOf (now (m .entry)) .nodes)) k .id ≡ id → r ≡ reasonFor (tablesIn n o (memOf (now (m .entry)))) (now (reply .entry)) (asked (listing k))) ⌝ }
+    ensures { λ r. ⌜ (soundNodes ID-BYTES (take n (memOf (now (m .entry)) .nodes)) ≡ true → (k o : ℕ)
+        → nodeAt (take n (memOf (now (m .entry)) .nodes)) k .id ≡ id
+        → r ≡ reasonFor (tablesIn n o (memOf (now (m .entry)))) (now (reply .entry)) (asked (listing k))) ⌝ }
 {
     let mut seen = [0u8; limits::NODES];
     let mut count = 0;

@@ -90,7 +90,8 @@ module _ (c : Config) (m : List ℕ) (g : Guard) (e : g ≡ numbersOf (memOf m .
         omega (arith, nodes-loaded m g e c)
 
 -- a mode that was set, and nothing pending
-pub chmod-ends : (c : Config) (m x : List ℕ) (k mode : ℕ) → memOf x ≡ withNodes (setMode (memOf m .nodes) k mode) (memOf m) → k < numbersOf (memOf m .head) .nodes
+pub chmod-ends : (c : Config) (m x : List ℕ) (k mode : ℕ) → memOf x ≡ withNodes (setMode (memOf m .nodes) k mode) (memOf m)
+    → k < numbersOf (memOf m .head) .nodes
     → ends c (stateOf c x) (stateOf c x .skeleton .tables) (stateOf c x .contents)
     ≡ ends c (stateOf c m) (record { nodes = setMode (stateOf c m .skeleton .tables .nodes) k mode; opens = stateOf c m .skeleton .tables .opens }) (stateOf c m .contents)
 unfolding ends restingState stateOf stateIn viewOf

@@ -15,7 +15,9 @@ ghost use Rattle.outcomes.specs.Answered.{answered};
 // close: the open file is taken out.
 pub fn accept_close(m: &mut [u8], reply: &[u8]) -> outcomes::Outcome
     requires { ⌜ (numbersOf (memOf (now m) .head) .call ≡ 3) × (memorySize ≤ length (now m)) ⌝ }
-    ensures { λ r. ⌜ ((c : Config) → c .width ≡ ID-BYTES → numbersOf (memOf (now (m .entry)) .head) .opened < numbersOf (memOf (now (m .entry)) .head) .opens → (q : List ℕ) → Sends c (answered c (stateOf c (now (m .entry))) (now (reply .entry))) r (now (m .exit)) q q) ⌝ }
+    ensures { λ r. ⌜ ((c : Config) → c .width ≡ ID-BYTES
+        → numbersOf (memOf (now (m .entry)) .head) .opened < numbersOf (memOf (now (m .entry)) .head) .opens → (q : List ℕ)
+        → Sends c (answered c (stateOf c (now (m .entry))) (now (reply .entry))) r (now (m .exit)) q q) ⌝ }
     ensures { λ _. ⌜ length (now (m .exit)) ≡ length (now (m .entry)) ⌝ }
 {
     let b = replies::judge_status(reply, 0);
@@ -40,7 +42,10 @@ pub fn accept_close(m: &mut [u8], reply: &[u8]) -> outcomes::Outcome
 // chmod: the node has the new mode.
 pub fn accept_chmod(m: &mut [u8], reply: &[u8]) -> outcomes::Outcome
     requires { ⌜ (numbersOf (memOf (now m) .head) .call ≡ 5) × (memorySize ≤ length (now m)) ⌝ }
-    ensures { λ r. ⌜ ((c : Config) → c .width ≡ ID-BYTES → numbersOf (memOf (now (m .entry)) .head) .node < numbersOf (memOf (now (m .entry)) .head) .nodes → numbersOf (memOf (now (m .entry)) .head) .mode < 256 → (q : List ℕ) → Sends c (answered c (stateOf c (now (m .entry))) (now (reply .entry))) r (now (m .exit)) q q) ⌝ }
+    ensures { λ r. ⌜ ((c : Config) → c .width ≡ ID-BYTES
+        → numbersOf (memOf (now (m .entry)) .head) .node < numbersOf (memOf (now (m .entry)) .head) .nodes
+        → numbersOf (memOf (now (m .entry)) .head) .mode < 256 → (q : List ℕ)
+        → Sends c (answered c (stateOf c (now (m .entry))) (now (reply .entry))) r (now (m .exit)) q q) ⌝ }
     ensures { λ _. ⌜ length (now (m .exit)) ≡ length (now (m .entry)) ⌝ }
 {
     let b = replies::judge_status(reply, 0);
@@ -60,7 +65,10 @@ pub fn accept_chmod(m: &mut [u8], reply: &[u8]) -> outcomes::Outcome
 // remove and rmdir: the node is taken out, and its digests.
 pub fn accept_remove(m: &mut [u8], reply: &[u8]) -> outcomes::Outcome
     requires { ⌜ (numbersOf (memOf (now m) .head) .call ≡ 4) × (memorySize ≤ length (now m)) ⌝ }
-    ensures { λ r. ⌜ ((c : Config) → c .width ≡ ID-BYTES → numbersOf (memOf (now (m .entry)) .head) .node < numbersOf (memOf (now (m .entry)) .head) .nodes → pageTotal (stateOf c (now (m .entry)) .skeleton .tables .nodes) ≤ PAGES → (q : List ℕ) → Sends c (answered c (stateOf c (now (m .entry))) (now (reply .entry))) r (now (m .exit)) q q) ⌝ }
+    ensures { λ r. ⌜ ((c : Config) → c .width ≡ ID-BYTES
+        → numbersOf (memOf (now (m .entry)) .head) .node < numbersOf (memOf (now (m .entry)) .head) .nodes
+        → pageTotal (stateOf c (now (m .entry)) .skeleton .tables .nodes) ≤ PAGES → (q : List ℕ)
+        → Sends c (answered c (stateOf c (now (m .entry))) (now (reply .entry))) r (now (m .exit)) q q) ⌝ }
     ensures { λ _. ⌜ length (now (m .exit)) ≡ length (now (m .entry)) ⌝ }
 {
     let b = replies::judge_status(reply, 0);
@@ -88,7 +96,10 @@ pub fn accept_remove(m: &mut [u8], reply: &[u8]) -> outcomes::Outcome
 // open: one more open file, at its beginning; done with its id, which is its handle.
 pub fn accept_open(m: &mut [u8], reply: &[u8]) -> outcomes::Outcome
     requires { ⌜ (numbersOf (memOf (now m) .head) .call ≡ 2) × (memorySize ≤ length (now m)) ⌝ }
-    ensures { λ r. ⌜ ((c : Config) → c .width ≡ ID-BYTES → numbersOf (memOf (now (m .entry)) .head) .node < numbersOf (memOf (now (m .entry)) .head) .nodes → numbersOf (memOf (now (m .entry)) .head) .opens < openRows → numbersOf (memOf (now (m .entry)) .head) .rights < 256 → (q : List ℕ) → Sends c (answered c (stateOf c (now (m .entry))) (now (reply .entry))) r (now (m .exit)) q q) ⌝ }
+    ensures { λ r. ⌜ ((c : Config) → c .width ≡ ID-BYTES
+        → numbersOf (memOf (now (m .entry)) .head) .node < numbersOf (memOf (now (m .entry)) .head) .nodes
+        → numbersOf (memOf (now (m .entry)) .head) .opens < openRows → numbersOf (memOf (now (m .entry)) .head) .rights < 256 → (q : List ℕ)
+        → Sends c (answered c (stateOf c (now (m .entry))) (now (reply .entry))) r (now (m .exit)) q q) ⌝ }
     ensures { λ _. ⌜ length (now (m .exit)) ≡ length (now (m .entry)) ⌝ }
 {
     let g = guard_state::Guard::load(m);
@@ -120,7 +131,10 @@ pub fn accept_open(m: &mut [u8], reply: &[u8]) -> outcomes::Outcome
 // create and mkdir: one more node, behind the others, with the staged name; done with its id.
 pub fn accept_create(m: &mut [u8], reply: &[u8]) -> outcomes::Outcome
     requires { ⌜ (numbersOf (memOf (now m) .head) .call ≡ 1) × (memorySize ≤ length (now m)) ⌝ }
-    ensures { λ r. ⌜ ((c : Config) → c .width ≡ ID-BYTES → numbersOf (memOf (now (m .entry)) .head) .nodes < NODES → numbersOf (memOf (now (m .entry)) .head) .bytes ≤ NAME-BYTES → numbersOf (memOf (now (m .entry)) .head) .kind < 256 → numbersOf (memOf (now (m .entry)) .head) .mode < 256 → (q : List ℕ) → Sends c (answered c (stateOf c (now (m .entry))) (now (reply .entry))) r (now (m .exit)) q q) ⌝ }
+    ensures { λ r. ⌜ ((c : Config) → c .width ≡ ID-BYTES → numbersOf (memOf (now (m .entry)) .head) .nodes < NODES
+        → numbersOf (memOf (now (m .entry)) .head) .bytes ≤ NAME-BYTES → numbersOf (memOf (now (m .entry)) .head) .kind < 256
+        → numbersOf (memOf (now (m .entry)) .head) .mode < 256 → (q : List ℕ)
+        → Sends c (answered c (stateOf c (now (m .entry))) (now (reply .entry))) r (now (m .exit)) q q) ⌝ }
     ensures { λ _. ⌜ length (now (m .exit)) ≡ length (now (m .entry)) ⌝ }
 {
     let g = guard_state::Guard::load(m);
@@ -156,7 +170,11 @@ pub fn accept_create(m: &mut [u8], reply: &[u8]) -> outcomes::Outcome
 // stat: done with the size, and the reply's bytes.
 pub fn accept_stat(m: &mut [u8], reply: &[u8], answer: &mut [u8]) -> outcomes::Outcome
     requires { ⌜ (numbersOf (memOf (now m) .head) .call ≡ 7) × (memorySize ≤ length (now m)) ⌝ }
-    ensures { λ r. ⌜ ((c : Config) → c .width ≡ ID-BYTES → numbersOf (memOf (now (m .entry)) .head) .node < numbersOf (memOf (now (m .entry)) .head) .nodes → answerLength c ≤ length (now (answer .entry)) → Fills c (answered c (stateOf c (now (m .entry))) (now (reply .entry))) r (now (m .exit)) (now (answer .entry)) (now (answer .exit))) ⌝ }
+    ensures { λ r. ⌜ ((c : Config) → c .width ≡ ID-BYTES
+        → numbersOf (memOf (now (m .entry)) .head) .node < numbersOf (memOf (now (m .entry)) .head) .nodes
+        → answerLength c ≤ length (now (answer .entry))
+        → Fills c (answered c (stateOf c (now (m .entry))) (now (reply .entry))) r (now (m .exit)) (now (answer .entry))
+        (now (answer .exit))) ⌝ }
     ensures { λ _. ⌜ length (now (m .exit)) ≡ length (now (m .entry)) ⌝ }
 {
     let g = guard_state::Guard::load(m);
@@ -185,7 +203,11 @@ pub fn accept_stat(m: &mut [u8], reply: &[u8], answer: &mut [u8]) -> outcomes::O
 // readdir: done with the number of entries, and the reply's bytes. A right listing is no longer than the answer buffer.
 pub fn accept_listing(m: &mut [u8], reply: &[u8], answer: &mut [u8]) -> outcomes::Outcome
     requires { ⌜ (numbersOf (memOf (now m) .head) .call ≡ 6) × (memorySize ≤ length (now m)) ⌝ }
-    ensures { λ r. ⌜ ((c : Config) → c .width ≡ ID-BYTES → ValidNodes ID-BYTES (stateOf c (now (m .entry)) .skeleton .tables .nodes) → numbersOf (memOf (now (m .entry)) .head) .node < numbersOf (memOf (now (m .entry)) .head) .nodes → answerLength c ≤ length (now (answer .entry)) → Fills c (answered c (stateOf c (now (m .entry))) (now (reply .entry))) r (now (m .exit)) (now (answer .entry)) (now (answer .exit))) ⌝ }
+    ensures { λ r. ⌜ ((c : Config) → c .width ≡ ID-BYTES → ValidNodes ID-BYTES (stateOf c (now (m .entry)) .skeleton .tables .nodes)
+        → numbersOf (memOf (now (m .entry)) .head) .node < numbersOf (memOf (now (m .entry)) .head) .nodes
+        → answerLength c ≤ length (now (answer .entry))
+        → Fills c (answered c (stateOf c (now (m .entry))) (now (reply .entry))) r (now (m .exit)) (now (answer .entry))
+        (now (answer .exit))) ⌝ }
     ensures { λ _. ⌜ length (now (m .exit)) ≡ length (now (m .entry)) ⌝ }
 {
     let g = guard_state::Guard::load(m);

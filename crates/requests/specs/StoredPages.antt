@@ -51,7 +51,8 @@ length-resized : (b : List ℕ) (n : ℕ) → length (resized b n) ≡ n
 unfolding resized
 length-resized b n = length-tab n _
 
-pub page-put : (l : List ℕ) (at : ℕ) (b : List ℕ) → at ≤ length l → length b ≤ 1024 → overwrite (overwrite l at b) (at + length b) (zeros (1024 - length b)) ≡ overwrite l at (resized b 1024)
+pub page-put : (l : List ℕ) (at : ℕ) (b : List ℕ) → at ≤ length l → length b ≤ 1024
+    → overwrite (overwrite l at b) (at + length b) (zeros (1024 - length b)) ≡ overwrite l at (resized b 1024)
 page-put l at b f h = overwrite-next l at b (zeros (1024 - length b)) (at + length b) refl f ∙ rw (resized-zeros b 1024 h)
 
 -- the first n bytes of a page, up to a size
@@ -170,7 +171,8 @@ module _ (page : List ℕ) (position : ℕ) (d : List ℕ) (i from to : ℕ) (f 
             ∙ sym (getD-tab 1024 _ j 0 h)
 
     -- over the page that was put
-    pub written-put : (l : List ℕ) (at : ℕ) → at + 1024 ≤ length l → overwrite (overwrite l at (resized page 1024)) (at + place) (take (to - from) (drop from d)) ≡ overwrite l at (fill (writing position d) i page)
+    pub written-put : (l : List ℕ) (at : ℕ) → at + 1024 ≤ length l
+        → overwrite (overwrite l at (resized page 1024)) (at + place) (take (to - from) (drop from d)) ≡ overwrite l at (fill (writing position d) i page)
     unfolding part
     written-put l at h =
         overwrite-within l at (resized page 1024) place (part from (to - from) d) (rw (length-resized page 1024) room) (rw (length-resized page 1024) h) ∙ rw written

@@ -47,7 +47,8 @@ fn put_plain(out: &mut [u8], kind: u8, path: &[u8]) -> usize
 
 fn put_numbered(out: &mut [u8], kind: u8, number: u8, path: &[u8]) -> usize
     requires { ⌜ 2 + length (now path) ≤ length (now out) ⌝ }
-    ensures { λ r. ⌜ (now (out .exit) ≡ atFront (kind ∷ number ∷ now (path .entry)) (now (out .entry))) × (r ≡ 2 + length (now (path .entry))) ⌝ }
+    ensures { λ r. ⌜ (now (out .exit) ≡ atFront (kind ∷ number ∷ now (path .entry)) (now (out .entry)))
+        × (r ≡ 2 + length (now (path .entry))) ⌝ }
 {
     let front = [kind, number];
     buffers::put(out, 0, &front);
@@ -68,7 +69,8 @@ fn has_number(kind: u8) -> bool
 // A call by path sends itself: its kind, its mode or rights where it has one, and the path.
 pub fn write_path(out: &mut [u8], kind: u8, number: u8, path: &[u8]) -> usize
     requires { ⌜ (length (now path) ≤ PATH-BYTES) × (storeLength ≤ length (now out)) ⌝ }
-    ensures { λ r. ⌜ (now (out .exit) ≡ atFront (pathRequest kind number (now (path .entry))) (now (out .entry))) × (r ≡ length (pathRequest kind number (now (path .entry)))) ⌝ }
+    ensures { λ r. ⌜ (now (out .exit) ≡ atFront (pathRequest kind number (now (path .entry))) (now (out .entry)))
+        × (r ≡ length (pathRequest kind number (now (path .entry)))) ⌝ }
 {
     if has_number(kind) {
         return put_numbered(out, kind, number, path);
@@ -88,7 +90,8 @@ pub fn write_close(out: &mut [u8], descriptor: u32) -> usize
 // fetch: the descriptor and the page.
 pub fn write_fetch(out: &mut [u8], descriptor: u32, page: u32) -> usize
     requires { ⌜ storeLength ≤ length (now out) ⌝ }
-    ensures { λ r. ⌜ (now (out .exit) ≡ atFront (fetchRequest descriptor page) (now (out .entry))) × (r ≡ length (fetchRequest descriptor page)) ⌝ }
+    ensures { λ r. ⌜ (now (out .exit) ≡ atFront (fetchRequest descriptor page) (now (out .entry)))
+        × (r ≡ length (fetchRequest descriptor page)) ⌝ }
 {
     put_longer(out, 6, descriptor, page as u64);
     9
@@ -97,7 +100,8 @@ pub fn write_fetch(out: &mut [u8], descriptor: u32, page: u32) -> usize
 // cut: the descriptor and the size.
 pub fn write_cut(out: &mut [u8], descriptor: u32, size: u32) -> usize
     requires { ⌜ storeLength ≤ length (now out) ⌝ }
-    ensures { λ r. ⌜ (now (out .exit) ≡ atFront (cutRequest descriptor size) (now (out .entry))) × (r ≡ length (cutRequest descriptor size)) ⌝ }
+    ensures { λ r. ⌜ (now (out .exit) ≡ atFront (cutRequest descriptor size) (now (out .entry)))
+        × (r ≡ length (cutRequest descriptor size)) ⌝ }
 {
     put_longer(out, 8, descriptor, size as u64);
     9
@@ -128,7 +132,8 @@ fn put_page(out: &mut [u8], at: usize, page: &[u8])
 // Page i as a write stores it, over a part of out.
 fn put_written(out: &mut [u8], at: usize, page: &[u8], position: usize, bytes: &[u8], i: usize)
     requires { ⌜ (at + PAGE-BYTES ≤ length (now out)) × (length (now page) ≤ PAGE-BYTES) × (position ≤ FILE-BYTES) × (i ≤ 64) ⌝ }
-    ensures { λ _. ⌜ now (out .exit) ≡ overwrite (now (out .entry)) at (fill (writing position (now (bytes .entry))) i (now (page .entry))) ⌝ }
+    ensures { λ _. ⌜ now (out .exit) ≡ overwrite (now (out .entry)) at
+        (fill (writing position (now (bytes .entry))) i (now (page .entry))) ⌝ }
 {
     put_page(out, at, page);
     let start = i * limits::PAGE_BYTES;
@@ -173,7 +178,9 @@ pub fn write_store(
     bytes: &[u8],
 ) -> usize
     requires { ⌜ (storeLength ≤ length (now out)) × (length (now page) ≤ PAGE-BYTES) × (position ≤ FILE-BYTES) × (i ≤ 64) ⌝ }
-    ensures { λ r. ⌜ (now (out .exit) ≡ atFront (storeRequest descriptor i size (fill (writing position (now (bytes .entry))) i (now (page .entry)))) (now (out .entry))) × (r ≡ storeLength) ⌝ }
+    ensures { λ r. ⌜ (now (out .exit) ≡ atFront (storeRequest descriptor i size
+        (fill (writing position (now (bytes .entry))) i (now (page .entry)))) (now (out .entry)))
+        × (r ≡ storeLength) ⌝ }
 {
     put_store(out, descriptor, i, size);
     put_written(out, STORE_FRONT, page, position, bytes, i);
@@ -190,7 +197,9 @@ pub fn write_store_cut(
     to: usize,
 ) -> usize
     requires { ⌜ (storeLength ≤ length (now out)) × (length (now page) ≤ PAGE-BYTES) × (to ≤ FILE-BYTES) × (i ≤ 64) ⌝ }
-    ensures { λ r. ⌜ (now (out .exit) ≡ atFront (storeRequest descriptor i size (fill (shrinking to) i (now (page .entry)))) (now (out .entry))) × (r ≡ storeLength) ⌝ }
+    ensures { λ r. ⌜ (now (out .exit) ≡ atFront (storeRequest descriptor i size (fill (shrinking to) i (now (page .entry))))
+        (now (out .entry)))
+        × (r ≡ storeLength) ⌝ }
 {
     put_store(out, descriptor, i, size);
     put_cut(out, STORE_FRONT, page, to, i);

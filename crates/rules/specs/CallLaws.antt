@@ -105,19 +105,22 @@ module _ (w : ℕ) where
   arm kind k s c x y f g =
       pick-ind (λ o. o ≡ some c → Written (kind ∷ s) c) (eqb kind k) (λ t e. subst (λ n. Written (n ∷ s) c) (sym (eqb-true kind k t)) (f e)) (λ t e. g e)
 
-  with-path : (k : ℕ) (make : Path → Call) (s : List ℕ) (c : Call) → Bytes s → ((p : Path) → callBytes w (make p) ≡ k ∷ pathBytes p) → ((p : Path) → PathFits p → CallFits w (make p))
+  with-path : (k : ℕ) (make : Path → Call) (s : List ℕ) (c : Call) → Bytes s → ((p : Path) → callBytes w (make p) ≡ k ∷ pathBytes p)
+      → ((p : Path) → PathFits p → CallFits w (make p))
       → byPath make s ≡ some c → Written (k ∷ s) c
   with-path k make s c b is ok e =
       let (p, z, q, f) = path-written make s c b e in
       subst (λ c. Written (k ∷ s) c) z (ap (λ l. k ∷ l) q ∙ sym (is p), ok p f)
 
-  with-number-path : (k a m : ℕ) (make : ℕ → Path → Call) (s : List ℕ) (c : Call) → Bytes s → ((n : ℕ) (p : Path) → callBytes w (make n p) ≡ k ∷ n ∷ pathBytes p)
+  with-number-path : (k a m : ℕ) (make : ℕ → Path → Call) (s : List ℕ) (c : Call) → Bytes s
+      → ((n : ℕ) (p : Path) → callBytes w (make n p) ≡ k ∷ n ∷ pathBytes p)
       → ((n : ℕ) (p : Path) → (a ≤ n) × (n ≤ m) → PathFits p → CallFits w (make n p)) → byNumberAndPath a m make s ≡ some c → Written (k ∷ s) c
   with-number-path k a m make s c b is ok e =
       let (n, p, z, q, h, f) = number-path-written a m make s c b e in
       subst (λ c. Written (k ∷ s) c) z (ap (λ l. k ∷ l) q ∙ sym (is n p), ok n p h f)
 
-  with-handle-number : (k v : ℕ) (f : ℕ → Bool) (make : ℕ → ℕ → Call) (s : List ℕ) (c : Call) → Bytes s → ((h n : ℕ) → callBytes w (make h n) ≡ k ∷ (encode w h ++ encode v n))
+  with-handle-number : (k v : ℕ) (f : ℕ → Bool) (make : ℕ → ℕ → Call) (s : List ℕ) (c : Call) → Bytes s
+      → ((h n : ℕ) → callBytes w (make h n) ≡ k ∷ (encode w h ++ encode v n))
       → ((h n : ℕ) → h < 256 ^ w → n < 256 ^ v → f n ≡ true → CallFits w (make h n)) → byHandleAndNumber w v f make s ≡ some c → Written (k ∷ s) c
   with-handle-number k v f make s c b is ok e =
       let (h, n, z, q, x, y, t) = handle-number-written v f make s c b e in
@@ -151,7 +154,8 @@ module _ (w : ℕ) where
   unfolding byPath bind
   path-read make p f = rw (readPath-pathBytes p (f .form))
 
-  number-path-read : (a m : ℕ) (make : ℕ → Path → Call) (n : ℕ) (p : Path) → (a ≤ n) × (n ≤ m) → PathFits p → byNumberAndPath a m make (n ∷ pathBytes p) ≡ some (make n p)
+  number-path-read : (a m : ℕ) (make : ℕ → Path → Call) (n : ℕ) (p : Path) → (a ≤ n) × (n ≤ m) → PathFits p
+      → byNumberAndPath a m make (n ∷ pathBytes p) ≡ some (make n p)
   unfolding byNumberAndPath
   number-path-read a m make n p (l, h) f = pick-true _ _ _ (and-both _ _ (le-leb a n l) (le-leb n m h)) ∙ path-read (make n) p f
 
@@ -164,7 +168,8 @@ module _ (w : ℕ) where
   unfolding byHandleAndNumber bind
   handle-number-read v f make h n x y t = rw (whole-read-back (then (num w) (λ _. num v)) (h, n) (x, y)) (pick-true _ _ _ t)
 
-  handle-bytes-read : (make : ℕ → List ℕ → Call) (h : ℕ) (d : List ℕ) → h < 256 ^ w → length d ≤ DATA-BYTES → byHandleAndBytes w make (encode w h ++ d) ≡ some (make h d)
+  handle-bytes-read : (make : ℕ → List ℕ → Call) (h : ℕ) (d : List ℕ) → h < 256 ^ w → length d ≤ DATA-BYTES
+      → byHandleAndBytes w make (encode w h ++ d) ≡ some (make h d)
   unfolding byHandleAndBytes bind
   handle-bytes-read make h d x y = rw (num w .read-back h d x) (pick-true _ _ _ (le-leb _ _ y))
 

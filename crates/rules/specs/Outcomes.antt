@@ -175,7 +175,8 @@ module _ (c : Config) (sk : Skeleton) where
       (λ m f q. absurd (let z : _≡_ {A = ℕ} 0 1 = cc in omega arith)) (λ p q. subst Acts q (action-acts e p))
 
 -- SPECIFICATION 13.3: a reply that no reason stops is acted on.
-pub reply-goes : (c : Config) (sk : Skeleton) (r : List ℕ) (a q : ℕ) → Passed (eventChecks c sk (reply r a q)) → Passed (replyChecks (c .width) (sk .tables) r (sk .pending))
+pub reply-goes : (c : Config) (sk : Skeleton) (r : List ℕ) (a q : ℕ) → Passed (eventChecks c sk (reply r a q))
+    → Passed (replyChecks (c .width) (sk .tables) r (sk .pending))
     → judge c sk (reply r a q) ≡ replyAction (c .width) (sk .tables) r (sk .pending)
 unfolding judge eventAction
 reply-goes c sk r a q p h = decide-passed refuse _ _ p ∙ decide-passed halt _ _ h
@@ -217,7 +218,8 @@ module _ (t : Tables) where
       (both (λ q. absurd (omega arith)) (both (λ q. absurd (omega arith)) (both (λ q. absurd (omega arith)) (both (λ _ b. leb-true _ _ b) all-none)))))) f refl refl
 
 -- A call in range, with long enough buffers, while nothing stands: its own checks decide.
-pub judge-call : (c : Config) (sk : Skeleton) (q : Call) (a b : ℕ) → CallFits (c .width) q → sk .stopped ≡ false → sk .pending ≡ idle → answerLength c ≤ a → requestLength c ≤ b
+pub judge-call : (c : Config) (sk : Skeleton) (q : Call) (a b : ℕ) → CallFits (c .width) q → sk .stopped ≡ false → sk .pending ≡ idle → answerLength c ≤ a
+    → requestLength c ≤ b
     → judge c sk (call (callBytes (c .width) q) a b) ≡ decide refuse (callChecks (sk .tables) q) (callAction (sk .tables) (c .width) q)
 unfolding judge eventChecks eventAction decide isIdle isNone callOr
 judge-call c sk q a b f running quiet h l =

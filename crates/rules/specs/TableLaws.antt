@@ -72,12 +72,14 @@ module _ (w : ℕ) (t : Tables) (v : ValidTables w t) where
   handles-apart i o h l e = unique-same sameHandle noOpenFile (λ x y q. eq-eqb (y .handle) (x .handle) (sym (eqb-true (x .handle) (y .handle) q))) (t .opens) i o (v .once) h l (eq-eqb _ _ e)
 
   -- other nodes, of which each open file is one
-  nodes-changed : (ns : List Node) → ValidNodes w ns → ((i : ℕ) → i < length (t .opens) → ValidOpen ns (openAt (t .opens) i)) → ValidTables w (record { nodes = ns; opens = t .opens })
+  nodes-changed : (ns : List Node) → ValidNodes w ns → ((i : ℕ) → i < length (t .opens) → ValidOpen ns (openAt (t .opens) i))
+      → ValidTables w (record { nodes = ns; opens = t .opens })
   unfolding openAt
   nodes-changed ns n f = record { nodes-valid = n; opened = at-all noOpenFile (t .opens) f; once = v .once; apart = v .apart; few = v .few }
 
   -- another cursor in place o, and other nodes
-  moved : (ns : List Node) (o p : ℕ) → ValidNodes w ns → All (ValidOpen ns) (setCursor (t .opens) o p) → ValidTables w (record { nodes = ns; opens = setCursor (t .opens) o p })
+  moved : (ns : List Node) (o p : ℕ) → ValidNodes w ns → All (ValidOpen ns) (setCursor (t .opens) o p)
+      → ValidTables w (record { nodes = ns; opens = setCursor (t .opens) o p })
   unfolding setCursor openAt
   moved ns o p n a =
       let y = withCursor p (openAt (t .opens) o) in
@@ -144,7 +146,8 @@ change-valid w t k o q v x =
         of-place w ms (valid .sound) (openAt os i) j
         (place-set ns k n refl refl (openAt os i) (openAt os i .cursor) j (find i h) (rw (getD-set-other ns k j n noNode d) (find i h .inside)))
 
-pub open-valid : (w : ℕ) (t : Tables) (k rights d : ℕ) → ValidTables w t → OpeningFits (t .nodes) (t .opens) k rights → d < 1024 → length (t .opens) ≤ findDescriptor (t .opens) d
+pub open-valid : (w : ℕ) (t : Tables) (k rights d : ℕ) → ValidTables w t → OpeningFits (t .nodes) (t .opens) k rights → d < 1024
+    → length (t .opens) ≤ findDescriptor (t .opens) d
     → ValidTables w (record { nodes = t .nodes; opens = t .opens ++ (newOpenFile (nodeAt (t .nodes) k .id) d rights ∷ []) })
 unfolding findHandle findDescriptor
 open-valid w t k rights d v x l new =
@@ -158,7 +161,8 @@ open-valid w t k rights d v x l new =
       few = rw length-append (let r = x .room in omega arith);
     }
 
-pub close-valid : (w : ℕ) (t : Tables) (o : ℕ) → ValidTables w t → o < length (t .opens) → ValidTables w (record { nodes = t .nodes; opens = without o (t .opens) })
+pub close-valid : (w : ℕ) (t : Tables) (o : ℕ) → ValidTables w t → o < length (t .opens)
+    → ValidTables w (record { nodes = t .nodes; opens = without o (t .opens) })
 close-valid w t o v h = record {
   nodes-valid = v .nodes-valid;
   opened = all-without o (v .opened);
@@ -167,7 +171,8 @@ close-valid w t o v h = record {
   few = let n = length-without o (t .opens) h in let f = v .few in omega arith;
 }
 
-pub mode-valid : (w : ℕ) (t : Tables) (k m : ℕ) → ValidTables w t → ChangingFits (t .nodes) (t .opens) k m → ValidTables w (record { nodes = setMode (t .nodes) k m; opens = t .opens })
+pub mode-valid : (w : ℕ) (t : Tables) (k m : ℕ) → ValidTables w t → ChangingFits (t .nodes) (t .opens) k m
+    → ValidTables w (record { nodes = setMode (t .nodes) k m; opens = t .opens })
 unfolding setMode nodeAt
 mode-valid w t k m v x = nodes-changed w t v ms valid (λ i h. same (openAt (t .opens) i) (valid-at w t v i h))
   where
@@ -237,7 +242,8 @@ add-valid w t p k m name x v f some fits new = nodes-changed w t v ms valid (λ 
         let h = q .known in
         of-place w ms (valid .sound) o j (place-moved ns ms o j j (rw length-append (omega arith)) (nodeAt-append ns _ j h) (to-place ns o q))
 
-pub delete-valid : (w : ℕ) (t : Tables) (k : ℕ) → ValidTables w t → RemovingFits (t .nodes) (t .opens) k → ValidTables w (record { nodes = without k (t .nodes); opens = t .opens })
+pub delete-valid : (w : ℕ) (t : Tables) (k : ℕ) → ValidTables w t → RemovingFits (t .nodes) (t .opens) k
+    → ValidTables w (record { nodes = without k (t .nodes); opens = t .opens })
 unfolding nodeAt openAt findHandle
 delete-valid w t k v x = nodes-changed w t v ms valid (λ i h. other i h (to-place ns (openAt os i) (valid-at w t v i h)))
   where

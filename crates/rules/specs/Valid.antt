@@ -171,7 +171,8 @@ pub data Fits (c : Config) (sk : Skeleton) (e : Event) : Move → Type 0 where
       → FetchFits (sk .tables .nodes) (sk .tables .opens) k o q i → Fits c sk e (fillPage k o q i r)
   fStored : {k o : ℕ} {q : Change} {i : ℕ} → Plain e → sk .pending ≡ storing k o q i → PageFits (sk .tables .nodes) (sk .tables .opens) k o q i
       → Fits c sk e (stored k o q i)
-  fCutDone : {k o : ℕ} {q : Change} → Plain e → sk .pending ≡ cutting k o q → ChangeFits (sk .tables .nodes) (sk .tables .opens) k o q → Fits c sk e (cutDone k o q)
+  fCutDone : {k o : ℕ} {q : Change} → Plain e → sk .pending ≡ cutting k o q → ChangeFits (sk .tables .nodes) (sk .tables .opens) k o q
+      → Fits c sk e (cutDone k o q)
   fSaving : {n : ℕ} → e ≡ save n → sk .pending ≡ idle → sk .tables .opens ≡ [] → Fits c sk e saving
   fLoading : {i : Image} {image d : List ℕ} → e ≡ load image d → sk .tables .opens ≡ [] → c .digest image ≡ d → parse (c .width) image ≡ some i
       → Fits c sk e (loading i d)

@@ -148,7 +148,8 @@ module _ (blank : List ℕ) (ns : List Node) (ds : List (List ℕ)) (k size from
             let d = h .covered in
             absurd (true≢false (sym (and-both _ _ (le-leb from i (omega arith)) (lt-ltb i (from + length new) (omega arith))) ∙ n))
 
-    contents-changed : (y : Node) → y .size ≡ size → divide (set ns k y) (overwrite moved (f + from) new) ≡ set (divide ns ds) k (replaced blank (getD (divide ns ds) k []) size from new)
+    contents-changed : (y : Node) → y .size ≡ size
+        → divide (set ns k y) (overwrite moved (f + from) new) ≡ set (divide ns ds) k (replaced blank (getD (divide ns ds) k []) size from new)
     contents-changed y e =
         let g = h .fits-after in
         let l : length (part f q ds) ≡ q = length-part f q ds (omega arith) in
@@ -160,7 +161,8 @@ module _ (blank : List ℕ) (ns : List Node) (ds : List (List ℕ)) (k size from
         ∙ ap (λ (x : List (List ℕ)). replaced blank x size from new) (ap₂ (λ i j. part i j ds) (h .is-first) (h .is-old) ∙ sym (divide-at ns k (h .known) ds)))
 
 -- the page total with node k of another size
-pub total-set : (ns : List Node) (k size : ℕ) → k < length ns → pageTotal (setSize ns k size) ≡ pageTotal (take k ns) + (pagesFor size + pageTotal (drop (suc k) ns))
+pub total-set : (ns : List Node) (k size : ℕ) → k < length ns
+    → pageTotal (setSize ns k size) ≡ pageTotal (take k ns) + (pagesFor size + pageTotal (drop (suc k) ns))
 unfolding pageTotal setSize
 total-set ns k size h = ap pageTotal (set-split ns k _ h) ∙ pageTotal-append (take k ns) _
 
@@ -221,7 +223,8 @@ module _ (m : List ℕ) {n k : ℕ} {s : Span} (h : Spans (memOf m .nodes) n k s
         → overwrite ds (s .first + new) (part (s .end) b ds) ≡ overwrite ds (s .first + pagesFor size) (part (s .end) (s .total - s .end) ds)
     moved-rows ds l = go (is (eqb old new))
       where
-        go : Is (eqb old new) → overwrite ds (s .first + new) (part (s .end) b ds) ≡ overwrite ds (s .first + pagesFor size) (part (s .end) (s .total - s .end) ds)
+        go : Is (eqb old new)
+            → overwrite ds (s .first + new) (part (s .end) b ds) ≡ overwrite ds (s .first + pagesFor size) (part (s .end) (s .total - s .end) ds)
         go (isF e) = ap₂ (λ (i j : ℕ). overwrite ds (s .first + i) (part (s .end) j ds)) is-new (moves ∙ pick-false _ _ _ e)
         go (isT e) =
             let z : s .end ≡ s .first + pagesFor size = omega (arith, h .ends, is-old, is-new, eqb-true old new e) in

@@ -40,7 +40,8 @@ module _ (m : Mem) (n o : ℕ) where
   unfolding viewOf
   view-open x h = ap (λ os. viewOpens os (viewOf n o m)) (front-added (m .opens) o (omega arith) x h)
 
-  pub view-close : (k : ℕ) → k < o → o ≤ length (m .opens) → viewOf n (o - 1) (withOpens (overwrite (m .opens) k (part (k + 1) (o - (k + 1)) (m .opens))) m) ≡ withoutOpen k (viewOf n o m)
+  pub view-close : (k : ℕ) → k < o → o ≤ length (m .opens)
+      → viewOf n (o - 1) (withOpens (overwrite (m .opens) k (part (k + 1) (o - (k + 1)) (m .opens))) m) ≡ withoutOpen k (viewOf n o m)
   unfolding viewOf
   view-close k h f = ap (λ os. viewOpens os (viewOf n o m)) (front-removed (m .opens) o f k h)
 

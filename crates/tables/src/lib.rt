@@ -36,7 +36,8 @@ pub fn find_id(m: &[u8], n: usize, id: u64) -> usize
 // The same, with a place that is tried first: ids differ among sound nodes, so where it has the id, the search would find it too.
 pub fn find_node(m: &[u8], n: usize, id: u64, hint: usize) -> usize
     requires { ⌜ (n ≤ NODES) × (memorySize ≤ length (now m)) ⌝ }
-    ensures { λ r. ⌜ ((w : ℕ) → soundNodes w (take n (memOf (now (m .entry)) .nodes)) ≡ true → r ≡ findId (take n (memOf (now (m .entry)) .nodes)) id) ⌝ }
+    ensures { λ r. ⌜ ((w : ℕ) → soundNodes w (take n (memOf (now (m .entry)) .nodes)) ≡ true
+        → r ≡ findId (take n (memOf (now (m .entry)) .nodes)) id) ⌝ }
 {
     if hint < n {
         if memory::node_id(m, hint) == id {
@@ -48,14 +49,16 @@ pub fn find_node(m: &[u8], n: usize, id: u64, hint: usize) -> usize
 
 // The first place from i on where the node with this parent and this name may stand, or the count of nodes. Its loop has no other inside, so
 // that it is compiled to one pointer along the rows.
-fn next_like(m: &[u8], i: usize, nodes: usize, parent: u64, name: &[u8]) -> usize
+fn next_candidate(m: &[u8], i: usize, nodes: usize, parent: u64, name: &[u8]) -> usize
     requires { ⌜ (i ≤ nodes) × (nodes ≤ NODES) × (memorySize ≤ length (now m)) ⌝ }
-    ensures { λ r. ⌜ (i ≤ r) × (r ≤ nodes) × (childFrom i (take nodes (memOf (now (m .entry)) .nodes)) parent (now (name .entry)) ≡ childFrom r (take nodes (memOf (now (m .entry)) .nodes)) parent (now (name .entry))) ⌝ }
+    ensures { λ r. ⌜ (i ≤ r) × (r ≤ nodes)
+        × (childFrom i (take nodes (memOf (now (m .entry)) .nodes)) parent (now (name .entry)) ≡ childFrom r
+        (take nodes (memOf (now (m .entry)) .nodes)) parent (now (name .entry))) ⌝ }
 {
     let mut k = i;
     // none from i to k is it
     while k < nodes {
-        if memory::is_like(m, k, parent, name) {
+        if memory::may_be_child(m, k, parent, name) {
             return k;
         }
         k += 1;
@@ -71,7 +74,7 @@ pub fn find_child(m: &[u8], nodes: usize, parent: u64, name: &[u8]) -> usize
     let mut i = 0;
     // none before i is it
     while i < nodes {
-        let k = next_like(m, i, nodes, parent, name);
+        let k = next_candidate(m, i, nodes, parent, name);
         if k == nodes {
             return k;
         }
@@ -145,7 +148,8 @@ pub fn pages_for(size: u32) -> usize
 
 // How many pages the first n nodes have, where the first k have s.
 fn pages_on(m: &[u8], k: usize, s: usize, n: usize) -> usize
-    requires { ⌜ (k ≤ n) × (n ≤ NODES) × (s ≡ pageTotal (take k (memOf (now m) .nodes))) × (s ≤ k * 4194304) × (memorySize ≤ length (now m)) ⌝ }
+    requires { ⌜ (k ≤ n) × (n ≤ NODES) × (s ≡ pageTotal (take k (memOf (now m) .nodes))) × (s ≤ k * 4194304)
+        × (memorySize ≤ length (now m)) ⌝ }
     ensures { λ r. ⌜ (r ≡ pageTotal (take n (memOf (now (m .entry)) .nodes))) × (r ≤ n * 4194304) ⌝ }
 {
     let mut t = s;
@@ -227,7 +231,10 @@ pub fn remove_open(m: &mut [u8], o: usize, k: usize)
 // Whether these bytes are page i of node k: their SHA-256 is the kept one. Where no digest can stand, none is kept.
 pub fn is_page(m: &[u8], k: usize, i: usize, page: &[u8]) -> bool
     requires { ⌜ (k < NODES) × (i < 4194304) × (memorySize ≤ length (now m)) ⌝ }
-    ensures { λ r. ⌜ ((n : ℕ) → k < n → n ≤ NODES → i < pagesFor (nodeAt (memOf (now (m .entry)) .nodes) k .size) → pageTotal (take n (memOf (now (m .entry)) .nodes)) ≤ PAGES → r ≡ equal (sha256 (now (page .entry))) (getD (getD (divide (take n (memOf (now (m .entry)) .nodes)) (memOf (now (m .entry)) .digests)) k []) i [])) ⌝ }
+    ensures { λ r. ⌜ ((n : ℕ) → k < n → n ≤ NODES → i < pagesFor (nodeAt (memOf (now (m .entry)) .nodes) k .size)
+        → pageTotal (take n (memOf (now (m .entry)) .nodes)) ≤ PAGES
+        → r ≡ equal (sha256 (now (page .entry))) (getD (getD (divide (take n (memOf (now (m .entry)) .nodes))
+        (memOf (now (m .entry)) .digests)) k []) i [])) ⌝ }
 {
     let at = first_page(m, k) + i;
     if limits::PAGES <= at {
@@ -249,7 +256,8 @@ pub fn pages_with(m: &[u8], n: usize, k: usize, size: u32) -> usize
 // How many rows of digests stand behind those of node k, which end at `end`. Where the file keeps its count of pages none is moved, and none is
 // counted.
 fn rows_moved(m: &[u8], n: usize, k: usize, end: usize, old: usize, new: usize) -> usize
-    requires { ⌜ (k < n) × (n ≤ NODES) × (end ≡ pageTotal (take (k + 1) (memOf (now m) .nodes))) × (end ≤ (k + 1) * 4194304) × (memorySize ≤ length (now m)) ⌝ }
+    requires { ⌜ (k < n) × (n ≤ NODES) × (end ≡ pageTotal (take (k + 1) (memOf (now m) .nodes))) × (end ≤ (k + 1) * 4194304)
+        × (memorySize ≤ length (now m)) ⌝ }
     ensures { λ r. ⌜ (r ≡ pick (eqb old new) 0 (pageTotal (take n (memOf (now (m .entry)) .nodes)) - end)) × (r ≤ n * 4194304) ⌝ }
 {
     if old == new {
@@ -282,7 +290,9 @@ fn has_room(first: usize, old: usize, new: usize, behind: usize, from: usize, co
 // where these end.
 pub fn change_file(m: &mut [u8], n: usize, k: usize, size: u32, from: usize, count: usize) -> bool
     requires { ⌜ (n ≤ NODES) × (memorySize ≤ length (now m)) ⌝ }
-    ensures { λ r. ⌜ (Changeable (take n (memOf (now (m .entry)) .nodes)) k size from count → (r ≡ true) × ((blank : List ℕ) (o : ℕ) → viewOf n o (memOf (now (m .exit))) ≡ withChange blank k size from (stagedDigests count (memOf (now (m .entry)) .staged)) (viewOf n o (memOf (now (m .entry)))))) ⌝ }
+    ensures { λ r. ⌜ (Changeable (take n (memOf (now (m .entry)) .nodes)) k size from count → (r ≡ true)
+        × ((blank : List ℕ) (o : ℕ) → viewOf n o (memOf (now (m .exit))) ≡ withChange blank k size from
+        (stagedDigests count (memOf (now (m .entry)) .staged)) (viewOf n o (memOf (now (m .entry)))))) ⌝ }
     ensures { λ r. ⌜ (r ≡ false → now (m .exit) ≡ now (m .entry)) ⌝ }
     ensures { λ _. ⌜ length (now (m .exit)) ≡ length (now (m .entry)) ⌝ }
 {

@@ -61,7 +61,8 @@ module _ (c : Config) (m : List ℕ) where
   on-cutting i = refl
 
   module _ (l : Guard) (loaded : l ≡ numbersOf (memOf m .head)) where
-    opened-loaded : (d : ℕ) → g .opened < g .opens → d ≡ openAt (memOf m .opens) (l .opened) .descriptor → d ≡ descriptorAt c (digestStore c) (stateOf c m) (g .opened)
+    opened-loaded : (d : ℕ) → g .opened < g .opens → d ≡ openAt (memOf m .opens) (l .opened) .descriptor
+        → d ≡ descriptorAt c (digestStore c) (stateOf c m) (g .opened)
     opened-loaded d h e =
         e ∙ ap (λ (x : Guard). openAt (memOf m .opens) (x .opened) .descriptor) loaded ∙ ap (λ (x : OpenFile). x .descriptor) (open-loaded m c (g .opened) h)
 

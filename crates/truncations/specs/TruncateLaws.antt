@@ -37,7 +37,8 @@ use Rattle.changes.specs.BegunLaws.{begun-pages, passed-open, passed-node}
 use Rattle.truncations.specs.Shrinking.{Shrinking, shrinkIn}
 
 -- its handle is known, and its file is no shorter
-passed-truncate : (t : Tables) (h n : ℕ) → Passed (callChecks t (truncate h n)) → (findHandle (t .opens) h < length (t .opens)) × (ltb (file t h .size) n ≡ false)
+passed-truncate : (t : Tables) (h n : ℕ) → Passed (callChecks t (truncate h n))
+    → (findHandle (t .opens) h < length (t .opens)) × (ltb (file t h .size) n ≡ false)
 unfolding callChecks
 passed-truncate t h n (both f (both g _)) = (leb-false _ _ (or-fst _ _ f), g)
 
@@ -107,6 +108,7 @@ module _ (c : Config) (m : List ℕ) (held : Consistent c (stateOf c m)) (handle
             ∙ begun-pages c s p node opened (shrinking size)
             ∙ ap (apply c (digestStore c) s) (sym begins))
 
-pub shrink-call : (m m₁ : List ℕ) (k o z : ℕ) → numbersOf (memOf m₁ .head) ≡ shrinkNumbers (numbersOf (memOf m .head)) k o z → Shrinking (numbersOf (memOf m₁ .head) .call)
+pub shrink-call : (m m₁ : List ℕ) (k o z : ℕ) → numbersOf (memOf m₁ .head) ≡ shrinkNumbers (numbersOf (memOf m .head)) k o z
+    → Shrinking (numbersOf (memOf m₁ .head) .call)
 unfolding shrinkNumbers
 shrink-call m m₁ k o z e = let n : numbersOf (memOf m₁ .head) .call ≡ 11 = ap (λ (x : Guard). x .call) e in (omega arith, omega arith)

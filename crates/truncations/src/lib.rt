@@ -24,8 +24,12 @@ ghost use Rattle.truncations.specs.Shrinking.{Shrinking, shrinkIn};
 
 // The pending truncation asks for the cut.
 fn ask_cut(m: &mut [u8], request: &mut [u8]) -> outcomes::Outcome
-    requires { ⌜ Shrinking (numbersOf (memOf (now m) .head) .call) × (memorySize ≤ length (now m)) × (storeLength ≤ length (now request)) ⌝ }
-    ensures { λ r. ⌜ ((c : Config) → numbersOf (memOf (now (m .entry)) .head) .opened < numbersOf (memOf (now (m .entry)) .head) .opens → Sends c (pagesStored c (digestStore c) (stateOf c (now (m .entry))) (numbersOf (memOf (now (m .entry)) .head) .node) (numbersOf (memOf (now (m .entry)) .head) .opened) (shrinkIn (now (m .entry)))) r (now (m .exit)) (now (request .entry)) (now (request .exit))) ⌝ }
+    requires { ⌜ Shrinking (numbersOf (memOf (now m) .head) .call) × (memorySize ≤ length (now m))
+        × (storeLength ≤ length (now request)) ⌝ }
+    ensures { λ r. ⌜ ((c : Config) → numbersOf (memOf (now (m .entry)) .head) .opened < numbersOf (memOf (now (m .entry)) .head) .opens
+        → Sends c (pagesStored c (digestStore c) (stateOf c (now (m .entry))) (numbersOf (memOf (now (m .entry)) .head) .node)
+        (numbersOf (memOf (now (m .entry)) .head) .opened) (shrinkIn (now (m .entry)))) r (now (m .exit)) (now (request .entry))
+        (now (request .exit))) ⌝ }
     ensures { λ _. ⌜ length (now (m .exit)) ≡ length (now (m .entry)) ⌝ }
 {
     let g = guard_state::Guard::load(m);
@@ -37,8 +41,13 @@ fn ask_cut(m: &mut [u8], request: &mut [u8]) -> outcomes::Outcome
 
 // The page that the new end lies in goes out, with zeros from there on.
 fn store_page(m: &mut [u8], fetched: &[u8], request: &mut [u8]) -> outcomes::Outcome
-    requires { ⌜ Shrinking (numbersOf (memOf (now m) .head) .call) × (numbersOf (memOf (now m) .head) .digests < newDigests) × (length (now fetched) ≤ PAGE-BYTES) × (memorySize ≤ length (now m)) × (storeLength ≤ length (now request)) ⌝ }
-    ensures { λ r. ⌜ ((c : Config) → c .digest ≡ sha256 → Sending c (now (m .entry)) (shrinkIn (now (m .entry))) (numbersOf (memOf (now (m .entry)) .head) .page) → Sends c (askStore c (digestStore c) (stateOf c (now (m .entry))) (numbersOf (memOf (now (m .entry)) .head) .node) (numbersOf (memOf (now (m .entry)) .head) .opened) (shrinkIn (now (m .entry))) (numbersOf (memOf (now (m .entry)) .head) .page) (now (fetched .entry))) r (now (m .exit)) (now (request .entry)) (now (request .exit))) ⌝ }
+    requires { ⌜ Shrinking (numbersOf (memOf (now m) .head) .call) × (numbersOf (memOf (now m) .head) .digests < newDigests)
+        × (length (now fetched) ≤ PAGE-BYTES) × (memorySize ≤ length (now m)) × (storeLength ≤ length (now request)) ⌝ }
+    ensures { λ r. ⌜ ((c : Config) → c .digest ≡ sha256
+        → Sending c (now (m .entry)) (shrinkIn (now (m .entry))) (numbersOf (memOf (now (m .entry)) .head) .page)
+        → Sends c (askStore c (digestStore c) (stateOf c (now (m .entry))) (numbersOf (memOf (now (m .entry)) .head) .node)
+        (numbersOf (memOf (now (m .entry)) .head) .opened) (shrinkIn (now (m .entry))) (numbersOf (memOf (now (m .entry)) .head) .page)
+        (now (fetched .entry))) r (now (m .exit)) (now (request .entry)) (now (request .exit))) ⌝ }
     ensures { λ _. ⌜ length (now (m .exit)) ≡ length (now (m .entry)) ⌝ }
 {
     let g = guard_state::Guard::load(m);
@@ -51,8 +60,12 @@ fn store_page(m: &mut [u8], fetched: &[u8], request: &mut [u8]) -> outcomes::Out
 
 // The pending truncation asks for its first page, or, on a page's edge, for the cut.
 fn start(m: &mut [u8], request: &mut [u8]) -> outcomes::Outcome
-    requires { ⌜ Shrinking (numbersOf (memOf (now m) .head) .call) × (memorySize ≤ length (now m)) × (storeLength ≤ length (now request)) ⌝ }
-    ensures { λ r. ⌜ ((c : Config) → numbersOf (memOf (now (m .entry)) .head) .opened < numbersOf (memOf (now (m .entry)) .head) .opens → Sends c (pagesFrom c (digestStore c) (stateOf c (now (m .entry))) (numbersOf (memOf (now (m .entry)) .head) .node) (numbersOf (memOf (now (m .entry)) .head) .opened) (shrinkIn (now (m .entry))) (numbersOf (memOf (now (m .entry)) .head) .size / PAGE-BYTES)) r (now (m .exit)) (now (request .entry)) (now (request .exit))) ⌝ }
+    requires { ⌜ Shrinking (numbersOf (memOf (now m) .head) .call) × (memorySize ≤ length (now m))
+        × (storeLength ≤ length (now request)) ⌝ }
+    ensures { λ r. ⌜ ((c : Config) → numbersOf (memOf (now (m .entry)) .head) .opened < numbersOf (memOf (now (m .entry)) .head) .opens
+        → Sends c (pagesFrom c (digestStore c) (stateOf c (now (m .entry))) (numbersOf (memOf (now (m .entry)) .head) .node)
+        (numbersOf (memOf (now (m .entry)) .head) .opened) (shrinkIn (now (m .entry)))
+        (numbersOf (memOf (now (m .entry)) .head) .size / PAGE-BYTES)) r (now (m .exit)) (now (request .entry)) (now (request .exit))) ⌝ }
     ensures { λ _. ⌜ length (now (m .exit)) ≡ length (now (m .entry)) ⌝ }
 {
     let g = guard_state::Guard::load(m);
@@ -76,7 +89,11 @@ fn truncate_at(
     request: &mut [u8],
 ) -> outcomes::Outcome
     requires { ⌜ (opened < openRows) × (memorySize ≤ length (now m)) × (storeLength ≤ length (now request)) ⌝ }
-    ensures { λ r. ⌜ ((c : Config) → Consistent c (stateOf c (now (m .entry))) → (handle : ℕ) → PassedAt (stateOf c (now (m .entry)) .skeleton .tables) handle (truncate handle size) opened node → Sends c (apply c (digestStore c) (stateOf c (now (m .entry))) (callAction (stateOf c (now (m .entry)) .skeleton .tables) (c .width) (truncate handle size))) r (now (m .exit)) (now (request .entry)) (now (request .exit))) ⌝ }
+    ensures { λ r. ⌜ ((c : Config) → Consistent c (stateOf c (now (m .entry))) → (handle : ℕ)
+        → PassedAt (stateOf c (now (m .entry)) .skeleton .tables) handle (truncate handle size) opened node
+        → Sends c (apply c (digestStore c) (stateOf c (now (m .entry)))
+        (callAction (stateOf c (now (m .entry)) .skeleton .tables) (c .width) (truncate handle size))) r (now (m .exit))
+        (now (request .entry)) (now (request .exit))) ⌝ }
     ensures { λ _. ⌜ length (now (m .exit)) ≡ length (now (m .entry)) ⌝ }
 {
     // no valid table has such a place or such a size
@@ -100,7 +117,9 @@ fn truncate_at(
 // truncate: the open file with this handle has this size.
 pub fn begin_truncate(m: &mut [u8], handle: u64, size: u64, request: &mut [u8]) -> outcomes::Outcome
     requires { ⌜ (memorySize ≤ length (now m)) × (storeLength ≤ length (now request)) ⌝ }
-    ensures { λ r. ⌜ ((c : Config) → Consistent c (stateOf c (now (m .entry))) → Sends c (startedBy c (stateOf c (now (m .entry))) (truncate handle size)) r (now (m .exit)) (now (request .entry)) (now (request .exit))) ⌝ }
+    ensures { λ r. ⌜ ((c : Config) → Consistent c (stateOf c (now (m .entry)))
+        → Sends c (startedBy c (stateOf c (now (m .entry))) (truncate handle size)) r (now (m .exit)) (now (request .entry))
+        (now (request .exit))) ⌝ }
     ensures { λ _. ⌜ length (now (m .exit)) ≡ length (now (m .entry)) ⌝ }
 {
     let g = guard_state::Guard::load(m);
@@ -122,7 +141,9 @@ pub fn begin_truncate(m: &mut [u8], handle: u64, size: u64, request: &mut [u8]) 
 // The page that the truncation fetched came.
 pub fn accept_fetched(m: &mut [u8], reply: &[u8], request: &mut [u8]) -> outcomes::Outcome
     requires { ⌜ (numbersOf (memOf (now m) .head) .call ≡ 11) × (memorySize ≤ length (now m)) × (storeLength ≤ length (now request)) ⌝ }
-    ensures { λ r. ⌜ ((c : Config) → c .digest ≡ sha256 → Consistent c (stateOf c (now (m .entry))) → Sends c (answered c (stateOf c (now (m .entry))) (now (reply .entry))) r (now (m .exit)) (now (request .entry)) (now (request .exit))) ⌝ }
+    ensures { λ r. ⌜ ((c : Config) → c .digest ≡ sha256 → Consistent c (stateOf c (now (m .entry)))
+        → Sends c (answered c (stateOf c (now (m .entry))) (now (reply .entry))) r (now (m .exit)) (now (request .entry))
+        (now (request .exit))) ⌝ }
     ensures { λ _. ⌜ length (now (m .exit)) ≡ length (now (m .entry)) ⌝ }
 {
     let g = guard_state::Guard::load(m);
@@ -140,7 +161,9 @@ pub fn accept_fetched(m: &mut [u8], reply: &[u8], request: &mut [u8]) -> outcome
 // The page that the truncation stored is taken: the file is cut.
 pub fn accept_stored(m: &mut [u8], reply: &[u8], request: &mut [u8]) -> outcomes::Outcome
     requires { ⌜ (numbersOf (memOf (now m) .head) .call ≡ 12) × (memorySize ≤ length (now m)) × (storeLength ≤ length (now request)) ⌝ }
-    ensures { λ r. ⌜ ((c : Config) → c .width ≡ ID-BYTES → Consistent c (stateOf c (now (m .entry))) → Sends c (answered c (stateOf c (now (m .entry))) (now (reply .entry))) r (now (m .exit)) (now (request .entry)) (now (request .exit))) ⌝ }
+    ensures { λ r. ⌜ ((c : Config) → c .width ≡ ID-BYTES → Consistent c (stateOf c (now (m .entry)))
+        → Sends c (answered c (stateOf c (now (m .entry))) (now (reply .entry))) r (now (m .exit)) (now (request .entry))
+        (now (request .exit))) ⌝ }
     ensures { λ _. ⌜ length (now (m .exit)) ≡ length (now (m .entry)) ⌝ }
 {
     let b = replies::judge_status(reply, limits::PAGE_BYTES as i32);
@@ -154,7 +177,8 @@ pub fn accept_stored(m: &mut [u8], reply: &[u8], request: &mut [u8]) -> outcomes
 // The file is cut: the truncation is done.
 pub fn accept_cut(m: &mut [u8], reply: &[u8]) -> outcomes::Outcome
     requires { ⌜ (numbersOf (memOf (now m) .head) .call ≡ 13) × (memorySize ≤ length (now m)) ⌝ }
-    ensures { λ r. ⌜ ((c : Config) → c .width ≡ ID-BYTES → Consistent c (stateOf c (now (m .entry))) → (q : List ℕ) → Sends c (answered c (stateOf c (now (m .entry))) (now (reply .entry))) r (now (m .exit)) q q) ⌝ }
+    ensures { λ r. ⌜ ((c : Config) → c .width ≡ ID-BYTES → Consistent c (stateOf c (now (m .entry))) → (q : List ℕ)
+        → Sends c (answered c (stateOf c (now (m .entry))) (now (reply .entry))) r (now (m .exit)) q q) ⌝ }
     ensures { λ _. ⌜ length (now (m .exit)) ≡ length (now (m .entry)) ⌝ }
 {
     let b = replies::judge_status(reply, 0);

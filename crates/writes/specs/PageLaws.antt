@@ -58,14 +58,16 @@ module _ (c : Config) (m : List ℕ) (long : memorySize ≤ length m) (i : ℕ) 
         sending-ended c m (writeIn m) i h size end (g .position / PAGE-BYTES) (g .bytes) (a, omega (arith, b)) no-page few
         (f ∙ ap₂ max size-there (e ∙ ap (λ (k : ℕ). g .position + k) (sym n))) (e ∙ ap (λ (k : ℕ). g .position + k) (sym n)) refl (sym n)
 
-    pub write-ended : (x : Guard) → x ≡ g → (size end : ℕ) → Writing (g .call) → end ≡ x .position + x .bytes → size ≡ max (nodeAt (memOf m .nodes) (x .node) .size) end
+    pub write-ended : (x : Guard) → x ≡ g → (size end : ℕ) → Writing (g .call) → end ≡ x .position + x .bytes
+        → size ≡ max (nodeAt (memOf m .nodes) (x .node) .size) end
         → Ended c m (writeIn m) (x .node) (x .opened) size end (x .position / PAGE-BYTES) (x .digests) (x .bytes)
     write-ended x e size end w =
         subst (λ (y : Guard). end ≡ y .position + y .bytes → size ≡ max (nodeAt (memOf m .nodes) (y .node) .size) end → Ended c m (writeIn m) (y .node) (y .opened) size end (y .position / PAGE-BYTES) (y .digests) (y .bytes))
         (sym e) (ended size end w)
 
     -- the places that were loaded are the pending write's
-    pub finish-loaded : (x : Guard) → x ≡ g → (r : Outcome) (m′ q : List ℕ) → Sends c (finishChange c (digestStore c) s (x .node) (x .opened) (writeIn m)) r m′ q q
+    pub finish-loaded : (x : Guard) → x ≡ g → (r : Outcome) (m′ q : List ℕ)
+        → Sends c (finishChange c (digestStore c) s (x .node) (x .opened) (writeIn m)) r m′ q q
         → Sends c (finishChange c (digestStore c) s (g .node) (g .opened) (writeIn m)) r m′ q q
     finish-loaded x e r m′ q = subst (λ (y : Guard). Sends c (finishChange c (digestStore c) s (y .node) (y .opened) (writeIn m)) r m′ q q) e
 
@@ -94,7 +96,8 @@ module _ (c : Config) (m : List ℕ) (long : memorySize ≤ length m) (i : ℕ) 
     from-page r m′ q q′ = subst (λ (x : Result (digestStore c)). Sends c x r m′ q q′) (sym (pick-true _ _ _ (lt-ltb i (last (writeIn m)) a-page)))
 
   -- whether it is fetched
-  fetch-known : (x : Guard) → x ≡ g → (b : Bool) (size : ℕ) → size ≡ nodeAt (memOf m .nodes) (x .node) .size → b ≡ fetches (writing (x .position) (take (g .bytes) (memOf m .staged))) size i
+  fetch-known : (x : Guard) → x ≡ g → (b : Bool) (size : ℕ) → size ≡ nodeAt (memOf m .nodes) (x .node) .size
+      → b ≡ fetches (writing (x .position) (take (g .bytes) (memOf m .staged))) size i
       → b ≡ fetches (writeIn m) (nodeAt (s .skeleton .tables .nodes) (g .node) .size) i
   unfolding writeIn
   fetch-known x e b size u v =

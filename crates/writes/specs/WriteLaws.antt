@@ -46,7 +46,8 @@ passed-write : (t : Tables) (h : ℕ) (d : List ℕ) → Passed (callChecks t (w
 unfolding callChecks
 passed-write t h d (both f (both g (both k _))) = (leb-false _ _ (or-fst _ _ f), g, k)
 
-pub write-call : (m m₁ : List ℕ) (k o p n : ℕ) → numbersOf (memOf m₁ .head) ≡ writeNumbers (numbersOf (memOf m .head)) k o p n → Writing (numbersOf (memOf m₁ .head) .call)
+pub write-call : (m m₁ : List ℕ) (k o p n : ℕ) → numbersOf (memOf m₁ .head) ≡ writeNumbers (numbersOf (memOf m .head)) k o p n
+    → Writing (numbersOf (memOf m₁ .head) .call)
 unfolding writeNumbers
 write-call m m₁ k o p n e = let n : numbersOf (memOf m₁ .head) .call ≡ 9 = ap (λ (x : Guard). x .call) e in (omega arith, omega arith)
 
@@ -131,7 +132,8 @@ module _ (c : Config) (m : List ℕ) (held : Consistent c (stateOf c m)) (handle
             sent = omega (arith, d, f);
           }
 
-      pub write-begins : (x : Outcome) (m′ b b′ : List ℕ) → Sends c (pagesFrom c (digestStore c) (stateOf c m₁) (g₁ .node) (g₁ .opened) (writeIn m₁) (z / PAGE-BYTES)) x m′ b b′
+      pub write-begins : (x : Outcome) (m′ b b′ : List ℕ)
+          → Sends c (pagesFrom c (digestStore c) (stateOf c m₁) (g₁ .node) (g₁ .opened) (writeIn m₁) (z / PAGE-BYTES)) x m′ b b′
           → Sends c (apply c (digestStore c) s move) x m′ b b′
       unfolding writeNumbers first pageAt
       write-begins x m′ b b′ =

@@ -40,8 +40,13 @@ fn is_fetched(position: usize, end: usize, size: usize, page: usize) -> bool
 
 // A page of the pending write goes out, made from the one that was fetched or from none.
 fn store_page(m: &mut [u8], page: usize, fetched: &[u8], request: &mut [u8]) -> outcomes::Outcome
-    requires { ⌜ Writing (numbersOf (memOf (now m) .head) .call) × (numbersOf (memOf (now m) .head) .digests < newDigests) × (page ≤ filePages) × (length (now fetched) ≤ PAGE-BYTES) × (memorySize ≤ length (now m)) × (storeLength ≤ length (now request)) ⌝ }
-    ensures { λ r. ⌜ ((c : Config) → c .digest ≡ sha256 → Sending c (now (m .entry)) (writeIn (now (m .entry))) page → Sends c (askStore c (digestStore c) (stateOf c (now (m .entry))) (numbersOf (memOf (now (m .entry)) .head) .node) (numbersOf (memOf (now (m .entry)) .head) .opened) (writeIn (now (m .entry))) page (now (fetched .entry))) r (now (m .exit)) (now (request .entry)) (now (request .exit))) ⌝ }
+    requires { ⌜ Writing (numbersOf (memOf (now m) .head) .call) × (numbersOf (memOf (now m) .head) .digests < newDigests)
+        × (page ≤ filePages) × (length (now fetched) ≤ PAGE-BYTES) × (memorySize ≤ length (now m))
+        × (storeLength ≤ length (now request)) ⌝ }
+    ensures { λ r. ⌜ ((c : Config) → c .digest ≡ sha256 → Sending c (now (m .entry)) (writeIn (now (m .entry))) page
+        → Sends c (askStore c (digestStore c) (stateOf c (now (m .entry))) (numbersOf (memOf (now (m .entry)) .head) .node)
+        (numbersOf (memOf (now (m .entry)) .head) .opened) (writeIn (now (m .entry))) page (now (fetched .entry))) r (now (m .exit))
+        (now (request .entry)) (now (request .exit))) ⌝ }
     ensures { λ _. ⌜ length (now (m .exit)) ≡ length (now (m .entry)) ⌝ }
 {
     let g = guard_state::Guard::load(m);
@@ -57,7 +62,11 @@ fn store_page(m: &mut [u8], page: usize, fetched: &[u8], request: &mut [u8]) -> 
 // The pending write is done: the file's size, its digests and the cursor.
 fn end_write(m: &mut [u8]) -> outcomes::Outcome
     requires { ⌜ Writing (numbersOf (memOf (now m) .head) .call) × (memorySize ≤ length (now m)) ⌝ }
-    ensures { λ r. ⌜ ((c : Config) (i : ℕ) → Sending c (now (m .entry)) (writeIn (now (m .entry))) i → numbersOf (memOf (now (m .entry)) .head) .position + numbersOf (memOf (now (m .entry)) .head) .bytes ≤ i * PAGE-BYTES → (b : List ℕ) → Sends c (finishChange c (digestStore c) (stateOf c (now (m .entry))) (numbersOf (memOf (now (m .entry)) .head) .node) (numbersOf (memOf (now (m .entry)) .head) .opened) (writeIn (now (m .entry)))) r (now (m .exit)) b b) ⌝ }
+    ensures { λ r. ⌜ ((c : Config) (i : ℕ) → Sending c (now (m .entry)) (writeIn (now (m .entry))) i
+        → numbersOf (memOf (now (m .entry)) .head) .position + numbersOf (memOf (now (m .entry)) .head) .bytes ≤ i * PAGE-BYTES
+        → (b : List ℕ)
+        → Sends c (finishChange c (digestStore c) (stateOf c (now (m .entry))) (numbersOf (memOf (now (m .entry)) .head) .node)
+        (numbersOf (memOf (now (m .entry)) .head) .opened) (writeIn (now (m .entry)))) r (now (m .exit)) b b) ⌝ }
     ensures { λ _. ⌜ length (now (m .exit)) ≡ length (now (m .entry)) ⌝ }
 {
     let g = guard_state::Guard::load(m);
@@ -77,8 +86,12 @@ fn end_write(m: &mut [u8]) -> outcomes::Outcome
 
 // A page of the pending write: it is fetched, or goes out at once.
 fn on_page(m: &mut [u8], page: usize, request: &mut [u8]) -> outcomes::Outcome
-    requires { ⌜ Writing (numbersOf (memOf (now m) .head) .call) × (numbersOf (memOf (now m) .head) .digests < newDigests) × (page ≤ filePages) × (memorySize ≤ length (now m)) × (storeLength ≤ length (now request)) ⌝ }
-    ensures { λ r. ⌜ ((c : Config) → c .digest ≡ sha256 → Sending c (now (m .entry)) (writeIn (now (m .entry))) page → Sends c (onPage c (digestStore c) (stateOf c (now (m .entry))) (numbersOf (memOf (now (m .entry)) .head) .node) (numbersOf (memOf (now (m .entry)) .head) .opened) (writeIn (now (m .entry))) page) r (now (m .exit)) (now (request .entry)) (now (request .exit))) ⌝ }
+    requires { ⌜ Writing (numbersOf (memOf (now m) .head) .call) × (numbersOf (memOf (now m) .head) .digests < newDigests)
+        × (page ≤ filePages) × (memorySize ≤ length (now m)) × (storeLength ≤ length (now request)) ⌝ }
+    ensures { λ r. ⌜ ((c : Config) → c .digest ≡ sha256 → Sending c (now (m .entry)) (writeIn (now (m .entry))) page
+        → Sends c (onPage c (digestStore c) (stateOf c (now (m .entry))) (numbersOf (memOf (now (m .entry)) .head) .node)
+        (numbersOf (memOf (now (m .entry)) .head) .opened) (writeIn (now (m .entry))) page) r (now (m .exit)) (now (request .entry))
+        (now (request .exit))) ⌝ }
     ensures { λ _. ⌜ length (now (m .exit)) ≡ length (now (m .entry)) ⌝ }
 {
     let g = guard_state::Guard::load(m);
@@ -92,8 +105,12 @@ fn on_page(m: &mut [u8], page: usize, request: &mut [u8]) -> outcomes::Outcome
 
 // The pending write goes on with this page, or is done. No consistent write has more digests than there is room for.
 fn carry_on(m: &mut [u8], page: usize, request: &mut [u8]) -> outcomes::Outcome
-    requires { ⌜ Writing (numbersOf (memOf (now m) .head) .call) × (page ≤ filePages) × (memorySize ≤ length (now m)) × (storeLength ≤ length (now request)) ⌝ }
-    ensures { λ r. ⌜ ((c : Config) → c .digest ≡ sha256 → Sending c (now (m .entry)) (writeIn (now (m .entry))) page → Sends c (pagesFrom c (digestStore c) (stateOf c (now (m .entry))) (numbersOf (memOf (now (m .entry)) .head) .node) (numbersOf (memOf (now (m .entry)) .head) .opened) (writeIn (now (m .entry))) page) r (now (m .exit)) (now (request .entry)) (now (request .exit))) ⌝ }
+    requires { ⌜ Writing (numbersOf (memOf (now m) .head) .call) × (page ≤ filePages) × (memorySize ≤ length (now m))
+        × (storeLength ≤ length (now request)) ⌝ }
+    ensures { λ r. ⌜ ((c : Config) → c .digest ≡ sha256 → Sending c (now (m .entry)) (writeIn (now (m .entry))) page
+        → Sends c (pagesFrom c (digestStore c) (stateOf c (now (m .entry))) (numbersOf (memOf (now (m .entry)) .head) .node)
+        (numbersOf (memOf (now (m .entry)) .head) .opened) (writeIn (now (m .entry))) page) r (now (m .exit)) (now (request .entry))
+        (now (request .exit))) ⌝ }
     ensures { λ _. ⌜ length (now (m .exit)) ≡ length (now (m .entry)) ⌝ }
 {
     let g = guard_state::Guard::load(m);
@@ -114,8 +131,13 @@ fn write_at(
     bytes: &[u8],
     request: &mut [u8],
 ) -> outcomes::Outcome
-    requires { ⌜ (opened < openRows) × (length (now bytes) ≤ DATA-BYTES) × (memorySize ≤ length (now m)) × (storeLength ≤ length (now request)) ⌝ }
-    ensures { λ r. ⌜ ((c : Config) → c .digest ≡ sha256 → Consistent c (stateOf c (now (m .entry))) → (handle : ℕ) → PassedAt (stateOf c (now (m .entry)) .skeleton .tables) handle (write handle (now (bytes .entry))) opened node → Sends c (apply c (digestStore c) (stateOf c (now (m .entry))) (callAction (stateOf c (now (m .entry)) .skeleton .tables) (c .width) (write handle (now (bytes .entry))))) r (now (m .exit)) (now (request .entry)) (now (request .exit))) ⌝ }
+    requires { ⌜ (opened < openRows) × (length (now bytes) ≤ DATA-BYTES) × (memorySize ≤ length (now m))
+        × (storeLength ≤ length (now request)) ⌝ }
+    ensures { λ r. ⌜ ((c : Config) → c .digest ≡ sha256 → Consistent c (stateOf c (now (m .entry))) → (handle : ℕ)
+        → PassedAt (stateOf c (now (m .entry)) .skeleton .tables) handle (write handle (now (bytes .entry))) opened node
+        → Sends c (apply c (digestStore c) (stateOf c (now (m .entry)))
+        (callAction (stateOf c (now (m .entry)) .skeleton .tables) (c .width) (write handle (now (bytes .entry))))) r (now (m .exit))
+        (now (request .entry)) (now (request .exit))) ⌝ }
     ensures { λ _. ⌜ length (now (m .exit)) ≡ length (now (m .entry)) ⌝ }
 {
     if bytes.len() == 0 {
@@ -140,7 +162,9 @@ fn write_at(
 // write: these bytes at the cursor of the open file with this handle.
 pub fn begin_write(m: &mut [u8], handle: u64, bytes: &[u8], request: &mut [u8]) -> outcomes::Outcome
     requires { ⌜ (length (now bytes) ≤ DATA-BYTES) × (memorySize ≤ length (now m)) × (storeLength ≤ length (now request)) ⌝ }
-    ensures { λ r. ⌜ ((c : Config) → c .digest ≡ sha256 → Consistent c (stateOf c (now (m .entry))) → Sends c (startedBy c (stateOf c (now (m .entry))) (write handle (now (bytes .entry)))) r (now (m .exit)) (now (request .entry)) (now (request .exit))) ⌝ }
+    ensures { λ r. ⌜ ((c : Config) → c .digest ≡ sha256 → Consistent c (stateOf c (now (m .entry)))
+        → Sends c (startedBy c (stateOf c (now (m .entry))) (write handle (now (bytes .entry)))) r (now (m .exit)) (now (request .entry))
+        (now (request .exit))) ⌝ }
     ensures { λ _. ⌜ length (now (m .exit)) ≡ length (now (m .entry)) ⌝ }
 {
     let g = guard_state::Guard::load(m);
@@ -156,7 +180,9 @@ pub fn begin_write(m: &mut [u8], handle: u64, bytes: &[u8], request: &mut [u8]) 
 // The page that the write fetched came.
 pub fn accept_fetched(m: &mut [u8], reply: &[u8], request: &mut [u8]) -> outcomes::Outcome
     requires { ⌜ (numbersOf (memOf (now m) .head) .call ≡ 9) × (memorySize ≤ length (now m)) × (storeLength ≤ length (now request)) ⌝ }
-    ensures { λ r. ⌜ ((c : Config) → c .digest ≡ sha256 → Consistent c (stateOf c (now (m .entry))) → Sends c (answered c (stateOf c (now (m .entry))) (now (reply .entry))) r (now (m .exit)) (now (request .entry)) (now (request .exit))) ⌝ }
+    ensures { λ r. ⌜ ((c : Config) → c .digest ≡ sha256 → Consistent c (stateOf c (now (m .entry)))
+        → Sends c (answered c (stateOf c (now (m .entry))) (now (reply .entry))) r (now (m .exit)) (now (request .entry))
+        (now (request .exit))) ⌝ }
     ensures { λ _. ⌜ length (now (m .exit)) ≡ length (now (m .entry)) ⌝ }
 {
     let g = guard_state::Guard::load(m);
@@ -174,7 +200,9 @@ pub fn accept_fetched(m: &mut [u8], reply: &[u8], request: &mut [u8]) -> outcome
 // The page that the write stored is taken: 1,024 bytes of it.
 pub fn accept_stored(m: &mut [u8], reply: &[u8], request: &mut [u8]) -> outcomes::Outcome
     requires { ⌜ (numbersOf (memOf (now m) .head) .call ≡ 10) × (memorySize ≤ length (now m)) × (storeLength ≤ length (now request)) ⌝ }
-    ensures { λ r. ⌜ ((c : Config) → c .digest ≡ sha256 → c .width ≡ ID-BYTES → Consistent c (stateOf c (now (m .entry))) → Sends c (answered c (stateOf c (now (m .entry))) (now (reply .entry))) r (now (m .exit)) (now (request .entry)) (now (request .exit))) ⌝ }
+    ensures { λ r. ⌜ ((c : Config) → c .digest ≡ sha256 → c .width ≡ ID-BYTES → Consistent c (stateOf c (now (m .entry)))
+        → Sends c (answered c (stateOf c (now (m .entry))) (now (reply .entry))) r (now (m .exit)) (now (request .entry))
+        (now (request .exit))) ⌝ }
     ensures { λ _. ⌜ length (now (m .exit)) ≡ length (now (m .entry)) ⌝ }
 {
     let b = replies::judge_status(reply, limits::PAGE_BYTES as i32);

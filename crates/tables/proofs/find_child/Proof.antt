@@ -28,7 +28,7 @@ returns : tie.Need-returns Inv-loop μ-loop
 unfolding findChild
 returns c =
     let a = c .before .before .before .before .before .before .args in
-    let k = c .before .next-like in
+    let k = c .before .next-candidate in
     let f : length (memOf (a .m .now) .nodes) ≡ _ = length-nodes (a .m .now) in
     sym (place-end noNode (memOf (a .m .now) .nodes) (a .nodes) (k .result) (omega arith) (isChild (a .parent) (a .name .now)) (c .before .before .before .loop .inv .1 ∙ k .ensures .2) (omega arith))
 
@@ -36,7 +36,7 @@ returns-2 : tie.Need-returns-2 Inv-loop μ-loop
 unfolding findChild nodeAt
 returns-2 c =
     let a = c .before .before .before .before .before .before .before .before .args in
-    let k = c .before .before .before .next-like in
+    let k = c .before .before .before .next-candidate in
     let f : length (memOf (a .m .now) .nodes) ≡ _ = length-nodes (a .m .now) in
     sym (place-hit noNode (memOf (a .m .now) .nodes) (a .nodes) (k .result) (omega arith) (isChild (a .parent) (a .name .now)) (c .before .before .before .before .before .loop .inv .1 ∙ k .ensures .2) (omega arith) (sym (c .before .is-child .ensures) ∙ c .if2 .taken))
 
@@ -44,7 +44,7 @@ loop-again : tie.Need-loop-again Inv-loop μ-loop
 unfolding nodeAt
 loop-again c =
     let a = c .before .before .before .before .before .before .before .before .args in
-    let k = c .before .before .before .next-like in
+    let k = c .before .before .before .next-candidate in
     let f : length (memOf (a .m .now) .nodes) ≡ _ = length-nodes (a .m .now) in
     (omega arith, place-miss noNode (memOf (a .m .now) .nodes) (a .nodes) (k .result) (omega arith) (isChild (a .parent) (a .name .now)) (c .before .before .before .before .before .loop .inv .1 ∙ k .ensures .2) (omega arith) (sym (c .before .is-child .ensures) ∙ c .if2 .left))
 

@@ -1,4 +1,4 @@
--- `memory::is_like` meets its contract. Assumes nothing.
+-- `memory::may_be_child` meets its contract. Assumes nothing.
 use Prim.Native.Nat.{_+_, _*_, _-_}
 use mathlib.Core.Path.{_≡_, sym, _∙_}
 use mathlib.Core.Bool.{false, true≢false}
@@ -12,8 +12,8 @@ use Rattle.memory.specs.RecordLaws.{field-byte}
 use Rattle.memory.specs.Layout.{memOf}
 use Rattle.memory.specs.MemLaws.{not-child}
 use borrow.Author.Needs.{needs}
-use Rattle.memory.proofs.is_like.Statement.{statement}
-use Rattle.memory.proofs.is_like.Tie as tie
+use Rattle.memory.proofs.may_be_child.Statement.{statement}
+use Rattle.memory.proofs.may_be_child.Tie as tie
 
 returns : tie.Need-returns
 returns c _ =
@@ -43,8 +43,8 @@ returns-6 c =
     let a = c .before .before .before .before .before .before .before .before .before .before .args in
     not-child (a .m .now) (a .i) (a .parent) (a .name .now) (length (a .name .now) - 8) 8 _ _ (omega arith) (omega arith) (omega arith) (c .before .u64-at .ensures) (c .u64-at2 .ensures)
 
-pub is-like-spec : {M : Type 1} → statement M
-is-like-spec =
+pub may-be-child-spec : {M : Type 1} → statement M
+may-be-child-spec =
     tie.close (tie.spec (λ c κs. search needs) returns returns-2 returns-3 (λ c. search needs) (λ c. search needs) (λ c. search needs) (λ c. search needs)
     (λ c. search needs) (λ c. search needs) (λ c. search needs) (λ c. search needs) returns-4 (λ c. search needs) (λ c κs. search needs) (λ c κs. search needs)
     returns-5 (λ c. search needs) (λ c κs. search needs) (λ c κs. search needs) returns-6)

@@ -1,4 +1,4 @@
--- `tables::next_like` meets its contract. The loop's invariant: a search from k on finds what one from i on does. Assumes nothing.
+-- `tables::next_candidate` meets its contract. The loop's invariant: a search from k on finds what one from i on does. Assumes nothing.
 use Prim.Native.Nat.{_-_, _≤_}
 use mathlib.Core.Path.{_≡_, refl}
 use native.Mathlib.Omega.{arith}
@@ -9,8 +9,8 @@ use Rattle.memory.specs.MemLaws.{length-nodes}
 use Rattle.tables.specs.View.{childFrom}
 use Rattle.tables.specs.SearchLaws.{place-miss}
 use borrow.Author.Needs.{needs}
-use Rattle.tables.proofs.next_like.Statement.{statement}
-use Rattle.tables.proofs.next_like.Tie as tie
+use Rattle.tables.proofs.next_candidate.Statement.{statement}
+use Rattle.tables.proofs.next_candidate.Tie as tie
 
 abbrev Inv-loop : tie.InvT-loop
 Inv-loop m i nodes parent name k₀ k =
@@ -28,8 +28,8 @@ loop-again c =
     let a = c .before .before .before .before .before .before .args in
     let l = c .before .before .before .loop in
     let f : length (memOf (a .m .now) .nodes) ≡ _ = length-nodes (a .m .now) in
-    (omega arith, omega arith, place-miss noNode (memOf (a .m .now) .nodes) (a .nodes) (l .k) (omega arith) (isChild (a .parent) (a .name .now)) (l .inv .2) (omega arith) (c .before .is-like .ensures (c .if1 .left)))
+    (omega arith, omega arith, place-miss noNode (memOf (a .m .now) .nodes) (a .nodes) (l .k) (omega arith) (isChild (a .parent) (a .name .now)) (l .inv .2) (omega arith) (c .before .may-be-child .ensures (c .if1 .left)))
 
-pub next-like-spec : {M : Type 1} → statement M
-next-like-spec =
+pub next-candidate-spec : {M : Type 1} → statement M
+next-candidate-spec =
     tie.close (tie.spec Inv-loop μ-loop loop-holds (λ c κs. search needs) (λ c. search needs) (λ c. search needs) (λ c. search needs) loop-again (λ c. search needs))
