@@ -51,9 +51,6 @@ pub fn last_blocks(m: &[u8], n: usize) -> [u8; 128]
     let rest = m.len() % 64;
     let mut t = rest_of(m);
     t[rest] = 0x80;
-    if rest < 56 {
-        with_length(t, 56, n)
-    } else {
-        with_length(t, 120, n)
-    }
+    // the length ends the first block, or the second where the rest leaves no room for it
+    with_length(t, 56 + rest / 56 * 64, n)
 }

@@ -8,15 +8,9 @@ use Rattle.digest.proofs.padding.last_blocks.Tie as tie
 
 returns : tie.Need-returns
 returns c =
-    let called = c .before .before .rest-of in
-    let a = c .before .before .before .before .args in
-    ended (a .m .now) (a .n) (called .result) (c .with-length .result) 56 (search needs) (called .ensures) (omega arith) (c .with-length .ensures)
-
-returns-2 : tie.Need-returns-2
-returns-2 c =
-    let called = c .before .before .rest-of in
-    let a = c .before .before .before .before .args in
-    ended (a .m .now) (a .n) (called .result) (c .with-length2 .result) 120 (search needs) (called .ensures) (omega arith) (c .with-length2 .ensures)
+    let called = c .before .rest-of in
+    let a = c .before .before .before .args in
+    ended (a .m .now) (a .n) (called .result) (c .with-length .result) _ (search needs) (called .ensures) (omega arith) (c .with-length .ensures)
 
 pub last-blocks-spec : {M : Type 1} → statement M
-last-blocks-spec = tie.close (tie.spec (λ c κs. search needs) (λ c. search needs) (λ c κs. search needs) (λ c κs. search needs) returns returns-2)
+last-blocks-spec = tie.close (tie.spec (λ c κs. search needs) (λ c. search needs) (λ c. search needs) (λ c. search needs) (λ c κs. search needs) returns)
