@@ -12,12 +12,9 @@ MEAN, MOST, HASHING, STACK = 1.10, 1.30, 1.05, 16_384
 HASH = "digest::sha256"  # in the archive
 
 # Rows that miss a bar, and why.
-SUMS = "pages are summed over the nodes once for each page judged and once or twice for a change, where plain C keeps in each node where its digests begin"
 EXPLAINED = {
-    "seek, 256 nodes": "the file's node is searched by its id; plain C keeps its place in the open file",
-    "write 1,024, aligned": SUMS,
-    "truncate, on an edge": SUMS,
-    "refused 2, absent, 256 nodes": "15 instructions a node beside 10: where the row stands and whether the name's length is within its limit",
+    "truncate, on an edge": "the digests behind the file are moved 16 bytes at a time, where the C library's memmove has vectors of 32; and pages are summed"
+    " over the nodes, where plain C keeps in each node where its digests begin",
 }
 
 

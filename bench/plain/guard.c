@@ -43,7 +43,8 @@ static uint32_t find_child(const struct plain_guard *g, uint32_t parent, const u
     uint32_t i = 0;
     for (; i < g->nodes; i++) {
         const struct node *n = g->node + i;
-        if (n->parent == parent && n->length == length && memcmp(n->name, name, length) == 0)
+        /* siblings' names often begin alike: the last byte tells most of them apart */
+        if (n->parent == parent && n->length == length && n->name[length - 1] == name[length - 1] && memcmp(n->name, name, length) == 0)
             break;
     }
     return i;
@@ -487,11 +488,13 @@ static int listed(const struct plain_guard *g, uint32_t directory, const uint8_t
 {
     uint8_t seen[NODES] = {0};
     int count = 0, children = 0;
+    uint32_t k = NODES; /* behind the last entry's node stands the next one's, where they are listed in their order */
     for (size_t at = 0; at < n; count++) {
         const uint8_t *entry = reply + at;
         if (n - at < 6 || n - at - 6 < entry[5])
             return -1;
-        uint32_t k = find_id(g, get4(entry));
+        uint32_t id = get4(entry);
+        k = k + 1 < g->nodes && g->node[k + 1].id == id ? k + 1 : find_id(g, id);
         const struct node *child = g->node + k;
         if (k == g->nodes || seen[k] || child->parent != directory || child->kind != entry[4] || child->length != entry[5] ||
             memcmp(child->name, entry + 6, entry[5]))
