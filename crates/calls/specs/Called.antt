@@ -1,7 +1,6 @@
 -- A call's bytes on the machine's state: refused 22 where they are no call, else what the call that they mean comes to.
 -- Assumes nothing.
-use mathlib.Core.Path.{_≡_, refl, ap, sym, _∙_}
-use mathlib.Core.Bool.{true, false}
+use mathlib.Core.Path.{_≡_, refl}
 use mathlib.Core.List.{List, _∷_}
 use mathlib.Core.Option.{Option, some, none}
 use Prim.Native.Nat.{ℕ}
@@ -11,7 +10,7 @@ use Rattle.lists.specs.Checks.{decide}
 use Rattle.filesystem.specs.Paths.{Path, readPath}
 use Rattle.rules.specs.Calls.{Call, byPath, readCall}
 use Rattle.rules.specs.Skeleton.{Config}
-use Rattle.rules.specs.Rules.{Move, refuse, callChecks, callAction, callOr, isNone}
+use Rattle.rules.specs.Rules.{refuse, callChecks, callAction, callOr, isNone}
 use Rattle.machine.specs.Machine.{State, Result, apply, guard as digestStore}
 use Rattle.path_calls.specs.Judged.{judged}
 use Rattle.path_calls_begun.specs.Begun.{begun}

@@ -1,18 +1,18 @@
 -- The end of a change: what the tables must be able to take, and that the machine's change is then done.
 -- Assumes nothing.
 use mathlib.Core.Path.{_≡_, refl, ap, sym, _∙_}
-use mathlib.Core.List.{List, [], _∷_}
+use mathlib.Core.List.{List, []}
 use Prim.Native.Nat.{ℕ, _<_}
-use lib.ListN.{length, take}
+use lib.ListN.{take}
 use Rattle.lists.specs.Parts.{overwrite}
-use Rattle.filesystem.specs.Tables.{Node, OpenFile, nodeAt, openAt}
+use Rattle.filesystem.specs.Tables.{nodeAt, openAt}
 use Rattle.memory.specs.Layout.{Mem, memOf, withOpens}
 use Rattle.tables.specs.View.{View, viewOf, withChange, cursorAt, stagedDigests, Changeable}
 use Rattle.tables.specs.ViewLaws.{view-cursor}
 use Rattle.filesystem.specs.Tables.{setCursor}
 use Rattle.rules.specs.Pages.{Change, first, sizeAfter, cursorAfter, numberOf}
-use Rattle.rules.specs.Skeleton.{Config, done, requestBytes, answerBytes}
-use Rattle.machine.specs.Machine.{State, Result, finishChange, zeroDigest, guard as digestStore}
+use Rattle.rules.specs.Skeleton.{Config, done, requestBytes}
+use Rattle.machine.specs.Machine.{State, finishChange, zeroDigest, guard as digestStore}
 use Rattle.guard_state.specs.declared.Guard.{Guard}
 use Rattle.guard_state.specs.State.{numbersOf, stateIn, stateOf}
 use Rattle.guard_state.specs.Waits.{restingState}

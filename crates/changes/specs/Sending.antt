@@ -4,7 +4,7 @@ use mathlib.Core.Path.{_≡_, ap, sym, _∙_, subst}
 use mathlib.Core.List.{List}
 use Prim.Native.Nat.{ℕ, suc, _-_, _<_, _≤_}
 use native.Mathlib.Omega.{arith}
-use lib.ListN.{length, take}
+use lib.ListN.{length}
 use Rattle.filesystem.specs.Tables.{PAGES, Tables, nodeAt, openAt, pageTotal}
 use Rattle.filesystem.specs.Sound.{to-sound}
 use Rattle.lists.specs.RowLaws.{length-rows}

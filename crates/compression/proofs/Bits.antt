@@ -1,6 +1,6 @@
 -- The short forms of Ch and Maj, and that ⊕ is associative, bit by bit: a number is twice its half and its lowest bit, and each
 -- operation works on the two parts. Assumes nothing.
-use mathlib.Core.Path.{_≡_, refl, ap, sym, _∙_}
+use mathlib.Core.Path.{_≡_, refl, _∙_}
 use Prim.Native.Nat.{ℕ, zero, suc, _+_, _-_, _*_, _/_, _%_, _^_, _<_, min}
 use native.Mathlib.Nat.{pow-zero, pow-suc}
 use native.Mathlib.Omega.{arith}

@@ -1,15 +1,15 @@
 -- The message schedule: its words by the recurrence, and the code's windows of sixteen words on it.
 -- Assumes nothing.
-use mathlib.Core.List.{List, [], _∷_, _++_}
+use mathlib.Core.List.{List, [], _∷_}
 use mathlib.Core.Path.{_≡_, refl, sym, ap, _∙_, subst}
-use Prim.Native.Nat.{ℕ, zero, suc, _+_, _-_, _≤_, _<_}
+use Prim.Native.Nat.{ℕ, zero, suc, _+_, _-_, _<_}
 use native.Mathlib.Nat.{add-zero, zero-add, suc-add, add-assoc}
 use native.Mathlib.Omega.{arith}
 use lib.ListN.{length, getD, length-append, List·getD-append}
 use lib.Seq.{getD-at}
 use lib.Dec.{lit<}
 use Rattle.compression.proofs.Congruence.{window-equal}
-use Rattle.compression.specs.Compression.{K, sum, word, block, nextWord, schedule, round, rounds, compress}
+use Rattle.compression.specs.Compression.{K, sum, word, block, nextWord, schedule, rounds, compress}
 use Rattle.compression.specs.Windows.{window, loaded, mixed, slid, slidFour, sixteen, later, Rolling}
 use Rattle.compression.specs.declared.State.{State}
 use Rattle.compression.specs.declared.Window.{Window}

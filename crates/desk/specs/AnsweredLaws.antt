@@ -1,17 +1,15 @@
 -- A line that was handed in and whose answer was written is what the desk does with it.
 -- Assumes nothing.
 use mathlib.Core.Path.{_≡_, refl, ap, ap₂, sym, _∙_, subst}
-use mathlib.Core.List.{List, []}
-use Prim.Native.Nat.{ℕ, _≤_}
-use native.Mathlib.Omega.{arith}
+use mathlib.Core.List.{List}
+use Prim.Native.Nat.{ℕ}
 use lib.ListN.{length, take}
 use Rattle.rules.specs.Requests.{storeLength}
 use Rattle.rules.specs.Skeleton.{Answer, Event, call, reply, answerLength, requestLength}
 use Rattle.configuration.specs.Delivered.{delivered}
-use Rattle.machine.specs.Machine.{State, Result, step, guard as digestStore}
 use Rattle.outcomes.specs.declared.Outcome.{Outcome}
 use Rattle.outcomes.specs.Values.{answerIn}
-use Rattle.guard.specs.Promise.{Kept, held, stepped, Promise, buffers}
+use Rattle.guard.specs.Promise.{held, stepped, Promise, buffers}
 use Rattle.guard.specs.KeptLaws.{promise-kept}
 use Rattle.desk_lines.specs.declared.Line.{Line}
 use Rattle.desk_lines.specs.declared.Line.the-variants.{Call, Reply, Bad}

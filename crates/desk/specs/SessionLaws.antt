@@ -1,28 +1,25 @@
 -- Lines answered one after another, one more at a time.
 -- Assumes nothing.
 use mathlib.Core.Path.{_≡_, refl, sym, ap, ap₂, _∙_, subst}
-use mathlib.Core.Bool.{true, not}
-use mathlib.Core.Logic.{_⊎_, inl, inr}
 use mathlib.Core.List.{List, [], _∷_, _++_, append-assoc, append-nil}
-use Prim.Native.Nat.{ℕ, suc, _+_, _-_, _*_, _≤_, _<_}
+use Prim.Native.Nat.{ℕ, suc, _+_, _-_, _≤_, _<_}
 use native.Mathlib.Omega.{arith}
-use native.Mathlib.Numerals.{add-one}
 use lib.ListN.{length, take, drop, getD, length-append, length-drop}
 use lib.Seq.{take-add, take-suc, take-all, length-take-le}
 use borrow.Author.Tests.{eqb-true}
-use Rattle.lists.specs.All.{All, both, none, all-append}
-use Rattle.lists.specs.Parts.{part, overwrite}
+use Rattle.lists.specs.All.{both, none, all-append}
+use Rattle.lists.specs.Parts.{part}
 use Rattle.lists.specs.PartLaws.{overwrite-none}
-use Rattle.lists.specs.Search.{every, place, place-most, place-passes}
+use Rattle.lists.specs.Search.{place, place-passes}
 use Rattle.lists.specs.Scans.{every-before}
 use Rattle.text.specs.Line.{isNewline, LineEnd}
 use Rattle.configuration.specs.Delivered.{delivered}
 use Rattle.machine.specs.Machine.{State, guard as digestStore}
-use Rattle.guard.specs.Promise.{Kept, held}
-use Rattle.desk_lines.specs.Lines.{DeskLine, mostBytes, lineOf, Puts, Prints}
+use Rattle.guard.specs.Promise.{held}
+use Rattle.desk_lines.specs.Lines.{DeskLine, lineOf, Puts, Prints}
 use Rattle.desk_lines.specs.Printing.{overwrite-behind, prints-more}
 use Rattle.desk.specs.Answered.{printedFor, stateFor, Answers}
-use Rattle.desk.specs.Session.{OneLine, textOf, printedThrough, stateThrough, AnswersAt, Through, AnswersLines}
+use Rattle.desk.specs.Session.{OneLine, textOf, printedThrough, stateThrough, AnswersAt, Through}
 
 -- an answer that was written into the part of a buffer from i on
 pub answers-at : (m : List ℕ) (x : DeskLine) (i n r : ℕ) (m′ d e : List ℕ) → n ≡ length d → i ≤ n

@@ -1,5 +1,4 @@
 // The desk: lines read, handed in to the guard, their answers' lines written (SPECIFICATION 12).
-ghost use mathlib.Core.Path.{_≡_};
 ghost use Prim.Native.Nat.{_+_, _-_, _*_, _≤_};
 ghost use lib.ListN.{length};
 ghost use Rattle.lists.specs.Parts.{part};

@@ -1,6 +1,5 @@
 // The program `deskrun` (SPECIFICATION 12): a fresh guard, lines from standard input, one line out for each. Before it
 // waits for input it has written every answer; it never holds more than one buffer of input and one of output.
-ghost use mathlib.Core.Path.{_≡_};
 ghost use Prim.Native.Nat.{_+_, _*_, _≤_};
 ghost use lib.ListN.{length};
 ghost use Rattle.desk_lines.specs.Lines.{mostBytes};

@@ -1,8 +1,7 @@
 -- Worked examples of the standard, computed from the definition: the one-block message "abc", the two-block message of 448
 -- bits, and the empty message. Assumes nothing.
-use mathlib.Core.List.{List, [], _∷_}
+use mathlib.Core.List.{[], _∷_}
 use mathlib.Core.Path.{_≡_, refl}
-use Prim.Native.Nat.{ℕ}
 use Rattle.lists.specs.BigEndian.{bigEndian}
 use Rattle.compression.specs.Compression.{K, word, block, nextWord, schedule, round, rounds, compress}
 use Rattle.digest.specs.Sha256.{pad, H0, hash, bytes, sha256}

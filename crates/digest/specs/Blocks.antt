@@ -7,7 +7,7 @@ use native.Mathlib.Nat.{add-assoc, add-zero, add-suc}
 use native.Mathlib.Omega.{arith}
 use lib.ListN.{length, getD, List·getD-append}
 use lib.Seq.{getD-append-add}
-use Rattle.compression.specs.Compression.{word, block, compress}
+use Rattle.compression.specs.Compression.{word, block}
 use Rattle.compression.specs.declared.State.{State}
 use Rattle.digest.specs.Sha256.{hash}
 

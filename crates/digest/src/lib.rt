@@ -1,6 +1,5 @@
 // SHA-256 (FIPS 180-4). Each contract cites the standard's own definition, specs/Sha256.antt.
 ghost use mathlib.Core.Path.{_≡_};
-ghost use lib.ListN.{length};
 ghost use Rattle.digest.specs.Sha256.{H0, sha256};
 ghost use Rattle.digest.specs.Streaming.{absorbed, finished};
 use compression::State;

@@ -1,6 +1,6 @@
 // The last blocks of a message: FIPS 180-4 §5.1.1 on at most 128 copied bytes.
 ghost use mathlib.Core.Path.{_≡_};
-ghost use Prim.Native.Nat.{ℕ, _*_, _≤_, _<_};
+ghost use Prim.Native.Nat.{_*_, _≤_, _<_};
 ghost use lib.ListN.{getD};
 ghost use Rattle.lists.specs.BigEndian.{bigEndian};
 ghost use Rattle.digest.specs.Padding.{Rest, Put, Ended};

@@ -1,14 +1,14 @@
 -- Where paths lead when a node is added or taken out: the new one is found, a removed one is absent, every other path leads where it did.
 -- Assumes nothing.
 use mathlib.Core.Path.{_≡_, refl, ap, sym, _∙_, subst}
-use mathlib.Core.Bool.{Bool, true, false, _&&_, true≢false}
+use mathlib.Core.Bool.{true, false}
 use mathlib.Core.List.{List, [], _∷_, _++_}
-use Prim.Native.Nat.{ℕ, suc, _≤_, _<_}
+use Prim.Native.Nat.{ℕ, _≤_, _<_}
 use native.Mathlib.Omega.{arith}
 use lib.Dec.{eqb}
 use lib.ListN.{length, getD}
 use borrow.Author.Tests.{leb-false, eqb-true, eqb-false, eq-eqb}
-use Rattle.lists.specs.Equal.{Is, isT, isF, is, equal, equal-true, equal-yes, and-fst, and-snd, and-both}
+use Rattle.lists.specs.Equal.{Is, isT, isF, is, equal-true, equal-yes, and-fst, and-snd, and-both}
 use Rattle.lists.specs.All.{both}
 use Rattle.lists.specs.Search.{place, without}
 use Rattle.lists.specs.Places.{place-only, place-none, place-front, place-behind, skip, skip-other, skip-same, skip-below, unskip, length-without, getD-without}

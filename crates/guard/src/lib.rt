@@ -1,7 +1,6 @@
 // The guard: one memory that the caller lends, and its entries. No entry requires anything; what each promises stands in specs/Promise.antt.
 ghost use mathlib.Core.Path.{_≡_};
 ghost use mathlib.Core.Bool.{_||_};
-ghost use Prim.Native.Nat.{ℕ};
 ghost use lib.Dec.{ltb};
 ghost use lib.ListN.{length};
 ghost use Rattle.filesystem.specs.Tables.{DIGEST-BYTES};

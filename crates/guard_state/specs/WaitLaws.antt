@@ -1,6 +1,6 @@
 -- What the header's numbers are read as: of a call that waits, of one that has ended, of a stop, of a fresh guard.
 -- Assumes nothing.
-use mathlib.Core.Path.{_≡_, refl, ap, ap₂, sym, _∙_}
+use mathlib.Core.Path.{_≡_, refl, ap, ap₂, _∙_}
 use mathlib.Core.Bool.{not}
 use mathlib.Core.List.{List, [], _∷_, _++_}
 use Prim.Native.Nat.{ℕ, zero, suc, _+_, _%_, _≤_, _<_}
@@ -16,7 +16,6 @@ use Rattle.rules.specs.Requests.{Pending, idle}
 use Rattle.rules.specs.Skeleton.{Config}
 use Rattle.machine.specs.Machine.{Gathered, fresh, guard as digestStore}
 use Rattle.tables.specs.View.{viewOf}
-use Rattle.guard_state.specs.declared.Guard.{Guard}
 use Rattle.guard_state.specs.State.{numbersOf, stateWith, stateIn, stateOf, clearedHead, pendings, pendingIn, gatheredIn}
 use Rattle.guard_state.specs.Waits.{waits, ends, stops, restingState}
 

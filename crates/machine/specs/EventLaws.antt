@@ -7,18 +7,17 @@ use mathlib.Core.List.{List, [], _∷_, _++_}
 use Prim.Native.Nat.{ℕ, suc, _+_, _*_, _≤_}
 use native.Mathlib.Omega.{arith}
 use lib.Dec.{ltb, leb}
-use lib.ListN.{length}
 use borrow.Author.Tests.{ltb-false}
 use Rattle.lists.specs.Pick.{pick, pick-ind}
 use Rattle.lists.specs.Equal.{or-fst, or-snd}
 use Rattle.lists.specs.All.{All, both, none}
 use Rattle.lists.specs.Search.{without}
-use Rattle.lists.specs.Checks.{Check, Passed, First, decide, decide-passed, decide-first, decide-ind, decide-exactly, decide-append, decide-map}
+use Rattle.lists.specs.Checks.{Check, Passed, First, decide, decide-passed, decide-ind, decide-exactly, decide-append, decide-map}
 use Rattle.filesystem.specs.Tables.{PAGE-BYTES, Node, Tables}
 use Rattle.filesystem.specs.Image.{imageLength}
 use Rattle.rules.specs.Pages.{Change, first, last, fetches, cuts}
 use Rattle.rules.specs.Requests.{asked, Pending, idle, creating, opening, closing, removing, changing, listing, stating, reading, fetching, storing, cutting}
-use Rattle.rules.specs.Skeleton.{Config, Event, call, reply, save, load, Answer, done, ask, refused, stopped, Outcome, plain, answerLength, requestLength}
+use Rattle.rules.specs.Skeleton.{Config, Event, call, reply, save, Answer, done, ask, refused, stopped, Outcome, plain, answerLength, requestLength}
 use Rattle.rules.specs.Rules.{Move, refuse, halt, send, finish, add, delete, readPage, begin, fillPage, stored, cutDone, saving, loading, replyChecks, replyAction, isIdle, eventChecks, eventAction, judge}
 use Rattle.machine.specs.Machine.{Store, State, Result, contentAt, sizeAt, cleared, readOn, finishChange, pagesStored, askStore, onPage, pagesFrom, apply, step, outcomes, final}
 use Rattle.machine.specs.StepOutcomes.{onward, pages-onward, after-stop}

@@ -21,7 +21,7 @@ use Rattle.filesystem.specs.Tables.{Node, nodeAt, pagesFor, setSize}
 use Rattle.filesystem.specs.Image.{flatten, print}
 use Rattle.rules.specs.Pages.{pageOf, Change, first, last, fetches, cuts, bytesAfter, sizeAfter, FitsSize}
 use Rattle.rules.specs.PageLaws.{Where, low, mid, high, range, length-after, first-last, after-apart, apart-old}
-use Rattle.rules.specs.Requests.{asked, storeRequest, Pending, idle, creating, opening, closing, removing, changing, listing, stating, reading, fetching, storing, cutting}
+use Rattle.rules.specs.Requests.{asked, storeRequest, Pending, idle, reading, fetching, storing, cutting}
 use Rattle.rules.specs.Skeleton.{Config, Event, Answer}
 use Rattle.rules.specs.Rules.{Move}
 use Rattle.machine.specs.Machine.{Files, State, Result, files, readOn, finishChange, pagesStored, askStore, onPage, pagesFrom, cleared, apply}

@@ -1,20 +1,19 @@
 -- What a load brings back: what one guard saved, any other loads; and what is loaded, some valid guard would save.
 -- Assumes nothing.
-use mathlib.Core.Path.{_≡_, refl, ap, sym, _∙_, subst}
+use mathlib.Core.Path.{_≡_, refl, ap, _∙_}
 use mathlib.Core.Bool.{Bool, true, false, not, true≢false}
 use mathlib.Core.List.{List, [], map-id}
 use mathlib.Core.Option.{Option, some, none as nothing}
 use Prim.Native.Nat.{ℕ}
-use native.Mathlib.Omega.{arith}
 use borrow.Author.Tests.{eqb-true}
 use Rattle.lists.specs.Equal.{equal-true, and-snd}
-use Rattle.lists.specs.All.{Bytes, both, none}
+use Rattle.lists.specs.All.{Bytes, both}
 use Rattle.lists.specs.Checks.{Passed, decide-passed}
 use Rattle.filesystem.specs.Image.{Image, flatten, divide, soundNodes, sound, print, parse}
 use Rattle.filesystem.specs.ImageLaws.{divide-flatten, flatten-divide, parse-was-printed}
 use Rattle.rules.specs.Requests.{idle}
-use Rattle.rules.specs.Skeleton.{Config, Event, load, Answer, done, plain}
-use Rattle.rules.specs.Rules.{refuse, loading, isIdle, isNone, imageOr, eventChecks, eventAction, judge}
+use Rattle.rules.specs.Skeleton.{Config, load, done, plain}
+use Rattle.rules.specs.Rules.{refuse, loading, isNone, imageOr, eventChecks, eventAction, judge}
 use Rattle.machine.specs.Machine.{State, imageOf, apply, step, guard}
 use Rattle.machine.specs.StateProperties.{Holds, load-judged}
 use Rattle.machine.specs.EventLaws.{isRefusal, not-refused}

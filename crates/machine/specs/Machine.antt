@@ -3,7 +3,7 @@
 -- Letters: S what is kept of pages, s the state, k a node's place, o an open file's place, p a position (in `asking` what is pending), n a count, i a
 -- page, q a change (in `asking` a request), r a reply, a what was gathered, t tables, x contents.
 -- Assumes nothing.
-use mathlib.Core.Bool.{Bool, true, false}
+use mathlib.Core.Bool.{Bool}
 use mathlib.Core.List.{List, [], _∷_, _++_, map}
 use Prim.Native.Nat.{ℕ, suc, _+_, _-_, _*_}
 use lib.Dec.{ltb, leb}
@@ -11,11 +11,11 @@ use lib.ListN.{length, getD, set}
 use Rattle.lists.specs.Pick.{pick}
 use Rattle.lists.specs.Equal.{equal}
 use Rattle.lists.specs.Search.{without}
-use Rattle.filesystem.specs.Tables.{PAGE-BYTES, Node, Tables, pagesFor, nodeAt, openAt, setSize, setCursor}
+use Rattle.filesystem.specs.Tables.{PAGE-BYTES, Node, Tables, nodeAt, openAt, setSize, setCursor}
 use Rattle.filesystem.specs.Image.{Image, flatten, divide, print}
 use Rattle.filesystem.specs.Digests.{replaced}
 use Rattle.rules.specs.Pages.{pageOf, pagePart, Change, first, last, fetches, fill, sizeSent, cuts, sizeAfter, cursorAfter, numberOf}
-use Rattle.rules.specs.Requests.{fetchRequest, storeRequest, cutRequest, Pending, idle, reading, fetching, storing, cutting}
+use Rattle.rules.specs.Requests.{fetchRequest, storeRequest, cutRequest, Pending, reading, fetching, storing, cutting}
 use Rattle.rules.specs.Skeleton.{Config, Event, Answer, done, ask, refused, stopped, Outcome, plain, Skeleton, waiting, resting, halted, freshSkeleton}
 use Rattle.rules.specs.Rules.{Move, refuse, halt, send, finish, add, delete, readPage, begin, fillPage, stored, cutDone, saving, loading, judge}
 

@@ -1,25 +1,25 @@
 -- What a user of POSIX expects, over the steps of the machine: what was written is read back and other bytes stay, the cursor moves by what was
 -- moved, a created path is found, a removed one is absent, a listing has the new child, rights outlive a chmod.
 -- Assumes nothing.
-use mathlib.Core.Path.{_≡_, refl, ap, sym, _∙_, subst}
+use mathlib.Core.Path.{_≡_, refl, ap, sym, _∙_}
 use mathlib.Core.Logic.{_⊎_, inl, inr}
-use mathlib.Core.Bool.{Bool, true, false, not}
+use mathlib.Core.Bool.{Bool, true, false}
 use mathlib.Core.List.{List, [], _∷_, _++_}
-use Prim.Native.Nat.{ℕ, suc, _+_, _-_, _*_, _≤_, _<_}
+use Prim.Native.Nat.{ℕ, _+_, _-_, _*_, _≤_, _<_}
 use native.Mathlib.Omega.{arith}
-use lib.Dec.{leb, eqb}
-use lib.ListN.{length, getD, set}
+use lib.Dec.{leb}
+use lib.ListN.{length, getD}
 use lib.Seq.{getD-set-same}
 use borrow.Author.Tests.{eq-eqb}
 use Rattle.lists.specs.Pick.{pick, pick-true, pick-false, pick-ind}
-use Rattle.lists.specs.Cells.{inside, tab, getD-tab, tab-cong}
-use Rattle.lists.specs.Search.{select, without}
+use Rattle.lists.specs.Cells.{inside, tab, tab-cong}
+use Rattle.lists.specs.Search.{select}
 use Rattle.filesystem.specs.Tables.{PAGE-BYTES, Node, Tables, noOpenFile, openAt, hasParent, children, setCursor}
-use Rattle.rules.specs.Pages.{bytesAt, splice, Change, writing, shrinking, cursorAfter, numberOf}
+use Rattle.rules.specs.Pages.{bytesAt, splice, writing, cursorAfter, numberOf}
 use Rattle.rules.specs.PageLaws.{getD-splice, range, Where, low, mid, high}
 use Rattle.rules.specs.Requests.{asked, changing}
-use Rattle.rules.specs.Skeleton.{Config, Answer, done, ask, stopped}
-use Rattle.rules.specs.Rules.{Move, readPage, replyAction}
+use Rattle.rules.specs.Skeleton.{Config, done}
+use Rattle.rules.specs.Rules.{readPage, replyAction}
 use Rattle.machine.specs.Machine.{Store, State, Result, contentAt, readOn, finishChange, apply}
 
 -- Bytes: what was written is read back, and other bytes stay.

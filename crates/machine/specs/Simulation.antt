@@ -15,7 +15,7 @@ use Rattle.filesystem.specs.Tables.{Node, noNode, nodeAt, pagesFor}
 use Rattle.filesystem.specs.Image.{divide}
 use Rattle.rules.specs.Pages.{pageAt, pageOf, bytesAt, Change, first, last, fetches, fill, cuts, bytesAfter, FitsSize}
 use Rattle.rules.specs.PageLaws.{first-last, fill-page, fill-blank, bytesAt-more}
-use Rattle.rules.specs.Requests.{asked, Pending, idle, creating, opening, closing, removing, changing, listing, stating, reading, fetching, storing, cutting}
+use Rattle.rules.specs.Requests.{asked, Pending, idle, reading, fetching, storing, cutting}
 use Rattle.rules.specs.Skeleton.{Config, Event}
 use Rattle.rules.specs.Rules.{Move, refuse, halt, send, finish, add, delete, readPage, begin, fillPage, stored, cutDone, saving, loading}
 use Rattle.machine.specs.Machine.{Files, State, Result, files, readOn, finishChange, pagesStored, askStore, onPage, pagesFrom, loaded, apply, guard}

@@ -9,7 +9,7 @@ use Rattle.lists.specs.Equal.{equal}
 use Rattle.lists.specs.Cells.{tab}
 use Rattle.filesystem.specs.Tables.{PAGE-BYTES, pagesFor}
 use Rattle.rules.specs.Pages.{pageOf, bytesAt, Change, first, last, bytesAfter}
-use Rattle.rules.specs.Requests.{asked, Pending, idle, creating, opening, closing, removing, changing, listing, stating, reading, fetching, storing, cutting}
+use Rattle.rules.specs.Requests.{asked, Pending, idle, reading, fetching, storing, cutting}
 use Rattle.rules.specs.Skeleton.{Config}
 use Rattle.machine.specs.Machine.{Files, Store, State, Gathered, guard}
 

@@ -2,7 +2,7 @@
 // (specs/Layout.antt) and where a field stands in its row (specs/Records.antt). Contracts are over the view `memOf`.
 ghost use mathlib.Core.Path.{_≡_};
 ghost use mathlib.Core.Bool.{false};
-ghost use mathlib.Core.List.{List, []};
+ghost use mathlib.Core.List.{[]};
 ghost use Prim.Native.Nat.{_+_, _*_, _%_, _<_, _≤_};
 ghost use lib.ListN.{length, getD, take, set};
 ghost use Rattle.lists.specs.Parts.{part, overwrite};
@@ -11,7 +11,7 @@ ghost use Rattle.lists.specs.Form.{put-all};
 ghost use Rattle.lists.specs.Formats.{bytes};
 ghost use Rattle.filesystem.specs.Tables.{NODES, PAGES, NAME-BYTES, DIGEST-BYTES, nodeAt, openAt, isChild, newNode, newOpenFile, withSize, withCursor, setMode, setSize, setCursor};
 ghost use Rattle.memory.specs.Records.{nodeFront, nodeOf, openOf, openWidth, hintAt};
-ghost use Rattle.memory.specs.Layout.{Mem, memOf, memorySize, headNumbers, opensAt, openRows, digestWidth, dataSize, newDigests, stagingSize, withHead, withNodes, withOpens, withDigests, withStaged};
+ghost use Rattle.memory.specs.Layout.{memOf, memorySize, headNumbers, opensAt, openRows, digestWidth, dataSize, newDigests, stagingSize, withHead, withNodes, withOpens, withDigests, withStaged};
 
 // The length that the slice needs; `least_length` says that contracts mean the same by `memorySize`.
 pub const SIZE: usize = STAGING_AT + DATA_SIZE + NEW_DIGESTS * DIGEST_WIDTH;

@@ -1,21 +1,21 @@
 -- Create and mkdir as they begin: where the new name stands, its directory, and what the machine makes of the call.
 -- Assumes nothing.
 use mathlib.Core.Path.{_≡_, refl, ap, ap₂, sym, _∙_, subst}
-use mathlib.Core.Bool.{Bool, true, false, not, _||_, true≢false}
-use mathlib.Core.List.{List, [], _∷_, _++_}
+use mathlib.Core.Bool.{false, not, true≢false}
+use mathlib.Core.List.{List, [], _∷_}
 use mathlib.Core.Option.{some}
 use Prim.Native.Nat.{ℕ, zero, suc, _-_, _<_, _≤_}
 use native.Mathlib.Omega.{arith}
-use lib.Dec.{ltb, leb}
+use lib.Dec.{ltb}
 use lib.ListN.{length, drop}
 use borrow.Author.Tests.{ltb-false, lt-leb}
 use Rattle.lists.specs.Pick.{pick}
 use Rattle.lists.specs.Equal.{or-fst, or-snd}
-use Rattle.lists.specs.All.{both, none, all-left, all-right, all-tail}
+use Rattle.lists.specs.All.{both, all-left, all-right, all-tail}
 use Rattle.lists.specs.Search.{any}
 use Rattle.lists.specs.Checks.{Check, Passed}
 use Rattle.filesystem.specs.Tables.{NAME-BYTES, PATH-BYTES, Tables, nodeAt}
-use Rattle.filesystem.specs.Paths.{Path, readPath, pathBytes, tooLong, walk, parentChecks, parentOf, lastOf}
+use Rattle.filesystem.specs.Paths.{Path, readPath, pathBytes, tooLong, walk, parentOf, lastOf}
 use Rattle.filesystem.specs.PathLaws.{readPath-was-bytes, parent-place}
 use Rattle.rules.specs.Calls.{create, callBytes}
 use Rattle.rules.specs.Requests.{asked, creating}
@@ -23,13 +23,12 @@ use Rattle.rules.specs.Skeleton.{Config, atFront}
 use Rattle.rules.specs.Rules.{Move, refuse, send, callChecks, callAction, newChecks, reachParent}
 use Rattle.rules.specs.Lengths.{path-short}
 use Rattle.machine.specs.Machine.{State, guard as digestStore}
-use Rattle.paths.specs.Parts.{componentsOf}
 use Rattle.paths.specs.FormAnswers.{read-components}
 use Rattle.paths.specs.WalkAnswers.{last-start}
 use Rattle.paths.specs.declared.Placed.{Placed}
 use Rattle.paths.specs.declared.Placed.the-variants.{Root, In, Refused as refusedPlace}
 use Rattle.path_calls.specs.Judged.{judged, placeFor}
-use Rattle.call_reader.specs.Meaning.{madeBy, NumberFits}
+use Rattle.call_reader.specs.Meaning.{madeBy}
 use Rattle.requests.specs.PathRequests.{hasNumber, pathRequest}
 use Rattle.guard_state.specs.State.{stateOf, gatheredNone}
 use Rattle.guard_state.specs.Waits.{waits}

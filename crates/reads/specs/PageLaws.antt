@@ -18,7 +18,7 @@ use Rattle.tables.specs.View.{viewOf}
 use Rattle.tables.specs.ViewLaws.{view-cursor}
 use Rattle.rules.specs.Pages.{bytesAt, pagePart}
 use Rattle.rules.specs.Requests.{reading, fetchRequest, storeLength}
-use Rattle.rules.specs.Skeleton.{Config, done, ask, answerBytes, requestBytes, atFront}
+use Rattle.rules.specs.Skeleton.{Config, done, answerBytes, atFront}
 use Rattle.machine.specs.Machine.{State, Result, Gathered, readOn, asking, ending, guard as digestStore}
 use Rattle.guard_state.specs.State.{numbersOf, stateIn, stateOf, gatheredRead}
 use Rattle.guard_state.specs.Waits.{waits, ends, restingState}

@@ -6,7 +6,7 @@ ghost use lib.IntN.{pos};
 ghost use mathlib.Core.Bool.{true};
 ghost use lib.ListN.{length, getD, take};
 ghost use Rattle.lists.specs.LittleEndian.{encode};
-ghost use Rattle.filesystem.specs.Tables.{NODES, PAGES, PAGE-BYTES, ID-BYTES, nodeAt, findId, pagesFor, pageTotal};
+ghost use Rattle.filesystem.specs.Tables.{NODES, PAGES, PAGE-BYTES, ID-BYTES, nodeAt, pagesFor, pageTotal};
 ghost use Rattle.filesystem.specs.Image.{soundNodes, divide};
 ghost use Rattle.memory.specs.Layout.{memOf, memorySize, openRows};
 ghost use Rattle.tables.specs.View.{tablesIn};

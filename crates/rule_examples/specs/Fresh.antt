@@ -1,6 +1,6 @@
 -- A fresh guard has one node, the root (SPECIFICATION 2.2), and so has the tree.
 use mathlib.Core.Path.{_≡_, refl}
-use mathlib.Core.List.{List, [], _∷_}
+use mathlib.Core.List.{[], _∷_}
 use Rattle.machine.specs.Machine.{fresh, guard}
 use Rattle.machine.specs.Tree.{tree}
 use Rattle.rule_examples.specs.Bytes.{config}

@@ -10,7 +10,7 @@ use native.Mathlib.Omega.{arith}
 use lib.Dec.{eqb, ltb, leb}
 use lib.ListN.{length, getD}
 use lib.Seq.{map-set-same}
-use borrow.Author.Tests.{eqb-true, eqb-false, ltb-true, ltb-false, leb-true, leb-false, eq-eqb, not-false}
+use borrow.Author.Tests.{eqb-true, eqb-false, ltb-true, ltb-false, leb-false, eq-eqb, not-false}
 use Rattle.lists.specs.Pick.{pick-ind}
 use Rattle.lists.specs.Equal.{Is, isT, isF, is, equal-true, and-fst, and-snd, or-fst, or-snd}
 use Rattle.lists.specs.All.{All, both, Bytes, all-left, all-right, all-head, all-tail, all-get}

@@ -10,7 +10,7 @@ use native.Mathlib.Omega.{arith}
 use lib.Dec.{eqb, ltb}
 use lib.IntN.{ℤ, pos, negsuc}
 use lib.ListN.{length, getD, length-append, length-map}
-use borrow.Author.Tests.{eqb-true, eqb-false, eq-eqb, ne-eqb, ltb-true, lt-ltb, leb-true, le-leb, not-false}
+use borrow.Author.Tests.{eqb-true, eqb-false, eq-eqb, ne-eqb, ltb-true, lt-ltb, le-leb, not-false}
 use Rattle.lists.specs.Pick.{pick-ind, pick-true}
 use Rattle.lists.specs.Equal.{is, equal-true, equal-refl, equal-yes, and-fst, and-snd, and-both, or-fst, or-snd, or-both}
 use Rattle.lists.specs.All.{All, both, none as all-none, Bytes, all-get}

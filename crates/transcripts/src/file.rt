@@ -1,5 +1,4 @@
 // A file of lists replayed: the answers that come are held against those that stand below the events, and counted.
-ghost use mathlib.Core.Path.{_≡_};
 ghost use Prim.Native.Nat.{_≤_};
 ghost use lib.ListN.{length};
 use libc::STDOUT_FILENO;

@@ -9,7 +9,6 @@
 //     l IMAGE DIGEST      a load
 //     = ANSWER            the answer to the event above, in deskrun's words
 //     p WORDS             these words are printed, with the answer above
-ghost use mathlib.Core.Path.{_≡_};
 ghost use Prim.Native.Nat.{_≤_};
 ghost use lib.ListN.{length};
 use outcomes::Outcome;

@@ -2,7 +2,6 @@
 use mathlib.Core.Path.{refl}
 use native.Mathlib.Omega.{arith}
 use Rattle.call_reader.specs.Meaning.{meant}
-use borrow.Author.Needs.{needs}
 use Rattle.call_reader.proofs.read_plain.Statement.{statement}
 use Rattle.call_reader.proofs.read_plain.Tie as tie
 

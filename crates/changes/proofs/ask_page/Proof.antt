@@ -1,6 +1,6 @@
 -- `changes::ask_page` meets its contract. Assumes nothing.
 use native.Mathlib.Omega.{arith}
-use mathlib.Core.Path.{refl, ap, sym, _∙_}
+use mathlib.Core.Path.{ap, sym, _∙_}
 use Rattle.filesystem.specs.Tables.{OpenFile, openAt}
 use Rattle.memory.specs.Layout.{memOf}
 use Rattle.rules.specs.Requests.{fetchRequest}

@@ -4,7 +4,7 @@ use Prim.Native.Nat.{_-_, _≤_}
 use mathlib.Core.Path.{_≡_, refl}
 use mathlib.Core.Logic.{inl, inr}
 use lib.ListN.{length}
-use Rattle.desk.specs.Session.{Through, AnswersLines}
+use Rattle.desk.specs.Session.{Through}
 use Rattle.desk.specs.SessionLaws.{through-none, through-more, unended}
 use borrow.Author.Needs.{needs}
 use Rattle.desk.proofs.answer_lines.Statement.{statement}

@@ -1,6 +1,5 @@
 -- `desk::answer_reply` meets its contract. Assumes nothing.
 use native.Mathlib.Omega.{arith}
-use mathlib.Core.Path.{refl}
 use Rattle.desk.specs.AnsweredLaws.{reply-answers}
 use borrow.Author.Needs.{needs}
 use Rattle.desk.proofs.answer_reply.Statement.{statement}

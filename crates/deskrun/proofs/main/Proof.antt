@@ -1,6 +1,5 @@
 -- `deskrun::main` is safe and ends. Nothing says that the input ends, so the turns are counted down from a number that no
 -- run uses up. Assumes nothing.
-use native.Mathlib.Omega.{arith}
 use Prim.Native.Nat.{_≤_}
 use mathlib.Core.Path.{_≡_}
 use lib.ListN.{length}

@@ -1,6 +1,6 @@
 -- `digest::absorb` meets its contract. The invariant: h is the hash value after i blocks. The measure: the blocks left.
 -- Assumes nothing.
-use Prim.Native.Nat.{ℕ, _≤_, _-_}
+use Prim.Native.Nat.{_≤_, _-_}
 use mathlib.Core.Path.{_≡_, refl, _∙_, ap}
 use native.Mathlib.Omega.{arith}
 use native.Mathlib.Numerals.{add-one}

@@ -1,7 +1,6 @@
 -- `digest::finish` meets its contract: one padded block, or two.
 -- Assumes nothing.
 use mathlib.Core.Path.{_∙_}
-use native.Mathlib.Omega.{arith}
 use borrow.Author.Needs.{needs}
 use Rattle.digest.proofs.Endings.{one-block, two-blocks}
 use Rattle.digest.proofs.finish.Statement.{statement}

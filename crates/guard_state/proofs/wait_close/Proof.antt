@@ -4,7 +4,6 @@ use native.Mathlib.Omega.{arith}
 use mathlib.Core.Path.{_≡_, refl, ap, _∙_}
 use lib.ListN.{set}
 use Prim.Native.Nat.{ℕ}
-use Rattle.filesystem.specs.Tables.{NODES}
 use Rattle.memory.specs.Layout.{memOf, openRows, withHead}
 use Rattle.rules.specs.Requests.{asked, closing}
 use Rattle.guard_state.specs.State.{numbersOf, clearedHead, pendings, pendingIn, gatheredIn, gatheredNone}

@@ -2,7 +2,7 @@
 
 use native.Mathlib.Omega.{arith}
 use mathlib.Core.Path.{_≡_, refl, ap, _∙_}
-use mathlib.Core.List.{List, _++_}
+use mathlib.Core.List.{_++_}
 use lib.ListN.{length, set, take}
 use Prim.Native.Nat.{ℕ, _+_, _%_}
 use Rattle.lists.specs.Parts.{overwrite}

@@ -1,7 +1,7 @@
 -- `guard_state::wait_read` meets its contract. Assumes nothing.
 
 use native.Mathlib.Omega.{arith}
-use mathlib.Core.Path.{_≡_, refl}
+use mathlib.Core.Path.{refl}
 use Prim.Native.Nat.{_+_}
 use Rattle.filesystem.specs.Tables.{NODES, FILE-BYTES, DATA-BYTES}
 use Rattle.memory.specs.Layout.{openRows}

@@ -2,14 +2,12 @@
 use native.Mathlib.Omega.{arith}
 use native.Mathlib.Nat.{mod-eq-of-lt}
 use mathlib.Core.Path.{_≡_, refl, ap, ap₂, sym, _∙_}
-use mathlib.Core.List.{List, [], _∷_, _++_}
+use mathlib.Core.List.{[], _∷_, _++_}
 use Prim.Native.Nat.{ℕ, _%_}
-use lib.ListN.{length}
 use Rattle.lists.specs.LittleEndian.{decode}
-use Rattle.lists.specs.Parts.{part}
-use Rattle.filesystem.specs.Tables.{OpenFile, Tables, nodeAt, newOpenFile, withCursor}
+use Rattle.filesystem.specs.Tables.{OpenFile, Tables, nodeAt, newOpenFile}
 use Rattle.memory.specs.Layout.{memOf}
-use Rattle.tables.specs.View.{View, viewOf, withOpen, tablesIn}
+use Rattle.tables.specs.View.{View, tablesIn}
 use Rattle.tables.specs.RowsInUse.{node-front}
 use Rattle.rules.specs.Requests.{asked, opening}
 use Rattle.rules.specs.Rules.{finish, replyAction}

@@ -1,9 +1,7 @@
 -- `replies_accepted::accept_remove` meets its contract. Assumes nothing.
 use native.Mathlib.Omega.{arith}
-use mathlib.Core.Path.{_≡_, refl, ap, ap₂, sym, _∙_, subst}
-use Prim.Native.Nat.{ℕ, _≤_}
-use lib.ListN.{take}
-use Rattle.filesystem.specs.Tables.{PAGES, Tables, pageTotal}
+use mathlib.Core.Path.{_≡_, refl, ap, sym, _∙_}
+use Rattle.filesystem.specs.Tables.{Tables, pageTotal}
 use Rattle.memory.specs.Layout.{memOf}
 use Rattle.tables.specs.View.{View, tablesIn}
 use Rattle.rules.specs.Rules.{replyAction}

@@ -1,9 +1,6 @@
 -- `requests::has_number` meets its contract. Assumes nothing.
 use mathlib.Core.Path.{sym}
-use lib.Dec.{eqb, leb}
-use borrow.Author.Tests.{le-leb, lt-leb}
-use Rattle.requests.specs.PathRequests.{hasNumber, number-low, number-high}
-use borrow.Author.Needs.{needs}
+use Rattle.requests.specs.PathRequests.{number-low, number-high}
 use Rattle.requests.proofs.has_number.Statement.{statement}
 use Rattle.requests.proofs.has_number.Tie as tie
 

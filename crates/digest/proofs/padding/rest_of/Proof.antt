@@ -1,6 +1,6 @@
 -- `digest::padding::rest_of` meets its contract.
 -- Assumes nothing.
-use Prim.Native.Nat.{ℕ, _+_, _/_, _*_, _≤_, _<_, _-_}
+use Prim.Native.Nat.{ℕ, _+_, _≤_, _<_, _-_}
 use mathlib.Core.Path.{_≡_, _∙_, refl}
 use native.Mathlib.Omega.{arith}
 use borrow.Author.Count.{below-more}

@@ -1,11 +1,8 @@
 -- `text::decimal::read` meets its contract. What is left is read on from n.
 -- Assumes nothing.
 use native.Mathlib.Omega.{arith}
-use borrow.Author.Needs.{needs}
 use Prim.Native.Nat.{_≤_, _-_}
-use mathlib.Core.Path.{_≡_, refl, sym, ap, _∙_}
-use mathlib.Core.List.{List, []}
-use Prim.Native.Nat.{ℕ}
+use mathlib.Core.Path.{_≡_, sym, _∙_}
 use lib.ListN.{length, drop}
 use Rattle.text.specs.Decimal.{readFrom, readDecimal, read-start, read-end, read-low, read-high, read-large, read-digit, read-none}
 use Rattle.text.proofs.decimal.read.Statement.{statement}

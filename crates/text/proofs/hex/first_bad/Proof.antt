@@ -1,15 +1,13 @@
 -- `text::hex::first_bad` meets its contract. No digit before i is bad.
 -- Assumes nothing.
 use native.Mathlib.Omega.{arith}
-use borrow.Author.Needs.{needs}
 use Prim.Native.Nat.{_+_, _≤_, _-_}
-use mathlib.Core.Path.{_≡_, sym, ap, _∙_}
+use mathlib.Core.Path.{_≡_}
 use borrow.Author.Tests.{le-leb, lt-leb}
-use lib.Dec.{leb}
 use lib.ListN.{length, drop}
 use Rattle.lists.specs.Search.{place}
 use Rattle.lists.specs.Scans.{scan-here, scan-on, scan-end}
-use Rattle.text.specs.Hex.{isBad, valueOf}
+use Rattle.text.specs.Hex.{isBad}
 use Rattle.text.proofs.hex.first_bad.Statement.{statement}
 use Rattle.text.proofs.hex.first_bad.Tie as tie
 

@@ -1,6 +1,5 @@
 -- `text::hex::pair` meets its contract.
 -- Assumes nothing.
-use native.Mathlib.Omega.{arith}
 use borrow.Author.Needs.{needs}
 use Rattle.text.specs.Hex.{pairOf}
 use Rattle.text.proofs.hex.pair.Statement.{statement}

@@ -1,14 +1,13 @@
 -- `text::line::end` meets its contract. No byte before i is a newline.
 -- Assumes nothing.
 use native.Mathlib.Omega.{arith}
-use borrow.Author.Needs.{needs}
 use Prim.Native.Nat.{_+_, _≤_, _-_}
-use mathlib.Core.Path.{_≡_, sym, ap, _∙_}
+use mathlib.Core.Path.{_≡_}
 use borrow.Author.Tests.{eq-eqb, ne-eqb}
 use lib.ListN.{length, drop}
 use Rattle.lists.specs.Search.{place}
 use Rattle.lists.specs.Scans.{scan-here, scan-on, scan-end}
-use Rattle.text.specs.Line.{isNewline, LineEnd}
+use Rattle.text.specs.Line.{isNewline}
 use Rattle.text.proofs.line.end.Statement.{statement}
 use Rattle.text.proofs.line.end.Tie as tie
 

@@ -1,5 +1,4 @@
 -- `transcripts::file::replay_all` is safe and ends: each turn takes a line. Assumes nothing.
-use native.Mathlib.Omega.{arith}
 use mathlib.Core.Path.{_≡_}
 use Prim.Native.Nat.{_-_, _≤_}
 use lib.ListN.{length}
