@@ -2,14 +2,10 @@
 -- Assumes nothing.
 use Prim.Native.Nat.{ℕ, _+_, _*_, _%_, _^_, _<_, _≤_}
 use mathlib.Core.Path.{_≡_, refl, sym, ap, _∙_}
-use mathlib.Core.Bool.{false}
 use mathlib.Core.List.{List, []}
 use native.Mathlib.Nat.{zero-add, add-assoc, add-mul, mul-le-mul-right}
 use native.Mathlib.Omega.{arith}
-use lib.Dec.{eqb}
 use lib.ListN.{length, getD, take, set}
-use borrow.Author.Tests.{eqb-false}
-use Rattle.lists.specs.Equal.{equal-no, and-false}
 use Rattle.lists.specs.LittleEndian.{encode, decode, length-encode}
 use Rattle.lists.specs.Parts.{part, overwrite}
 use Rattle.lists.specs.PartLaws.{length-part, part-part}
@@ -18,7 +14,7 @@ use Rattle.lists.specs.TableLaws.{length-table, table-overwrite, table-set, tab
 use Rattle.lists.specs.MapParts.{map-same}
 use Rattle.lists.specs.Areas.{total, areas}
 use Rattle.lists.specs.AreaLaws.{areas-overwrite}
-use Rattle.filesystem.specs.Tables.{Node, OpenFile, NODES, PAGES, NAME-BYTES, noNode, noOpenFile, nodeAt, openAt, isChild, withMode, withSize, withCursor, setMode, setSize, setCursor}
+use Rattle.filesystem.specs.Tables.{Node, OpenFile, NODES, PAGES, NAME-BYTES, noNode, noOpenFile, nodeAt, openAt, withMode, withSize, withCursor, setMode, setSize, setCursor}
 use Rattle.memory.specs.Records.{field, setField, rowName, nodeOf, nodeWidth, openOf, openWidth}
 use Rattle.memory.specs.RecordLaws.{field-part, field-byte, node-with-mode, node-with-size, open-with-cursor}
 use Rattle.memory.specs.Layout.{memOf, memFrom, memorySize, areaSizes, headNumbers, openRows, digestWidth, stagingSize, dataSize, newDigests, nodesAt, opensAt, digestsAt, stagingAt, withHead, withNodes, withOpens, withDigests, withStaged}
@@ -163,20 +159,6 @@ module _ (m : List ℕ) (i : ℕ) where
       ap (λ (n : Node). n .name) (node-at h)
       ∙ part-part a nodeWidth 23 (field 22 1 (part a nodeWidth m) % 33) m (omega arith)
       ∙ ap (λ (k : ℕ). part (a + 23) (k % 33) m) e
-
-  -- a name that has other bytes than the row, w of them from k on, is not the node's
-  pub not-child : (p : ℕ) (name : List ℕ) (k w x y : ℕ) → i < NODES → memorySize ≤ length m → k + w ≤ length name
-      → x ≡ decode (part (nodesAt + i * nodeWidth + 23 + k) w m) → y ≡ decode (part k w name) → eqb x y ≡ false
-      → isChild p name (nodeAt (memOf m .nodes) i) ≡ false
-  not-child p name k w x y h f g ex ey d = rw (equal-no _ name differs, and-false)
-    where
-      differs : nodeAt (memOf m .nodes) i .name ≡ name → ⊥
-      differs e =
-          let a = nodesAt + i * nodeWidth in
-          let n = getD m (a + 22) 0 % 33 in
-          let s : part (a + 23) n m ≡ name = sym (node-name h) ∙ e in
-          let l : length name ≡ n = sym (ap length s) ∙ length-part (a + 23) n m (omega arith) in
-          eqb-false x y d (ex ∙ ap decode (sym (part-part (a + 23) n k w m (omega arith)) ∙ ap (part k w) s) ∙ sym ey)
 
   pub open-at : i < openRows → openAt (memOf m .opens) i ≡ openOf (part (opensAt + i * openWidth) openWidth m)
   unfolding memOf memFrom openAt

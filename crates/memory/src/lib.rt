@@ -1,7 +1,6 @@
 // The guard's memory: one slice that the caller lends holds all of it. Only this crate knows where a table stands
 // (specs/Layout.antt) and where a field stands in its row (specs/Records.antt). Contracts are over the view `memOf`.
 ghost use mathlib.Core.Path.{_≡_};
-ghost use mathlib.Core.Bool.{false};
 ghost use mathlib.Core.List.{[]};
 ghost use Prim.Native.Nat.{_+_, _*_, _%_, _<_, _≤_};
 ghost use lib.ListN.{length, getD, take, set};
@@ -133,31 +132,6 @@ pub fn is_child(m: &[u8], i: usize, parent: u64, name: &[u8]) -> bool
         return false;
     }
     buffers::same(node_name(m, i), name)
-}
-
-// Whether node i has this parent and may have this name: it has the same last bytes where a name of that length ends.
-pub fn may_be_child(m: &[u8], i: usize, parent: u64, name: &[u8]) -> bool
-    requires { ⌜ (i < NODES) × (memorySize ≤ length (now m)) ⌝ }
-    ensures { λ r. ⌜ (r ≡ false → isChild parent (now (name .entry)) (nodeAt (memOf (now (m .entry)) .nodes) i) ≡ false) ⌝ }
-{
-    if node_parent(m, i) != parent {
-        return false;
-    }
-    let n = name.len();
-    if n == 0 {
-        return true;
-    }
-    if limits::NAME_BYTES < n {
-        return true;
-    }
-    let at = NODES_AT + i * NODE_WIDTH + 23;
-    if n < 4 {
-        return m[at + (n - 1)] == name[n - 1];
-    }
-    if n < 8 {
-        return numbers::u32_at(m, at + (n - 4)) == numbers::u32_at(name, n - 4);
-    }
-    numbers::u64_at(m, at + (n - 8)) == numbers::u64_at(name, n - 8)
 }
 
 // A node's row up to its name.

@@ -14,17 +14,17 @@ use Rattle.lists.specs.Scans.{scan-here, scan-on, scan-end, rest, rest-none}
 
 module _ {A : Type 0} (z : A) (l : List A) (n i : ℕ) (fits : n ≤ length l) where
   module _ (f : A → Bool) where
-    module _ {a : ℕ} (inv : a ≡ i + place f (drop i (take n l))) where
+    module _ (inv : place f (take n l) ≡ i + place f (drop i (take n l))) where
       size : length (take n l) ≡ n
       size = length-take-le n l fits
 
-      pub place-hit : i < n → f (getD l i z) ≡ true → a ≡ i
+      pub place-hit : i < n → f (getD l i z) ≡ true → place f (take n l) ≡ i
       place-hit h e = sym (scan-here f z _ (take n l) i inv (rw size h) (rw (getD-take n l i z h) e))
 
-      pub place-miss : i < n → f (getD l i z) ≡ false → a ≡ i + 1 + place f (drop (i + 1) (take n l))
+      pub place-miss : i < n → f (getD l i z) ≡ false → place f (take n l) ≡ i + 1 + place f (drop (i + 1) (take n l))
       place-miss h e = scan-on f z _ (take n l) i inv (rw size h) (rw (getD-take n l i z h) e)
 
-      pub place-end : n ≤ i → a ≡ i
+      pub place-end : n ≤ i → place f (take n l) ≡ i
       place-end h = sym (scan-end f z _ (take n l) i inv (rw size h))
 
     module _ (c : ℕ) (inv : length (select f (take n l)) ≡ c + length (select f (drop i (take n l)))) where

@@ -3,11 +3,11 @@
 use mathlib.Core.List.{List, [], _∷_, _++_}
 use mathlib.Core.Path.{_≡_}
 use Prim.Native.Nat.{ℕ, _+_, _-_, _*_, _<_, _≤_, max}
-use lib.ListN.{length, getD, take, drop, set}
+use lib.ListN.{length, getD, take, set}
 use Rattle.lists.specs.Parts.{part, overwrite}
 use Rattle.lists.specs.Rows.{rows}
-use Rattle.lists.specs.Search.{place, without}
-use Rattle.filesystem.specs.Tables.{NODES, PAGES, Node, OpenFile, Tables, nodeAt, isChild, pagesFor, pageTotal, setMode, setSize, setCursor}
+use Rattle.lists.specs.Search.{without}
+use Rattle.filesystem.specs.Tables.{NODES, PAGES, Node, OpenFile, Tables, nodeAt, pagesFor, pageTotal, setMode, setSize, setCursor}
 use Rattle.filesystem.specs.Image.{divide}
 use Rattle.filesystem.specs.Digests.{replaced}
 use Rattle.memory.specs.Layout.{Mem, digestWidth, dataSize, newDigests, withNodes, withDigests}
@@ -29,10 +29,6 @@ viewOf n o m = record {
   opens = take o (m .opens);
   staged = m .staged;
 }
-
--- the place that a search for a child finds from i on
-abbrev pub childFrom : ℕ → List Node → ℕ → List ℕ → ℕ
-childFrom i ns p name = i + place (isChild p name) (drop i ns)
 
 -- the tables alone
 unfoldable pub tablesIn : (n o : ℕ) → Mem → Tables

@@ -13,7 +13,7 @@ ghost use Rattle.filesystem.specs.Tables.{NODES, PAGES, findId, findChild, chil
 ghost use Rattle.filesystem.specs.Image.{soundNodes, divide};
 ghost use Rattle.memory.specs.Records.{nodeOf, openOf};
 ghost use Rattle.memory.specs.Layout.{memOf, memorySize, openRows};
-ghost use Rattle.tables.specs.View.{childFrom, viewOf, withNode, withoutNode, withOpen, withoutOpen, withChange, stagedDigests, Changeable, Spans, Room};
+ghost use Rattle.tables.specs.View.{viewOf, withNode, withoutNode, withOpen, withoutOpen, withChange, stagedDigests, Changeable, Spans, Room};
 
 // ---- searches
 
@@ -47,25 +47,6 @@ pub fn find_node(m: &[u8], n: usize, id: u64, hint: usize) -> usize
     find_id(m, n, id)
 }
 
-// The first place from i on where the node with this parent and this name may stand, or the count of nodes. Its loop has no other inside, so
-// that it is compiled to one pointer along the rows.
-fn next_candidate(m: &[u8], i: usize, nodes: usize, parent: u64, name: &[u8]) -> usize
-    requires { ⌜ (i ≤ nodes) × (nodes ≤ NODES) × (memorySize ≤ length (now m)) ⌝ }
-    ensures { λ r. ⌜ (i ≤ r) × (r ≤ nodes)
-        × (childFrom i (take nodes (memOf (now (m .entry)) .nodes)) parent (now (name .entry)) ≡ childFrom r
-        (take nodes (memOf (now (m .entry)) .nodes)) parent (now (name .entry))) ⌝ }
-{
-    let mut k = i;
-    // none from i to k is it
-    while k < nodes {
-        if memory::may_be_child(m, k, parent, name) {
-            return k;
-        }
-        k += 1;
-    }
-    k
-}
-
 // The place of the node with this parent and this name, or the count of nodes.
 pub fn find_child(m: &[u8], nodes: usize, parent: u64, name: &[u8]) -> usize
     requires { ⌜ (nodes ≤ NODES) × (memorySize ≤ length (now m)) ⌝ }
@@ -74,14 +55,10 @@ pub fn find_child(m: &[u8], nodes: usize, parent: u64, name: &[u8]) -> usize
     let mut i = 0;
     // none before i is it
     while i < nodes {
-        let k = next_candidate(m, i, nodes, parent, name);
-        if k == nodes {
-            return k;
+        if memory::is_child(m, i, parent, name) {
+            return i;
         }
-        if memory::is_child(m, k, parent, name) {
-            return k;
-        }
-        i = k + 1;
+        i += 1;
     }
     i
 }

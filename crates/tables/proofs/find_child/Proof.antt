@@ -1,14 +1,13 @@
--- `tables::find_child` meets its contract. The loop's invariant: the place is what a search from i on finds. Assumes nothing.
-use Prim.Native.Nat.{_-_, _≤_}
+-- `tables::find_child` meets its contract. The loop's invariant: the place is i and the place in what remains. Assumes nothing.
+use Prim.Native.Nat.{_+_, _-_, _≤_}
 use mathlib.Core.Path.{_≡_, sym, _∙_}
 use native.Mathlib.Nat.{zero-add}
 use native.Mathlib.Omega.{arith}
-use lib.ListN.{length, take}
+use lib.ListN.{length, take, drop}
 use Rattle.lists.specs.Search.{place}
 use Rattle.filesystem.specs.Tables.{findChild, isChild, noNode, nodeAt}
 use Rattle.memory.specs.Layout.{memOf}
 use Rattle.memory.specs.MemLaws.{length-nodes}
-use Rattle.tables.specs.View.{childFrom}
 use Rattle.tables.specs.SearchLaws.{place-hit, place-miss, place-end}
 use borrow.Author.Needs.{needs}
 use Rattle.tables.proofs.find_child.Statement.{statement}
@@ -16,7 +15,7 @@ use Rattle.tables.proofs.find_child.Tie as tie
 
 abbrev Inv-loop : tie.InvT-loop
 Inv-loop m nodes parent name i₀ i =
-    (i ≤ nodes) × (place (isChild parent name) (take nodes (memOf m .nodes)) ≡ childFrom i (take nodes (memOf m .nodes)) parent name)
+    (i ≤ nodes) × (place (isChild parent name) (take nodes (memOf m .nodes)) ≡ i + place (isChild parent name) (drop i (take nodes (memOf m .nodes))))
 
 abbrev μ-loop : tie.MeasureT-loop
 μ-loop m nodes parent name i₀ i = nodes - i
@@ -25,32 +24,24 @@ loop-holds : tie.Need-loop-holds Inv-loop μ-loop
 loop-holds c = (omega arith, sym (zero-add _))
 
 returns : tie.Need-returns Inv-loop μ-loop
-unfolding findChild
+unfolding findChild nodeAt
 returns c =
     let a = c .before .before .before .before .before .before .args in
-    let k = c .before .next-candidate in
+    let l = c .before .before .before .loop in
     let f : length (memOf (a .m .now) .nodes) ≡ _ = length-nodes (a .m .now) in
-    sym (place-end noNode (memOf (a .m .now) .nodes) (a .nodes) (k .result) (omega arith) (isChild (a .parent) (a .name .now)) (c .before .before .before .loop .inv .1 ∙ k .ensures .2) (omega arith))
-
-returns-2 : tie.Need-returns-2 Inv-loop μ-loop
-unfolding findChild nodeAt
-returns-2 c =
-    let a = c .before .before .before .before .before .before .before .before .args in
-    let k = c .before .before .before .next-candidate in
-    let f : length (memOf (a .m .now) .nodes) ≡ _ = length-nodes (a .m .now) in
-    sym (place-hit noNode (memOf (a .m .now) .nodes) (a .nodes) (k .result) (omega arith) (isChild (a .parent) (a .name .now)) (c .before .before .before .before .before .loop .inv .1 ∙ k .ensures .2) (omega arith) (sym (c .before .is-child .ensures) ∙ c .if2 .taken))
+    sym (place-hit noNode (memOf (a .m .now) .nodes) (a .nodes) (l .i) (omega arith) (isChild (a .parent) (a .name .now)) (l .inv .1) (omega arith) (sym (c .before .is-child .ensures) ∙ c .if1 .taken))
 
 loop-again : tie.Need-loop-again Inv-loop μ-loop
 unfolding nodeAt
 loop-again c =
-    let a = c .before .before .before .before .before .before .before .before .args in
-    let k = c .before .before .before .next-candidate in
+    let a = c .before .before .before .before .before .before .args in
+    let l = c .before .before .before .loop in
     let f : length (memOf (a .m .now) .nodes) ≡ _ = length-nodes (a .m .now) in
-    (omega arith, place-miss noNode (memOf (a .m .now) .nodes) (a .nodes) (k .result) (omega arith) (isChild (a .parent) (a .name .now)) (c .before .before .before .before .before .loop .inv .1 ∙ k .ensures .2) (omega arith) (sym (c .before .is-child .ensures) ∙ c .if2 .left))
+    (omega arith, place-miss noNode (memOf (a .m .now) .nodes) (a .nodes) (l .i) (omega arith) (isChild (a .parent) (a .name .now)) (l .inv .1) (omega arith) (sym (c .before .is-child .ensures) ∙ c .if1 .left))
 
-returns-3 : tie.Need-returns-3 Inv-loop μ-loop
+returns-2 : tie.Need-returns-2 Inv-loop μ-loop
 unfolding findChild
-returns-3 c =
+returns-2 c =
     let a = c .before .before .before .before .args in
     let l = c .before .loop in
     let f : length (memOf (a .m .now) .nodes) ≡ _ = length-nodes (a .m .now) in
@@ -58,5 +49,4 @@ returns-3 c =
 
 pub find-child-spec : {M : Type 1} → statement M
 find-child-spec =
-    tie.close (tie.spec Inv-loop μ-loop loop-holds (λ c κs. search needs) returns (λ c κs. search needs) returns-2 (λ c. search needs) (λ c. search needs) loop-again
-    returns-3)
+    tie.close (tie.spec Inv-loop μ-loop loop-holds (λ c κs. search needs) returns (λ c. search needs) (λ c. search needs) loop-again returns-2)
