@@ -21,39 +21,44 @@ fn same_bytes(a: &[u8], b: &[u8]) -> bool
     true
 }
 
-// The same, eight bytes at a time and the last eight first: names of one directory often begin alike.
-fn same_words(a: &[u8], b: &[u8]) -> bool
-    requires { ⌜ (length (now a) ≡ length (now b)) × (8 ≤ length (now a)) ⌝ }
+// The same for four to eight bytes: the last four, and the first four. Names of one directory often begin alike.
+fn same_to_8(a: &[u8], b: &[u8]) -> bool
+    requires { ⌜ (length (now a) ≡ length (now b)) × (4 ≤ length (now a)) × (length (now a) ≤ 8) ⌝ }
+    ensures { λ r. ⌜ r ≡ equal (now (a .entry)) (now (b .entry)) ⌝ }
+{
+    let last = a.len() - 4;
+    if numbers::u32_at(a, last) != numbers::u32_at(b, last) {
+        return false;
+    }
+    numbers::u32_at(a, 0) == numbers::u32_at(b, 0)
+}
+
+// The same for eight to sixteen bytes.
+fn same_to_16(a: &[u8], b: &[u8]) -> bool
+    requires { ⌜ (length (now a) ≡ length (now b)) × (8 ≤ length (now a)) × (length (now a) ≤ 16) ⌝ }
     ensures { λ r. ⌜ r ≡ equal (now (a .entry)) (now (b .entry)) ⌝ }
 {
     let last = a.len() - 8;
     if numbers::u64_at(a, last) != numbers::u64_at(b, last) {
         return false;
     }
-    let mut i = 0;
-    // the first i bytes are alike, and the last eight
-    while i < last {
-        if numbers::u64_at(a, i) != numbers::u64_at(b, i) {
-            return false;
-        }
-        i += 8;
-    }
-    true
+    numbers::u64_at(a, 0) == numbers::u64_at(b, 0)
 }
 
-// The same for four to eight bytes: the first four and the last four.
-fn same_to_8(a: &[u8], b: &[u8]) -> bool
-    requires { ⌜ (length (now a) ≡ length (now b)) × (4 ≤ length (now a)) × (length (now a) ≤ 8) ⌝ }
+// The same for sixteen to thirty-two bytes.
+fn same_to_32(a: &[u8], b: &[u8]) -> bool
+    requires { ⌜ (length (now a) ≡ length (now b)) × (16 ≤ length (now a)) × (length (now a) ≤ 32) ⌝ }
     ensures { λ r. ⌜ r ≡ equal (now (a .entry)) (now (b .entry)) ⌝ }
 {
-    let last = a.len() - 4;
-    if numbers::u32_at(a, 0) != numbers::u32_at(b, 0) {
+    let n = a.len();
+    let last = n - 16;
+    if !same_to_16(&a[last..n], &b[last..n]) {
         return false;
     }
-    numbers::u32_at(a, last) == numbers::u32_at(b, last)
+    same_to_16(&a[0..16], &b[0..16])
 }
 
-// Whether two strings are equal.
+// Whether two strings are equal. Names and digests are compared without a loop: a search is then an innermost loop, which is compiled to one pointer.
 pub fn same(a: &[u8], b: &[u8]) -> bool
     ensures { λ r. ⌜ r ≡ equal (now (a .entry)) (now (b .entry)) ⌝ }
 {
@@ -66,7 +71,13 @@ pub fn same(a: &[u8], b: &[u8]) -> bool
     if a.len() < 8 {
         return same_to_8(a, b);
     }
-    same_words(a, b)
+    if a.len() <= 16 {
+        return same_to_16(a, b);
+    }
+    if a.len() <= 32 {
+        return same_to_32(a, b);
+    }
+    same_bytes(a, b)
 }
 
 // A block of 128 bytes: read whole, and written whole.

@@ -1,8 +1,8 @@
--- Two lists of bytes compared piece by piece from the front: by bytes, or by numbers of several bytes.
+-- Two lists of bytes compared piece by piece: by bytes, or by numbers of several bytes.
 -- Assumes nothing.
 use Prim.Native.Nat.{ℕ, suc, _+_, _<_, _≤_}
-use mathlib.Core.Path.{_≡_, sym, ap, ap₂, _∙_}
-use mathlib.Core.Bool.{false}
+use mathlib.Core.Path.{_≡_, refl, sym, ap, ap₂, _∙_}
+use mathlib.Core.Bool.{true, false}
 use mathlib.Core.List.{List, [], _∷_, _++_}
 use native.Mathlib.Omega.{arith}
 use native.Mathlib.Numerals.{add-one}
@@ -11,7 +11,7 @@ use lib.ListN.{length, getD, take}
 use lib.Seq.{take-add, take-suc, take-all, take-take}
 use borrow.Author.Tests.{eq-eqb, ne-eqb}
 use Rattle.lists.specs.All.{both, none, Bytes, all-take, all-drop}
-use Rattle.lists.specs.Equal.{equal, equal-no, equal-true, equal-false, Is, is, isT, isF}
+use Rattle.lists.specs.Equal.{equal, equal-yes, equal-no, equal-true, equal-false, Is, is, isT, isF}
 use Rattle.lists.specs.LittleEndian.{encode, decode, encode-decode}
 use Rattle.lists.specs.Parts.{part}
 use Rattle.lists.specs.PartLaws.{length-part}
@@ -67,11 +67,26 @@ module _ (a b : List ℕ) where
         → take (i + n) a ≡ take (i + n) b
     alike-word i h g e d = alike-part i n e (word-same i h g d)
 
-    -- the last n bytes, of which some were seen before, decide
+    -- the last n bytes, of which some were seen before
     alike-last : (i j : ℕ) → j + n ≡ length a → length a ≡ length b → j ≤ i → take i a ≡ take i b → decode (part j n a) ≡ decode (part j n b) → a ≡ b
     alike-last i j h g k e d = alike-all (j + n) (omega arith) (omega arith) (alike-word j (omega arith) (omega arith) (alike-less j i k e) d)
 
-    pub last-decides : (i j x y : ℕ) → j + n ≡ length a → length a ≡ length b → j ≤ i → take i a ≡ take i b → x ≡ decode (part j n a) → y ≡ decode (part j n b)
-        → eqb x y ≡ equal a b
-    last-decides i j x y h g k e p q =
-        equal-by x y a b (λ d. p ∙ ap (λ (l : List ℕ). decode (part j n l)) d ∙ sym q) (λ d. alike-last i j h g k e (sym p ∙ d ∙ q))
+    -- where the last n bytes are the same, the first n decide, if they reach those
+    pub first-decides : (j x y : ℕ) → j + n ≡ length a → length a ≡ length b → j ≤ n → decode (part j n a) ≡ decode (part j n b) → x ≡ decode (part 0 n a)
+        → y ≡ decode (part 0 n b) → eqb x y ≡ equal a b
+    first-decides j x y h g k e p q =
+        equal-by x y a b (λ d. p ∙ ap (λ (l : List ℕ). decode (part 0 n l)) d ∙ sym q)
+        (λ d. alike-last (0 + n) j h g (omega arith) (alike-word 0 (omega arith) (omega arith) refl (sym p ∙ d ∙ q)) e)
+
+-- the last n elements, and then the first i, if they reach those
+module _ (a b : List ℕ) (j n : ℕ) where
+  pub end-differs : equal (part j n a) (part j n b) ≡ false → false ≡ equal a b
+  end-differs e = sym (equal-no a b (λ q. equal-false _ _ e (ap (part j n) q)))
+
+  pub front-decides : (i : ℕ) → j ≤ i → j + n ≡ length a → length a ≡ length b → equal (part j n a) (part j n b) ≡ true
+      → equal (take i a) (take i b) ≡ equal a b
+  front-decides i h g k e = go (is (equal (take i a) (take i b)))
+    where
+      go : Is (equal (take i a) (take i b)) → equal (take i a) (take i b) ≡ equal a b
+      go (isT t) = t ∙ sym (equal-yes a b (alike-all a b (j + n) (omega arith) (omega arith) (alike-part a b j n (alike-less a b j i h (equal-true _ _ t)) (equal-true _ _ e))))
+      go (isF t) = t ∙ sym (equal-no a b (λ q. equal-false _ _ t (ap (take i) q)))

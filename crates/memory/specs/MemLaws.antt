@@ -2,10 +2,14 @@
 -- Assumes nothing.
 use Prim.Native.Nat.{ℕ, _+_, _*_, _%_, _^_, _<_, _≤_}
 use mathlib.Core.Path.{_≡_, refl, sym, ap, _∙_}
+use mathlib.Core.Bool.{_&&_}
 use mathlib.Core.List.{List, []}
 use native.Mathlib.Nat.{zero-add, add-assoc, add-mul, mul-le-mul-right}
 use native.Mathlib.Omega.{arith}
+use lib.Dec.{eqb}
 use lib.ListN.{length, getD, take, set}
+use borrow.Author.Tests.{eqb-true, eqb-false}
+use Rattle.lists.specs.Equal.{equal, equal-no, and-true, and-false, Is, is, isT, isF}
 use Rattle.lists.specs.LittleEndian.{encode, decode, length-encode}
 use Rattle.lists.specs.Parts.{part, overwrite}
 use Rattle.lists.specs.PartLaws.{length-part, part-part}
@@ -159,6 +163,23 @@ module _ (m : List ℕ) (i : ℕ) where
       ap (λ (n : Node). n .name) (node-at h)
       ∙ part-part a nodeWidth 23 (field 22 1 (part a nodeWidth m) % 33) m (omega arith)
       ∙ ap (λ (k : ℕ). part (a + 23) (k % 33) m) e
+
+  -- a name, by as many of the row's bytes as it has, and then by its length
+  pub name-is : (s : List ℕ) → i < NODES → memorySize ≤ length m
+      → equal (nodeAt (memOf m .nodes) i .name) s ≡ (equal (part (nodesAt + i * nodeWidth + 23) (length s) m) s && eqb (getD m (nodesAt + i * nodeWidth + 22) 0 % 33) (length s))
+  name-is s h f = rw (node-name h) (go (is (eqb n (length s))))
+    where
+      a : ℕ
+      a = nodesAt + i * nodeWidth
+
+      n : ℕ
+      n = getD m (a + 22) 0 % 33
+
+      go : Is (eqb n (length s)) → equal (part (a + 23) n m) s ≡ (equal (part (a + 23) (length s) m) s && eqb n (length s))
+      go (isT e) = rw (e, ← eqb-true n (length s) e, and-true)
+      go (isF e) =
+          let l : length (part (a + 23) n m) ≡ n = length-part (a + 23) n m (omega arith) in
+          rw (e, and-false) (equal-no _ s (λ q. eqb-false n (length s) e (sym l ∙ ap length q)))
 
   pub open-at : i < openRows → openAt (memOf m .opens) i ≡ openOf (part (opensAt + i * openWidth) openWidth m)
   unfolding memOf memFrom openAt

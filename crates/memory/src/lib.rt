@@ -123,7 +123,8 @@ pub fn node_name(m: &[u8], i: usize) -> &[u8]
     &m[start..end]
 }
 
-// Whether node i has this parent and this name.
+// Whether node i has this parent and this name. The row's own length comes last: all else hangs on the searched name's, so that a search is
+// compiled to a loop for each class of lengths.
 pub fn is_child(m: &[u8], i: usize, parent: u64, name: &[u8]) -> bool
     requires { ⌜ (i < NODES) × (memorySize ≤ length (now m)) ⌝ }
     ensures { λ r. ⌜ r ≡ isChild parent (now (name .entry)) (nodeAt (memOf (now (m .entry)) .nodes) i) ⌝ }
@@ -131,7 +132,17 @@ pub fn is_child(m: &[u8], i: usize, parent: u64, name: &[u8]) -> bool
     if node_parent(m, i) != parent {
         return false;
     }
-    buffers::same(node_name(m, i), name)
+    let n = name.len();
+    if limits::NAME_BYTES < n {
+        return false;
+    }
+    let at = NODES_AT + i * NODE_WIDTH;
+    let start = at + 23;
+    let end = start + n;
+    if !buffers::same(&m[start..end], name) {
+        return false;
+    }
+    name_length(m[at + 22]) == n
 }
 
 // A node's row up to its name.
