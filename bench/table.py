@@ -12,10 +12,8 @@ MEAN, MOST, HASHING, STACK = 1.10, 1.30, 1.05, 16_384
 HASH = "digest::sha256"  # in the archive
 
 # Rows that miss a bar, and why.
-FEW = "27 instructions beyond plain C's 73; the time of so few varies with where the code comes to lie"
 EXPLAINED = {
-    "seek, two nodes": FEW,
-    "seek, 256 nodes": FEW,
+    "write 1,024, aligned": "not in every run: 1.02, 1.02, 1.02 and 1.07 in four of one build, at 1.02 of the instructions; the cause was not found",
     "truncate, on an edge": "the digests behind the file are moved 16 bytes at a time, where the C library's memmove has vectors of 32; and pages are summed"
     " over the nodes, where plain C keeps in each node where its digests begin",
 }
