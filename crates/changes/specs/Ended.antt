@@ -17,8 +17,8 @@ use Rattle.guard_state.specs.declared.Guard.{Guard}
 use Rattle.guard_state.specs.State.{numbersOf, stateIn, stateOf}
 use Rattle.guard_state.specs.Waits.{restingState}
 use Rattle.outcomes.specs.declared.Outcome.the-variants.{Done}
-use Rattle.outcomes.specs.Values.{answerIn}
-use Rattle.outcomes.specs.Sent.{Sends}
+use Rattle.outcomes.specs.Values.{lengthOf, bytesIn, answerIn}
+use Rattle.outcomes.specs.Sent.{settled, Sends}
 
 -- the numbers with which the change q of the memory m ends: of the node in place k and the open file in place o
 pub record Ended (c : Config) (m : List ℕ) (q : Change) (k o size cursor from count number : ℕ) : Type 0 where
@@ -50,7 +50,7 @@ module _ (c : Config) (m : List ℕ) (q : Change) (k o size cursor from count nu
       → viewOf n p (memOf m₁) ≡ withChange (zeroDigest c) k size from (stagedDigests count (memOf m .staged)) (viewOf n p (memOf m))
       → memOf m₂ ≡ withOpens (setCursor (memOf m₁ .opens) o cursor) (memOf m₁) → stateOf c m₃ ≡ restingState c (viewOf n p (memOf m₂))
       → Sends c (finishChange c (digestStore c) s k o q) (Done number 0) m₃ b b
-  unfolding finishChange answerIn requestBytes overwrite
+  unfolding finishChange answerIn lengthOf bytesIn settled requestBytes overwrite
   change-sends n p m₁ m₂ m₃ b e f v w r =
       let l : o < p = rw f (h .opened) in
       record {
@@ -61,5 +61,6 @@ module _ (c : Config) (m : List ℕ) (q : Change) (k o size cursor from count nu
             ∙ (λ i. restingState c (cursorAt o cursor (withChange (zeroDigest c) k size from (stagedDigests count (memOf m .staged)) (viewOf (e i) (f i) (memOf m)))))
             ∙ change-rests;
         answer = λ a. ap (λ (x : ℕ). done x []) (h .says);
+        length = refl;
         request = refl;
       }

@@ -25,7 +25,6 @@ use Rattle.machine.specs.Consistent.{Consistent}
 use Rattle.guard_state.specs.declared.Guard.{Guard}
 use Rattle.guard_state.specs.State.{numbersOf, stateIn, stateOf}
 use Rattle.guard_state.specs.LoadedLaws.{nodes-count, node-there}
-use Rattle.guard_state.specs.Waits.{stops}
 use Rattle.outcomes.specs.declared.Outcome.{Outcome}
 use Rattle.outcomes.specs.declared.Outcome.the-variants.{Stopped}
 use Rattle.outcomes.specs.Sent.{Sends, stop-sends}
@@ -66,7 +65,7 @@ module _ (c : Config) (same : c .digest ≡ sha256) (s : State (digestStore c)) 
           ∙ ap (λ (n : ℕ). apply c (digestStore c) s (halt n)) (sym (e ∙ pick-true _ _ _ x ∙ pick-false _ _ _ y))
       go (isT x) (isT y) = absurd (let z : b ≡ 0 = e ∙ pick-true _ _ _ x ∙ pick-true _ _ _ y in omega arith)
 
-  pub fetched-stops : (b : ℕ) (m z : List ℕ) → b ≡ pageReason kept r → 0 < b → stateOf c m ≡ stops c s → Sends c (answered c s r) (Stopped b) m z z
+  pub fetched-stops : (b : ℕ) (m z : List ℕ) → b ≡ pageReason kept r → 0 < b → stateOf c m ≡ s → Sends c (answered c s r) (Stopped b) m z z
   fetched-stops b m z e h g =
       subst (λ (x : Result (digestStore c)). Sends c x (Stopped b) m z z) (sym (fetched-halts b e h)) (stop-sends c s (halt b) b m z refl g)
 
@@ -113,9 +112,8 @@ module _ (c : Config) (m : List ℕ) (q : Change) (h : Consistent c (stateOf c m
         let z : nodeAt (memOf m .nodes) (g .node) .size ≡ nodeAt (stateOf c m .skeleton .tables .nodes) (g .node) .size = ap (λ (x : Node). x .size) (node-there m c (g .node) n) in
         subst (λ (x : Guard). JudgedPage m x b r) loaded judged n (omega (arith, f .old, z)) (consistent-room c m q h k)
 
-    pub judged-stops : c .digest ≡ sha256 → 0 < b → (m′ z : List ℕ) → stateOf c m′ ≡ stops c (stateOf c m)
-        → Sends c (answered c (stateOf c m) r) (Stopped b) m′ z z
-    judged-stops same p m′ z e = fetched-stops c same (stateOf c m) r (g .node) (g .opened) q (g .page) waiting b m′ z fetch-judged p e
+    pub judged-stops : c .digest ≡ sha256 → 0 < b → (z : List ℕ) → Sends c (answered c (stateOf c m) r) (Stopped b) m z z
+    judged-stops same p z = fetched-stops c same (stateOf c m) r (g .node) (g .opened) q (g .page) waiting b m z fetch-judged p refl
 
     pub judged-stores : c .digest ≡ sha256 → b ≡ 0 → (x : Outcome) (m′ z z′ : List ℕ)
         → Sends c (askStore c (digestStore c) (stateOf c m) (g .node) (g .opened) q (g .page) r) x m′ z z′ → Sends c (answered c (stateOf c m) r) x m′ z z′

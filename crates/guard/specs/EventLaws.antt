@@ -11,18 +11,16 @@ use borrow.Author.Tests.{eq-eqb, ne-eqb, lt-ltb, le-ltb, ltb-false}
 use Rattle.lists.specs.Equal.{or-fst, or-snd}
 use Rattle.lists.specs.Pick.{pick, pick-true, pick-false}
 use Rattle.lists.specs.Checks.{Check, decide, check-last, check-stops, check-passes}
-use Rattle.memory.specs.Layout.{memorySize}
 use Rattle.rules.specs.Requests.{storeLength}
 use Rattle.rules.specs.Skeleton.{Config, Event, call, reply, save, load, answerLength, requestLength, Skeleton}
 use Rattle.rules.specs.Calls.{readCall}
 use Rattle.rules.specs.Rules.{Move, refuse, isIdle, isNone, callOr, callChecks, eventChecks, eventAction, judge}
 use Rattle.configuration.specs.Delivered.{delivered}
 use Rattle.machine.specs.Machine.{State, apply, guard as digestStore}
-use Rattle.guard_state.specs.State.{stateOf}
 use Rattle.calls.specs.Called.{called, calledWith}
 use Rattle.outcomes.specs.Answered.{taken, answered}
 use Rattle.saves.specs.Saved.{saveMove, loadMove}
-use Rattle.guard.specs.Tested.{firstOf, Tested}
+use Rattle.guard.specs.Promise.{GuardState, firstOf}
 
 -- a buffer that is too short, as it is delivered
 module _ (a q : ℕ) where
@@ -38,9 +36,12 @@ module _ (a q : ℕ) where
   answer-long h = sym (ap (λ b. b || ltb q 1037) (le-ltb a 9690 h))
 
 -- buffers that are long enough
-pub long-enough : (a q : ℕ) → (ltb a (answerLength delivered) || ltb q (requestLength delivered)) ≡ false → (answerLength delivered ≤ a) × (storeLength ≤ q)
+pub long-enough : (a q : ℕ) → (ltb a (answerLength delivered) || ltb q (requestLength delivered)) ≡ false → (answerLength delivered ≤ a) × (requestLength delivered ≤ q)
+long-enough a q e = (ltb-false a (answerLength delivered) (or-fst _ _ e), ltb-false q (requestLength delivered) (or-snd (ltb a (answerLength delivered)) _ e))
+
+pub store-room : (q : ℕ) → requestLength delivered ≤ q → storeLength ≤ q
 unfolding requestLength
-long-enough a q e = (ltb-false a (answerLength delivered) (or-fst _ _ e), ltb-false q storeLength (or-snd (ltb a (answerLength delivered)) _ e))
+store-room q h = h
 
 pub answer-room : (a : ℕ) → answerLength delivered ≤ a → 4096 ≤ a
 unfolding answerLength delivered
@@ -62,16 +63,16 @@ quiet-first true i cs x = refl
 quiet-first false true cs x = refl
 quiet-first false false cs x = refl
 
-module _ (m : List ℕ) (busy quiet r : ℕ) (t : Tested busy quiet m r) (e : Event) (v : Move)
-    (like : judge delivered (stateOf delivered m .skeleton) e ≡ First busy quiet (stateOf delivered m .skeleton) v) where
-  test : memorySize ≤ length m → eqb (firstOf busy quiet (stateOf delivered m .skeleton)) 0 ≡ eqb r 0
-  test l = ap (λ (n : ℕ). eqb n 0) (sym (t .found l delivered))
+module _ (s : GuardState) (busy quiet r : ℕ) (t : r ≡ firstOf busy quiet (s .skeleton)) (e : Event) (v : Move)
+    (like : judge delivered (s .skeleton) e ≡ First busy quiet (s .skeleton) v) where
+  test : eqb (firstOf busy quiet (s .skeleton)) 0 ≡ eqb r 0
+  test = ap (λ (n : ℕ). eqb n 0) (sym t)
 
-  pub turned-away : (r ≡ 0 → ⊥) → memorySize ≤ length m → judge delivered (stateOf delivered m .skeleton) e ≡ refuse r
-  turned-away h l = like ∙ pick-false _ _ _ (test l ∙ ne-eqb r 0 h) ∙ ap refuse (sym (t .found l delivered))
+  pub turned-away : (r ≡ 0 → ⊥) → judge delivered (s .skeleton) e ≡ refuse r
+  turned-away h = like ∙ pick-false _ _ _ (test ∙ ne-eqb r 0 h) ∙ ap refuse (sym t)
 
-  pub goes-on : r ≡ 0 → judge delivered (stateOf delivered m .skeleton) e ≡ v
-  goes-on z = like ∙ pick-true _ _ _ (test (t .goes z) ∙ eq-eqb r 0 z)
+  pub goes-on : r ≡ 0 → judge delivered (s .skeleton) e ≡ v
+  goes-on z = like ∙ pick-true _ _ _ (test ∙ eq-eqb r 0 z)
 
 -- each event behind its first two numbers: 34 and what the bytes say; a save and a load have crate `saves`' own moves
 module _ (c : Config) (s : State (digestStore c)) where

@@ -1,72 +1,112 @@
--- What the guard's entries promise: each one's memory, outcome and buffers are those of the machine's step.
+-- What the guard's entries promise: each one's outcome, memory and buffers are those of the machine's step.
+--   held m         the machine's state that a memory holds; `GuardState` is the type of such states
+--   Kept m         the memory of a guard: a fresh one's, and what any entry leaves of it (specs/KeptLaws.antt)
+--   Ready s e      what a promise asks of the state s before the event e
+--   Steps          outcome and state are those of the machine's step
+--   Own m m′       m′ is m but for the guard's own bytes
+--   Promise, FreshPromise, SavePromise, LoadPromise    of the entries; Shown: as C sees them
 -- Assumes nothing.
 use mathlib.Core.Path.{_≡_}
+use mathlib.Core.Bool.{true}
 use mathlib.Core.List.{List, []}
 use Prim.Native.Nat.{ℕ, _<_, _≤_}
 use lib.IntN.{pos}
-use lib.ListN.{length}
+use lib.ListN.{length, drop}
+use Rattle.lists.specs.Pick.{pick}
 use Rattle.memory.specs.Layout.{memorySize}
-use Rattle.filesystem.specs.Tables.{DIGEST-BYTES}
-use Rattle.rules.specs.Skeleton.{Event, save, load, EventBytes, Buffers, buffersAfter, atFront, imageAfter}
+use Rattle.filesystem.specs.Tables.{DIGEST-BYTES, PAGES, pageTotal}
+use Rattle.rules.specs.Skeleton.{Event, call, reply, save, load, EventBytes, Buffers, buffersAfter, atFront, imageAfter, answerLength, requestLength, Skeleton}
+use Rattle.rules.specs.Rules.{isIdle}
 use Rattle.configuration.specs.Delivered.{delivered}
 use Rattle.machine.specs.Machine.{State, Result, step, fresh, guard as digestStore}
 use Rattle.machine.specs.Consistent.{Consistent}
 use Rattle.guard_state.specs.State.{stateOf}
 use Rattle.outcomes.specs.declared.Outcome.{Outcome}
-use Rattle.outcomes.specs.declared.Outcome.the-variants.{Done, Refused}
-use Rattle.outcomes.specs.Values.{answerIn, kindOf, valueOf, lengthOf}
+use Rattle.outcomes.specs.declared.Outcome.the-variants.{Done, Refused, Stopped}
+use Rattle.outcomes.specs.Values.{answerIn, kindOf, valueOf, lengthOf, bytesIn}
 use Rattle.guard.specs.declared.GuardOutcome.{GuardOutcome}
 
--- the machine's state that a memory holds, and what the machine makes of an event
-abbrev pub held : List ℕ → State (digestStore delivered)
+abbrev pub GuardState : Type 0
+GuardState = State (digestStore delivered)
+
+abbrev pub held : List ℕ → GuardState
 held m = stateOf delivered m
 
-abbrev pub stepped : List ℕ → Event → Result (digestStore delivered)
-stepped m e = step delivered (digestStore delivered) (held m) e
+-- what the machine makes of an event
+abbrev pub stepOf : GuardState → Event → Result (digestStore delivered)
+stepOf s e = step delivered (digestStore delivered) s e
 
--- The one premise: the memory of a guard. `on_fresh` makes it so, and every entry keeps it (specs/KeptLaws.antt).
+abbrev pub stepped : List ℕ → Event → Result (digestStore delivered)
+stepped m e = stepOf (held m) e
+
 pub record Kept (m : List ℕ) : Type 0 where
   pub long : memorySize ≤ length m
   pub consistent : Consistent delivered (held m)
 
+-- 5 of a guard that has stopped, then a number where a call is pending and one where none is; 0 stands for going on
+unfoldable pub firstOf : (busy quiet : ℕ) → Skeleton → ℕ
+firstOf busy quiet sk = pick (sk .stopped) 5 (pick (isIdle (sk .pending)) quiet busy)
+
+-- Nothing is asked where one of the first numbers refuses the event (5; 114 or 61; then 34 of a call or a reply), and nothing of a load; of a save that
+-- there are no more pages than the limit. A call or a reply that goes on asks that the state is consistent.
+unfoldable pub Ready : GuardState → Event → Type 0
+Ready s (call b a q) = firstOf 114 0 (s .skeleton) ≡ 0 → answerLength delivered ≤ a → requestLength delivered ≤ q → Consistent delivered s
+Ready s (reply b a q) = firstOf 0 61 (s .skeleton) ≡ 0 → answerLength delivered ≤ a → requestLength delivered ≤ q → Consistent delivered s
+Ready s (save n) = firstOf 114 0 (s .skeleton) ≡ 0 → pageTotal (s .skeleton .tables .nodes) ≤ PAGES
+Ready s (load i d) = Unit {0}
+
+-- The outcome r and the state s′ are those of the step, with a and q where an answer's and a request's bytes stand. How many they are is said as a
+-- number: bytes that fill a buffer do not say it.
+pub record Steps (s : GuardState) (e : Event) (r : Outcome) (s′ : GuardState) (a q : List ℕ) : Type 0 where
+  pub state : s′ ≡ stepOf s e .state
+  pub answer : answerIn r a q ≡ stepOf s e .outcome .answer
+  pub length : lengthOf r ≡ bytesIn (stepOf s e .outcome .answer)
+
+-- only the guard's own bytes change
+pub record Own (m m′ : List ℕ) : Type 0 where
+  pub same-length : length m′ ≡ length m
+  pub behind : drop memorySize m′ ≡ drop memorySize m
+
 abbrev pub buffers : (answer request : List ℕ) → Buffers
 buffers a q = record { answer = a; request = q }
 
--- Of a call or a reply: the memory, the event, the outcome, the memory and the buffers afterwards.
+-- Of a call or a reply, with the buffers b before and b′ afterwards. On a memory that is no guard's own a stop is for good too.
+pub record Enters (s : GuardState) (e : Event) (r : Outcome) (s′ : GuardState) (b b′ : Buffers) : Type 0 where
+  pub steps : Ready s e → Steps s e r s′ (b′ .answer) (b′ .request)
+  pub buffers-after : Ready s e → b′ ≡ buffersAfter (stepOf s e .outcome .answer) b
+  pub stops : (n : ℕ) → r ≡ Stopped n → s′ .skeleton .stopped ≡ true
+
 pub record Promise (m : List ℕ) (e : Event) (r : Outcome) (m′ : List ℕ) (b b′ : Buffers) : Type 0 where
   pub bytes : EventBytes e
-  pub same-length : length m′ ≡ length m
-  pub state : Kept m → held m′ ≡ stepped m e .state
-  pub answer : Kept m → answerIn r (b′ .answer) (b′ .request) ≡ stepped m e .outcome .answer
-  pub buffers-after : Kept m → b′ ≡ buffersAfter (stepped m e .outcome .answer) b
+  pub own : Own m m′
+  pub enters : memorySize ≤ length m → Enters (held m) e r (held m′) b b′
   -- a memory that is too short is refused
-  pub short : length m < memorySize → r ≡ Refused 34
-  pub short-memory : length m < memorySize → m′ ≡ m
-  pub short-buffers : length m < memorySize → b′ ≡ b
+  pub short : length m < memorySize → (r ≡ Refused 34) × (m′ ≡ m) × (b′ ≡ b)
 
 -- Of a fresh guard.
 pub record FreshPromise (m : List ℕ) (r : Outcome) (m′ : List ℕ) : Type 0 where
-  pub same-length : length m′ ≡ length m
+  pub own : Own m m′
   pub done : memorySize ≤ length m → r ≡ Done 0 0
   pub state : memorySize ≤ length m → held m′ ≡ fresh delivered (digestStore delivered)
   pub short : length m < memorySize → (r ≡ Refused 34) × (m′ ≡ m)
 
--- Of a save: the memory, the image buffer and the digest's 32 bytes, before m, i, d, afterwards m′, i′, d′. A refused save leaves all three alone.
+-- Of a save: the image buffer and the digest's 32 bytes, before i and d, afterwards i′ and d′. A refused save leaves both alone.
+pub record Saving (s : GuardState) (r : Outcome) (s′ : GuardState) (i i′ d d′ : List ℕ) : Type 0 where
+  pub steps : Steps s (save (length i)) r s′ i′ []
+  pub image : i′ ≡ imageAfter (stepOf s (save (length i)) .outcome .answer) i
+  pub digest : d′ ≡ atFront (stepOf s (save (length i)) .outcome .digest) d
+
 pub record SavePromise (m : List ℕ) (r : Outcome) (m′ i i′ d d′ : List ℕ) : Type 0 where
-  pub same-length : length m′ ≡ length m
+  pub own : Own m m′
   pub room : length d ≡ DIGEST-BYTES
-  pub state : Kept m → held m′ ≡ stepped m (save (length i)) .state
-  pub answer : Kept m → answerIn r i′ [] ≡ stepped m (save (length i)) .outcome .answer
-  pub image : Kept m → i′ ≡ imageAfter (stepped m (save (length i)) .outcome .answer) i
-  pub digest : Kept m → d′ ≡ atFront (stepped m (save (length i)) .outcome .digest) d
+  pub saves : memorySize ≤ length m → Ready (held m) (save (length i)) → Saving (held m) r (held m′) i i′ d d′
   pub short : length m < memorySize → (r ≡ Refused 34) × (m′ ≡ m) × (i′ ≡ i) × (d′ ≡ d)
 
 -- Of a load of image i with digest d.
 pub record LoadPromise (m i d : List ℕ) (r : Outcome) (m′ : List ℕ) : Type 0 where
   pub bytes : EventBytes (load i d)
-  pub same-length : length m′ ≡ length m
-  pub state : Kept m → held m′ ≡ stepped m (load i d) .state
-  pub answer : Kept m → answerIn r [] [] ≡ stepped m (load i d) .outcome .answer
+  pub own : Own m m′
+  pub loads : memorySize ≤ length m → Steps (held m) (load i d) r (held m′) [] []
   pub short : length m < memorySize → (r ≡ Refused 34) × (m′ ≡ m)
 
 -- What C sees of an outcome.

@@ -1,14 +1,19 @@
 // The guard: one memory that the caller lends, and its entries. No entry requires anything; what each promises stands in specs/Promise.antt.
+// Functions with `m` work on a memory of just the guard's size; the entries lend them the front of what they get.
 ghost use mathlib.Core.Path.{_≡_};
 ghost use mathlib.Core.Bool.{_||_};
+ghost use mathlib.Core.List.{[]};
+ghost use Prim.Native.Nat.{_≤_};
 ghost use lib.Dec.{ltb};
 ghost use lib.ListN.{length};
 ghost use Rattle.filesystem.specs.Tables.{DIGEST-BYTES};
-ghost use Rattle.rules.specs.Skeleton.{call, reply, answerLength, requestLength};
+ghost use Rattle.memory.specs.Layout.{memorySize};
+ghost use Rattle.rules.specs.Skeleton.{call, reply, save, load, answerLength, requestLength};
 ghost use Rattle.configuration.specs.Delivered.{delivered};
-ghost use Rattle.guard.specs.Promise.{Promise, FreshPromise, SavePromise, LoadPromise, Shown, buffers, shownAs};
+ghost use Rattle.machine.specs.Machine.{fresh, guard as digestStore};
+ghost use Rattle.outcomes.specs.Sent.{settled};
+ghost use Rattle.guard.specs.Promise.{held, firstOf, Ready, Steps, Enters, Saving, Promise, FreshPromise, SavePromise, LoadPromise, Shown, buffers, shownAs};
 ghost use Rattle.guard.specs.Numbers.{waits};
-ghost use Rattle.guard.specs.Tested.{Tested};
 
 // The least lengths of the answer buffer, for the longest listing, and of the request buffer, for a store.
 pub const ANSWER_LENGTH: usize = outcomes::ANSWER_LENGTH;
@@ -35,15 +40,12 @@ fn is_pending(number: u64) -> bool
     number <= guard_state::calls::CUTTING
 }
 
-// Why an event is refused before what it hands in is looked at: 34 of a memory that is too short, 5, then `busy` where a call is pending and `quiet`
-// where none is. 0: it goes on.
-fn first_number(memory: &[u8], busy: u8, quiet: u8) -> u8
-    ensures { λ r. ⌜ Tested busy quiet (now (memory .entry)) r ⌝ }
+// Why an event is refused before what it hands in is looked at: 5, then `busy` where a call is pending and `quiet` where none is. 0: it goes on.
+fn first_number(m: &[u8], busy: u8, quiet: u8) -> u8
+    requires { ⌜ memorySize ≤ length (now m) ⌝ }
+    ensures { λ r. ⌜ r ≡ firstOf busy quiet (held (now (m .entry)) .skeleton) ⌝ }
 {
-    if memory.len() < memory::SIZE {
-        return 34;
-    }
-    let g = guard_state::Guard::load(memory);
+    let g = guard_state::Guard::load(m);
     if g.stopped {
         return 5;
     }
@@ -63,7 +65,87 @@ fn is_short(answer: usize, request: usize) -> bool
     request < REQUEST_LENGTH
 }
 
+// The one place where the guard stops: whichever branch found a reason, it is for good.
+fn settle(m: &mut [u8], o: outcomes::Outcome) -> outcomes::Outcome
+    requires { ⌜ memorySize ≤ length (now m) ⌝ }
+    ensures { λ r. ⌜ (r ≡ o) × (held (now (m .exit)) ≡ settled delivered o (held (now (m .entry)))) ⌝ }
+    ensures { λ _. ⌜ length (now (m .exit)) ≡ length (now (m .entry)) ⌝ }
+{
+    let outcomes::Outcome::Stopped(reason) = o else {
+        return o;
+    };
+    guard_state::stop(m);
+    o
+}
+
 // A call: 5, 114, 34, then what its bytes say.
+fn take_call(m: &mut [u8], bytes: &[u8], answer: &mut [u8], request: &mut [u8]) -> outcomes::Outcome
+    requires { ⌜ memorySize ≤ length (now m) ⌝ }
+    ensures { λ r. ⌜ Enters (held (now (m .entry)))
+        (call (now (bytes .entry)) (length (now (answer .entry))) (length (now (request .entry)))) r (held (now (m .exit)))
+        (buffers (now (answer .entry)) (now (request .entry))) (buffers (now (answer .exit)) (now (request .exit))) ⌝ }
+    ensures { λ _. ⌜ length (now (m .exit)) ≡ length (now (m .entry)) ⌝ }
+{
+    let b = first_number(m, 114, 0);
+    if b != 0 {
+        return outcomes::Outcome::Refused(b);
+    }
+    if is_short(answer.len(), request.len()) {
+        return outcomes::Outcome::Refused(34);
+    }
+    let o = calls::begin_call(m, bytes, request);
+    settle(m, o)
+}
+
+// A reply: 5, 61, 34, then what the pending call makes of it.
+fn take_reply(m: &mut [u8], bytes: &[u8], answer: &mut [u8], request: &mut [u8]) -> outcomes::Outcome
+    requires { ⌜ memorySize ≤ length (now m) ⌝ }
+    ensures { λ r. ⌜ Enters (held (now (m .entry)))
+        (reply (now (bytes .entry)) (length (now (answer .entry))) (length (now (request .entry)))) r (held (now (m .exit)))
+        (buffers (now (answer .entry)) (now (request .entry))) (buffers (now (answer .exit)) (now (request .exit))) ⌝ }
+    ensures { λ _. ⌜ length (now (m .exit)) ≡ length (now (m .entry)) ⌝ }
+{
+    let b = first_number(m, 0, 61);
+    if b != 0 {
+        return outcomes::Outcome::Refused(b);
+    }
+    if is_short(answer.len(), request.len()) {
+        return outcomes::Outcome::Refused(34);
+    }
+    let o = call_replies::accept_reply(m, bytes, answer, request);
+    settle(m, o)
+}
+
+// A save: 5, 114, then 16, 34, or the image and its digest.
+fn take_save(m: &mut [u8], image: &mut [u8], digest: &mut [u8]) -> outcomes::Outcome
+    requires { ⌜ (length (now digest) ≡ DIGEST-BYTES) × (memorySize ≤ length (now m)) ⌝ }
+    ensures { λ r. ⌜ (Ready (held (now (m .entry))) (save (length (now (image .entry))))
+        → Saving (held (now (m .entry))) r (held (now (m .exit))) (now (image .entry)) (now (image .exit)) (now (digest .entry))
+        (now (digest .exit))) ⌝ }
+    ensures { λ _. ⌜ length (now (m .exit)) ≡ length (now (m .entry)) ⌝ }
+{
+    let b = first_number(m, 114, 0);
+    if b != 0 {
+        return outcomes::Outcome::Refused(b);
+    }
+    saves::save(m, image, digest)
+}
+
+// A load: 5, 114, then 16, 74, 84, or the image's tables.
+fn take_load(m: &mut [u8], image: &[u8], digest: &[u8]) -> outcomes::Outcome
+    requires { ⌜ memorySize ≤ length (now m) ⌝ }
+    ensures { λ r. ⌜ Steps (held (now (m .entry))) (load (now (image .entry)) (now (digest .entry))) r (held (now (m .exit))) [] [] ⌝ }
+    ensures { λ _. ⌜ length (now (m .exit)) ≡ length (now (m .entry)) ⌝ }
+{
+    let b = first_number(m, 114, 0);
+    if b != 0 {
+        return outcomes::Outcome::Refused(b);
+    }
+    saves::load(m, image, digest)
+}
+
+// ---- entries: a memory that is too short holds no guard
+
 pub fn on_call(
     memory: &mut [u8],
     bytes: &[u8],
@@ -74,17 +156,12 @@ pub fn on_call(
         (length (now (request .entry)))) r (now (memory .exit)) (buffers (now (answer .entry)) (now (request .entry)))
         (buffers (now (answer .exit)) (now (request .exit))) ⌝ }
 {
-    let b = first_number(memory, 114, 0);
-    if b != 0 {
-        return outcomes::Outcome::Refused(b);
-    }
-    if is_short(answer.len(), request.len()) {
+    if memory.len() < memory::SIZE {
         return outcomes::Outcome::Refused(34);
     }
-    calls::begin_call(memory, bytes, request)
+    take_call(&mut memory[..memory::SIZE], bytes, answer, request)
 }
 
-// A reply: 5, 61, 34, then what the pending call makes of it.
 pub fn on_reply(
     memory: &mut [u8],
     bytes: &[u8],
@@ -95,28 +172,22 @@ pub fn on_reply(
         (length (now (request .entry)))) r (now (memory .exit)) (buffers (now (answer .entry)) (now (request .entry)))
         (buffers (now (answer .exit)) (now (request .exit))) ⌝ }
 {
-    let b = first_number(memory, 0, 61);
-    if b != 0 {
-        return outcomes::Outcome::Refused(b);
-    }
-    if is_short(answer.len(), request.len()) {
+    if memory.len() < memory::SIZE {
         return outcomes::Outcome::Refused(34);
     }
-    call_replies::accept_reply(memory, bytes, answer, request)
+    take_reply(&mut memory[..memory::SIZE], bytes, answer, request)
 }
 
-// A save: 5, 114, then 16, 34, or the image and its digest. A part of its own, over a slice: of a reference to an array a proof learns the length
-// where it is lent as one.
+// A part of its own, over a slice: of a reference to an array a proof learns the length where it is lent as one.
 fn save_into(memory: &mut [u8], image: &mut [u8], digest: &mut [u8]) -> outcomes::Outcome
     requires { ⌜ length (now digest) ≡ DIGEST-BYTES ⌝ }
     ensures { λ r. ⌜ SavePromise (now (memory .entry)) r (now (memory .exit)) (now (image .entry)) (now (image .exit))
         (now (digest .entry)) (now (digest .exit)) ⌝ }
 {
-    let b = first_number(memory, 114, 0);
-    if b != 0 {
-        return outcomes::Outcome::Refused(b);
+    if memory.len() < memory::SIZE {
+        return outcomes::Outcome::Refused(34);
     }
-    saves::save(memory, image, digest)
+    take_save(&mut memory[..memory::SIZE], image, digest)
 }
 
 pub fn on_save(memory: &mut [u8], image: &mut [u8], digest: &mut [u8; 32]) -> outcomes::Outcome
@@ -126,25 +197,31 @@ pub fn on_save(memory: &mut [u8], image: &mut [u8], digest: &mut [u8; 32]) -> ou
     save_into(memory, image, digest)
 }
 
-// A load: 5, 114, then 16, 74, 84, or the image's tables.
 pub fn on_load(memory: &mut [u8], image: &[u8], digest: &[u8]) -> outcomes::Outcome
     ensures { λ r. ⌜ LoadPromise (now (memory .entry)) (now (image .entry)) (now (digest .entry)) r (now (memory .exit)) ⌝ }
 {
-    let b = first_number(memory, 114, 0);
-    if b != 0 {
-        return outcomes::Outcome::Refused(b);
+    if memory.len() < memory::SIZE {
+        return outcomes::Outcome::Refused(34);
     }
-    saves::load(memory, image, digest)
+    take_load(&mut memory[..memory::SIZE], image, digest)
 }
 
-// A fresh guard in this memory.
+// A fresh guard: the root alone, idle.
+fn make_fresh(m: &mut [u8])
+    requires { ⌜ memorySize ≤ length (now m) ⌝ }
+    ensures { λ _. ⌜ held (now (m .exit)) ≡ fresh delivered (digestStore delivered) ⌝ }
+    ensures { λ _. ⌜ length (now (m .exit)) ≡ length (now (m .entry)) ⌝ }
+{
+    let g = guard_state::Guard::fresh(m);
+}
+
 pub fn on_fresh(memory: &mut [u8]) -> outcomes::Outcome
     ensures { λ r. ⌜ FreshPromise (now (memory .entry)) r (now (memory .exit)) ⌝ }
 {
     if memory.len() < memory::SIZE {
         return outcomes::Outcome::Refused(34);
     }
-    let g = guard_state::Guard::fresh(memory);
+    make_fresh(&mut memory[..memory::SIZE]);
     outcomes::Outcome::Done {
         number: 0,
         length: 0,

@@ -8,3 +8,4 @@ pub mod Changes
 pub mod LoadedLaws
 pub mod Ranges
 pub mod PendingLaws
+pub mod Zeros

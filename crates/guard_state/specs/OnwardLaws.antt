@@ -114,7 +114,7 @@ pending-kept g s t e =
 
 -- it waits for something else: numbers 2, 3 and 13 of the header
 abbrev onwardHead : (call page : ℕ) → List ℕ → List ℕ
-onwardHead call page h = set (set (set h 2 0) 3 call) 13 page
+onwardHead call page h = set (set (set h 2 1) 3 call) 13 page
 
 abbrev onwardNumbers : (call page : ℕ) → Guard → Guard
 onwardNumbers call page g = let x = goesOn call page g in record {
@@ -147,11 +147,11 @@ numbers-onward h call page e f =
 module _ (h : List ℕ) (call page : ℕ) where
   count-onward : (k : ℕ) → k < 2 → getD (onwardHead call page h) k 0 ≡ getD h k 0
   count-onward k f =
-      getD-set-other (set (set h 2 0) 3 call) 13 k page 0 (omega arith) ∙ getD-set-other (set h 2 0) 3 k call 0 (omega arith) ∙ getD-set-other h 2 k 0 0 (omega arith)
+      getD-set-other (set (set h 2 1) 3 call) 13 k page 0 (omega arith) ∙ getD-set-other (set h 2 1) 3 k call 0 (omega arith) ∙ getD-set-other h 2 k 1 0 (omega arith)
 
-  stop-onward : 2 < length h → getD (onwardHead call page h) 2 0 ≡ 0
+  stop-onward : 2 < length h → getD (onwardHead call page h) 2 0 ≡ 1
   stop-onward f =
-      getD-set-other (set (set h 2 0) 3 call) 13 2 page 0 (omega arith) ∙ getD-set-other (set h 2 0) 3 2 call 0 (omega arith) ∙ getD-set-same h 2 0 0 f
+      getD-set-other (set (set h 2 1) 3 call) 13 2 page 0 (omega arith) ∙ getD-set-other (set h 2 1) 3 2 call 0 (omega arith) ∙ getD-set-same h 2 1 0 f
 
 pub goes-on : (c : Config) (m x : List ℕ) (call page : ℕ) → 9 ≤ numbersOf (memOf m .head) .call → numbersOf (memOf m .head) .call ≤ 13 → 9 ≤ call → call ≤ 13
     → page ≤ filePages

@@ -1,6 +1,6 @@
 -- The guard's memory as the machine's state: the header's numbers, the rows in use of each table, and the pending call.
 -- Total: each number of the header is read within its limit. Assumes nothing.
-use mathlib.Core.Bool.{Bool, not}
+use mathlib.Core.Bool.{Bool}
 use mathlib.Core.List.{List, [], _∷_}
 use Prim.Native.Nat.{ℕ, _+_, _/_, _%_}
 use lib.Dec.{eqb}
@@ -23,7 +23,7 @@ unfoldable pub numbersOf : List ℕ → Guard
 numbersOf h = record {
   nodes = getD h 0 0 % (NODES + 1);
   opens = getD h 1 0 % (openRows + 1);
-  stopped = not (eqb (getD h 2 0) 0);
+  stopped = eqb (getD h 2 0) 0;
   call = getD h 3 0;
   node = getD h 4 0 % NODES;
   opened = getD h 5 0 % openRows;
@@ -103,4 +103,4 @@ stateOf c m = let g = numbersOf (memOf m .head) in stateIn c g (viewOf (g .nodes
 
 -- the header when no call is pending and the guard has not stopped; the counts stay
 unfoldable pub clearedHead : List ℕ → List ℕ
-clearedHead h = getD h 0 0 ∷ getD h 1 0 ∷ 0 ∷ 0 ∷ 0 ∷ 0 ∷ 0 ∷ 0 ∷ 0 ∷ 0 ∷ 0 ∷ 0 ∷ 0 ∷ 0 ∷ 0 ∷ 0 ∷ drop 16 h
+clearedHead h = getD h 0 0 ∷ getD h 1 0 ∷ 1 ∷ 0 ∷ 0 ∷ 0 ∷ 0 ∷ 0 ∷ 0 ∷ 0 ∷ 0 ∷ 0 ∷ 0 ∷ 0 ∷ 0 ∷ 0 ∷ drop 16 h

@@ -1,7 +1,6 @@
 -- What the header's numbers are read as: of a call that waits, of one that has ended, of a stop, of a fresh guard.
 -- Assumes nothing.
 use mathlib.Core.Path.{_≡_, refl, ap, ap₂, _∙_}
-use mathlib.Core.Bool.{not}
 use mathlib.Core.List.{List, [], _∷_, _++_}
 use Prim.Native.Nat.{ℕ, zero, suc, _+_, _%_, _≤_, _<_}
 use native.Mathlib.Nat.{mod-eq-of-lt}
@@ -30,26 +29,26 @@ head-cells zero h f = refl
 head-cells (suc n) [] f = absurd (omega arith)
 head-cells (suc n) (x ∷ h) f = ap (λ (l : List ℕ). x ∷ l) (head-cells n h (omega arith))
 
-abbrev zeros : List ℕ → List ℕ
-zeros h =
-    let g = set (set (set (set (set (set (set h 2 0) 3 0) 4 0) 5 0) 6 0) 7 0) 8 0 in
+abbrev clears : List ℕ → List ℕ
+clears h =
+    let g = set (set (set (set (set (set (set h 2 1) 3 0) 4 0) 5 0) 6 0) 7 0) 8 0 in
     set (set (set (set (set (set (set g 9 0) 10 0) 11 0) 12 0) 13 0) 14 0) 15 0
 
-pub head-cleared : (h : List ℕ) → length h ≡ headNumbers → zeros h ≡ clearedHead h
+pub head-cleared : (h : List ℕ) → length h ≡ headNumbers → clears h ≡ clearedHead h
 unfolding clearedHead tab
-head-cleared h e = ap zeros (head-cells 16 h (omega arith))
+head-cleared h e = ap clears (head-cells 16 h (omega arith))
 
 -- numbers that are read as a pending call, over the tables as they are; s is staged
 module _ (c : Config) (m x y s : List ℕ) (e : memOf x ≡ withHead y (withStaged s (memOf m))) (n : getD y 0 0 ≡ getD (memOf m .head) 0 0) (o : getD y 1 0 ≡ getD (memOf m .head) 1 0) where
-  pub staged-waits : (p : Pending) (a : Gathered) → getD y 2 0 ≡ 0 → pendingIn (numbersOf y) s ≡ p → gatheredIn (numbersOf y) s ≡ a
+  pub staged-waits : (p : Pending) (a : Gathered) → getD y 2 0 ≡ 1 → pendingIn (numbersOf y) s ≡ p → gatheredIn (numbersOf y) s ≡ a
       → stateOf c x ≡ waits c (stateOf c m) p a
   unfolding stateIn stateOf viewOf waits numbersOf
   staged-waits p a z f g =
       ap (λ (t : Mem). let q = numbersOf (t .head) in stateIn c q (viewOf (q .nodes) (q .opens) t)) e
-      ∙ (λ i. stateWith c (viewOf (n i % (NODES + 1)) (o i % (openRows + 1)) (memOf m)) (f i) (not (eqb (z i) 0)) (g i))
+      ∙ (λ i. stateWith c (viewOf (n i % (NODES + 1)) (o i % (openRows + 1)) (memOf m)) (f i) (eqb (z i) 0) (g i))
 
 pub waits-as : (c : Config) (m x y : List ℕ) → memOf x ≡ withHead y (memOf m) → getD y 0 0 ≡ getD (memOf m .head) 0 0 → getD y 1 0 ≡ getD (memOf m .head) 1 0
-    → (p : Pending) (a : Gathered) → getD y 2 0 ≡ 0 → pendingIn (numbersOf y) (memOf m .staged) ≡ p → gatheredIn (numbersOf y) (memOf m .staged) ≡ a → stateOf c x ≡ waits c (stateOf c m) p a
+    → (p : Pending) (a : Gathered) → getD y 2 0 ≡ 1 → pendingIn (numbersOf y) (memOf m .staged) ≡ p → gatheredIn (numbersOf y) (memOf m .staged) ≡ a → stateOf c x ≡ waits c (stateOf c m) p a
 waits-as c m x y = staged-waits c m x y (memOf m .staged)
 
 -- what is pending, by the call's number
@@ -65,7 +64,7 @@ module _ (c : Config) (m x : List ℕ) where
   unfolding stateOf stateIn viewOf numbersOf clearedHead pendings pendingIn gatheredIn ends
   ends-as e = ap (λ (s : Mem). let g = numbersOf (s .head) in stateIn c g (viewOf (g .nodes) (g .opens) s)) e
 
-  pub stops-as : memOf x ≡ withHead (set (clearedHead (memOf m .head)) 2 1) (memOf m) → stateOf c x ≡ stops c (stateOf c m)
+  pub stops-as : memOf x ≡ withHead (set (clearedHead (memOf m .head)) 2 0) (memOf m) → stateOf c x ≡ stops c (stateOf c m)
   unfolding stateOf stateIn viewOf numbersOf clearedHead pendings pendingIn gatheredIn stops
   stops-as e = ap (λ (s : Mem). let g = numbersOf (s .head) in stateIn c g (viewOf (g .nodes) (g .opens) s)) e
 

@@ -3,7 +3,8 @@ pub const NODES: usize = 0;
 
 pub const OPENS: usize = 1;
 
-pub const STOPPED: usize = 2;
+// 1 where the guard runs, 0 where it has stopped: a memory of zeros is no running guard
+pub const RUNNING: usize = 2;
 
 pub const CALL: usize = 3;
 

@@ -70,7 +70,7 @@ impl Guard {
         Guard {
             nodes: number(m, header::NODES, limits::NODES),
             opens: number(m, header::OPENS, memory::OPEN_ROWS),
-            stopped: memory::head(m, header::STOPPED) != 0,
+            stopped: memory::head(m, header::RUNNING) == 0,
             call: memory::head(m, header::CALL),
             node: number(m, header::NODE, LAST_NODE),
             opened: number(m, header::OPENED, LAST_OPEN),
@@ -136,10 +136,10 @@ fn clear(m: &mut [u8])
 fn clear_call(m: &mut [u8])
     requires { ⌜ memorySize ≤ length (now m) ⌝ }
     ensures { λ _. ⌜ memOf (now (m .exit)) ≡ withHead (set (set
-        (set (set (set (set (set (memOf (now (m .entry)) .head) 2 0) 3 0) 4 0) 5 0) 6 0) 7 0) 8 0) (memOf (now (m .entry))) ⌝ }
+        (set (set (set (set (set (memOf (now (m .entry)) .head) 2 1) 3 0) 4 0) 5 0) 6 0) 7 0) 8 0) (memOf (now (m .entry))) ⌝ }
     ensures { λ _. ⌜ length (now (m .exit)) ≡ length (now (m .entry)) ⌝ }
 {
-    memory::put_head(m, header::STOPPED, 0);
+    memory::put_head(m, header::RUNNING, 1);
     memory::put_head(m, header::CALL, calls::IDLE);
     memory::put_head(m, header::NODE, 0);
     memory::put_head(m, header::OPENED, 0);
@@ -358,7 +358,7 @@ pub fn wait_further(m: &mut [u8], call: u64, page: usize)
         (stateOf c (now (m .entry)) .progress)) ⌝ }
     ensures { λ _. ⌜ length (now (m .exit)) ≡ length (now (m .entry)) ⌝ }
 {
-    memory::put_head(m, header::STOPPED, 0);
+    memory::put_head(m, header::RUNNING, 1);
     memory::put_head(m, header::CALL, call);
     memory::put_head(m, header::PAGE, page as u64);
 }
@@ -410,5 +410,5 @@ pub fn stop(m: &mut [u8])
     ensures { λ _. ⌜ length (now (m .exit)) ≡ length (now (m .entry)) ⌝ }
 {
     clear(m);
-    memory::put_head(m, header::STOPPED, 1);
+    memory::put_head(m, header::RUNNING, 0);
 }

@@ -16,24 +16,34 @@ use Rattle.guard_state.specs.State.{stateOf, gatheredNone}
 use Rattle.guard_state.specs.Waits.{waits, ends, stops}
 use Rattle.outcomes.specs.declared.Outcome.{Outcome}
 use Rattle.outcomes.specs.declared.Outcome.the-variants.{Done, Ask, Refused, Stopped}
-use Rattle.outcomes.specs.Values.{answerIn}
+use Rattle.outcomes.specs.Values.{lengthOf, bytesIn, answerIn}
+
+-- A stop is carried out where the outcome leaves the guard (crate guard), so that no branch forgets it.
+unfoldable pub settled : (c : Config) → Outcome → State (digestStore c) → State (digestStore c)
+settled c (Done n l) s = s
+settled c (Ask l) s = s
+settled c (Refused n) s = s
+settled c (Stopped n) s = stops c s
 
 -- the outcome r, the memory m and the request buffer, before q and now q′, are those of x; the answer buffer is not touched
 pub record Sends (c : Config) (x : Result (digestStore c)) (r : Outcome) (m q q′ : List ℕ) : Type 0 where
-  pub state : stateOf c m ≡ x .state
+  pub state : settled c r (stateOf c m) ≡ x .state
   pub answer : (a : List ℕ) → answerIn r a q′ ≡ x .outcome .answer
+  pub length : lengthOf r ≡ bytesIn (x .outcome .answer)
   pub request : q′ ≡ atFront (requestBytes (x .outcome .answer)) q
 
 -- and where bytes go to the front of the answer buffer, before a and now a′; the request buffer is not touched
 pub record Fills (c : Config) (x : Result (digestStore c)) (r : Outcome) (m a a′ : List ℕ) : Type 0 where
-  pub state : stateOf c m ≡ x .state
+  pub state : settled c r (stateOf c m) ≡ x .state
   pub answer : (q : List ℕ) → answerIn r a′ q ≡ x .outcome .answer
+  pub length : lengthOf r ≡ bytesIn (x .outcome .answer)
   pub filled : a′ ≡ atFront (answerBytes (x .outcome .answer)) a
 
 -- and where both are lent
 pub record Leaves (c : Config) (x : Result (digestStore c)) (r : Outcome) (m a a′ q q′ : List ℕ) : Type 0 where
-  pub state : stateOf c m ≡ x .state
+  pub state : settled c r (stateOf c m) ≡ x .state
   pub answer : answerIn r a′ q′ ≡ x .outcome .answer
+  pub length : lengthOf r ≡ bytesIn (x .outcome .answer)
   pub filled : a′ ≡ atFront (answerBytes (x .outcome .answer)) a
   pub request : q′ ≡ atFront (requestBytes (x .outcome .answer)) q
 
@@ -61,6 +71,7 @@ module _ (c : Config) (x : Result (digestStore c)) (r : Outcome) where
   sends-leaves m q q′ h a = record {
     state = h .state;
     answer = h .answer a;
+    length = h .length;
     filled = sym (ap (λ (b : List ℕ). atFront b a) (no-answer-bytes r q′ (x .outcome .answer) (h .answer [])) ∙ overwrite-none 0 a 0);
     request = h .request;
   }
@@ -69,6 +80,7 @@ module _ (c : Config) (x : Result (digestStore c)) (r : Outcome) where
   fills-leaves m a a′ h q = record {
     state = h .state;
     answer = h .answer q;
+    length = h .length;
     filled = h .filled;
     request = sym (ap (λ (b : List ℕ). atFront b q) (no-request-bytes r a′ (x .outcome .answer) (h .answer [])) ∙ overwrite-none 0 q 0);
   }
@@ -76,41 +88,45 @@ module _ (c : Config) (x : Result (digestStore c)) (r : Outcome) where
 -- a request goes out and the call waits
 pub asking-sends : (c : Config) (s : State (digestStore c)) (y : Result (digestStore c)) (p : Pending) (x : List ℕ) (a : Gathered) (m q q′ : List ℕ) (o : Outcome)
     → y ≡ asking c (digestStore c) s x p a → stateOf c m ≡ waits c s p a → q′ ≡ atFront x q → o ≡ Ask (length x) → length x ≤ length q → Sends c y o m q q′
-unfolding answerIn requestBytes waits
+unfolding answerIn lengthOf bytesIn settled requestBytes waits
 asking-sends c s y p x a m q q′ o z g u e h = record {
-  state = g ∙ ap (λ d. d .state) (sym z);
+  state = ap (λ (n : Outcome). settled c n (stateOf c m)) e ∙ g ∙ ap (λ d. d .state) (sym z);
   answer = λ b.
       ap (λ (n : Outcome). answerIn n b q′) e
       ∙ ap ask (ap (take (length x)) u ∙ take-overwrite q 0 x (length x) (omega arith) (omega arith))
       ∙ ap (λ d. d .outcome .answer) (sym z);
+  length = ap lengthOf e ∙ ap (λ d. bytesIn (d .outcome .answer)) (sym z);
   request = u ∙ ap (λ d. atFront (requestBytes (d .outcome .answer)) q) (sym z);
 }
 
 -- a move that is known: a refusal changes nothing, a stop is for good, a request goes out and the call waits, a call is done
 module _ (c : Config) (s : State (digestStore c)) (v : Move) where
   pub refusal-sends : (n : ℕ) (m q : List ℕ) → v ≡ refuse n → stateOf c m ≡ s → Sends c (apply c (digestStore c) s v) (Refused n) m q q
-  unfolding apply answerIn requestBytes overwrite
+  unfolding apply answerIn lengthOf bytesIn settled requestBytes overwrite
   refusal-sends n m q z g = record {
     state = g ∙ ap (λ d. apply c (digestStore c) s d .state) (sym z);
     answer = λ a. ap (λ d. apply c (digestStore c) s d .outcome .answer) (sym z);
+    length = ap (λ d. bytesIn (apply c (digestStore c) s d .outcome .answer)) (sym z);
     request = ap (λ d. atFront (requestBytes (apply c (digestStore c) s d .outcome .answer)) q) (sym z);
   }
 
-  pub stop-sends : (n : ℕ) (m q : List ℕ) → v ≡ halt n → stateOf c m ≡ stops c s → Sends c (apply c (digestStore c) s v) (Stopped n) m q q
-  unfolding apply answerIn requestBytes overwrite stops
+  pub stop-sends : (n : ℕ) (m q : List ℕ) → v ≡ halt n → stateOf c m ≡ s → Sends c (apply c (digestStore c) s v) (Stopped n) m q q
+  unfolding apply answerIn lengthOf bytesIn settled requestBytes overwrite stops
   stop-sends n m q z g = record {
-    state = g ∙ ap (λ d. apply c (digestStore c) s d .state) (sym z);
+    state = ap (stops c) g ∙ ap (λ d. apply c (digestStore c) s d .state) (sym z);
     answer = λ a. ap (λ d. apply c (digestStore c) s d .outcome .answer) (sym z);
+    length = ap (λ d. bytesIn (apply c (digestStore c) s d .outcome .answer)) (sym z);
     request = ap (λ d. atFront (requestBytes (apply c (digestStore c) s d .outcome .answer)) q) (sym z);
   }
 
   pub done-sends : (t : Tables) (x : List (List (List ℕ))) (n : ℕ) (m q : List ℕ) → apply c (digestStore c) s v ≡ ending c (digestStore c) s (done n []) t x
       → stateOf c m ≡ ends c s t x
       → Sends c (apply c (digestStore c) s v) (Done n 0) m q q
-  unfolding answerIn requestBytes overwrite ends
+  unfolding answerIn lengthOf bytesIn settled requestBytes overwrite ends
   done-sends t x n m q z g = record {
     state = g ∙ ap (λ d. d .state) (sym z);
     answer = λ a. ap (λ d. d .outcome .answer) (sym z);
+    length = ap (λ d. bytesIn (d .outcome .answer)) (sym z);
     request = ap (λ d. atFront (requestBytes (d .outcome .answer)) q) (sym z);
   }
 

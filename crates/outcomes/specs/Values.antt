@@ -2,7 +2,7 @@
 -- Assumes nothing.
 use mathlib.Core.List.{List}
 use Prim.Native.Nat.{ℕ}
-use lib.ListN.{take}
+use lib.ListN.{length, take}
 use Rattle.rules.specs.Skeleton.{Answer, done, ask, refused, stopped}
 use Rattle.outcomes.specs.declared.Outcome.{Outcome}
 use Rattle.outcomes.specs.declared.Outcome.the-variants.{Done, Ask, Refused, Stopped}
@@ -32,3 +32,10 @@ answerIn (Done n l) a q = done n (take l a)
 answerIn (Ask l) a q = ask (take l q)
 answerIn (Refused n) a q = refused n
 answerIn (Stopped n) a q = stopped n
+
+-- how many bytes an answer has, in whichever buffer they stand
+unfoldable pub bytesIn : Answer → ℕ
+bytesIn (done n b) = length b
+bytesIn (ask q) = length q
+bytesIn (refused n) = 0
+bytesIn (stopped n) = 0

@@ -24,8 +24,8 @@ use Rattle.guard_state.specs.State.{numbersOf, stateIn, stateOf, gatheredRead}
 use Rattle.guard_state.specs.Waits.{waits, ends, restingState}
 use Rattle.outcomes.specs.declared.Outcome.{Outcome}
 use Rattle.outcomes.specs.declared.Outcome.the-variants.{Done, Ask}
-use Rattle.outcomes.specs.Values.{answerIn}
-use Rattle.outcomes.specs.Sent.{Fills, Sends, asking-sends}
+use Rattle.outcomes.specs.Values.{lengthOf, bytesIn, answerIn}
+use Rattle.outcomes.specs.Sent.{settled, Fills, Sends, asking-sends}
 use Rattle.reads.specs.Begun.{cursorTo}
 use Rattle.reads.specs.ReadLaws.{fetch-most}
 
@@ -59,7 +59,7 @@ pub last-fills : (c : Config) (s : State (digestStore c)) (k o p n i l : ℕ) (b
     → s .progress ≡ gatheredRead b → y ≡ pagePart x p n i
     → stateOf c m ≡ ends c s (cursorTo (s .skeleton .tables) o (p + n)) (s .contents) → a′ ≡ atFront (b ++ y) a → l ≡ length (b ++ y)
     → Fills c (readOn c (digestStore c) s k o p n i (digestStore c .gather (s .progress) p n i x)) (Done n l) m a a′
-unfolding readOn answerIn answerBytes ends
+unfolding readOn answerIn lengthOf bytesIn settled answerBytes ends
 last-fills c s k o p n i l b x y m a a′ h f g w z e =
     let t : readOn c (digestStore c) s k o p n i (digestStore c .gather (s .progress) p n i x) ≡ ending c (digestStore c) s (done n (b ++ y)) (cursorTo (s .skeleton .tables) o (p + n)) (s .contents) =
     pick-true _ _ _ (le-leb (p + n) (i * PAGE-BYTES + PAGE-BYTES) h) ∙ (λ t. ending c (digestStore c) s (done n (f t .bytes ++ sym g t)) (cursorTo (s .skeleton .tables) o (p + n)) (s .contents)) in
@@ -68,6 +68,7 @@ last-fills c s k o p n i l b x y m a a′ h f g w z e =
       answer = λ q.
           ap (done n) (ap (λ (j : ℕ). take j a′) e ∙ ap (take (length (b ++ y))) z ∙ take-overwrite a 0 (b ++ y) (length (b ++ y)) (omega arith) (omega arith))
           ∙ ap (λ (d : Result (digestStore c)). d .outcome .answer) (sym t);
+      length = e ∙ ap (λ (d : Result (digestStore c)). bytesIn (d .outcome .answer)) (sym t);
       filled = z ∙ ap (λ (d : Result (digestStore c)). atFront (answerBytes (d .outcome .answer)) a) (sym t);
     }
 

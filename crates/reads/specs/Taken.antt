@@ -30,7 +30,6 @@ use Rattle.machine.specs.Machine.{State, Result, Gathered, readOn, apply, guard
 use Rattle.machine.specs.Consistent.{Consistent}
 use Rattle.guard_state.specs.declared.Guard.{Guard}
 use Rattle.guard_state.specs.State.{numbersOf, stagedBytes, pendings, gatheredNone, gatheredRead, gatheredDigests, gatheredIn, stateIn, stateOf, filePages}
-use Rattle.guard_state.specs.Waits.{stops}
 use Rattle.guard_state.specs.WaitLaws.{pending-at}
 use Rattle.guard_state.specs.LoadedLaws.{counts-fit, tables-loaded, nodes-loaded, node-there}
 use Rattle.replies.specs.Judged.{pageReason}
@@ -87,7 +86,7 @@ module _ (c : Config) (hashed : c .digest ≡ sha256) (s : State (digestStore c)
       pick (eqb (length r) PAGE-BYTES) (pick (equal (d r) kept) onward (apply c (digestStore c) s (halt 5))) (apply c (digestStore c) s (halt 1))) hashed
 
   -- another length or another digest stops the guard
-  pub page-stops : (b : ℕ) (x q : List ℕ) → b ≡ pageReason kept r → 0 < b → stateOf c x ≡ stops c s → Sends c (answered c s r) (Stopped b) x q q
+  pub page-stops : (b : ℕ) (x q : List ℕ) → b ≡ pageReason kept r → 0 < b → stateOf c x ≡ s → Sends c (answered c s r) (Stopped b) x q q
   unfolding pageReason
   page-stops b x q e h g =
       let z = page-answered ∙ reason-stops (λ j. apply c (digestStore c) s (halt j)) onward (eqb (length r) PAGE-BYTES) (equal (sha256 r) kept) b e h in
@@ -236,11 +235,10 @@ module _ (c : Config) (m r : List ℕ) (g : Guard) (e : g ≡ numbersOf (memOf m
     pub loaded-long : b ≡ 0 → length r ≡ PAGE-BYTES
     loaded-long z = no-reason-long _ r (sym z ∙ reason)
 
-    pub loaded-stops : c .digest ≡ sha256 → 0 < b → (x : List ℕ) → stateOf c x ≡ stops c (stateOf c m) → (a q : List ℕ)
-        → Leaves c (answered c (stateOf c m) r) (Stopped b) x a a q q
-    loaded-stops h z x f a q =
-        sends-leaves c (answered c (stateOf c m) r) (Stopped b) x q q
-        (page-stops c h (stateOf c m) r (g .node) (g .opened) (g .position) (g .count) (g .page) loaded-pending b x q reason z f) a
+    pub loaded-stops : c .digest ≡ sha256 → 0 < b → (a q : List ℕ) → Leaves c (answered c (stateOf c m) r) (Stopped b) m a a q q
+    loaded-stops h z a q =
+        sends-leaves c (answered c (stateOf c m) r) (Stopped b) m q q
+        (page-stops c h (stateOf c m) r (g .node) (g .opened) (g .position) (g .count) (g .page) loaded-pending b m q reason z refl) a
 
     pub loaded-goes-on : c .digest ≡ sha256 → b ≡ 0 → (x a a′ q q′ : List ℕ) (v : Outcome)
         → Leaves c (readOn c (digestStore c) (stateOf c m) (g .node) (g .opened) (g .position) (g .count) (g .page)

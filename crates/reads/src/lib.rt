@@ -262,7 +262,6 @@ pub fn accept_page(
     let g = guard_state::Guard::load(m);
     let b = replies::judge_page(m, g.nodes, g.node, g.page, reply);
     if b != 0 {
-        guard_state::stop(m);
         return outcomes::Outcome::Stopped(b);
     }
     if reply.len() != limits::PAGE_BYTES {

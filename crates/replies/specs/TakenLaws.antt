@@ -22,10 +22,10 @@ use Rattle.rules.specs.ReplyLaws.{listing-right}
 use Rattle.rules.specs.Lengths.{listing-length}
 use Rattle.machine.specs.Machine.{State, apply, guard as digestStore}
 use Rattle.guard_state.specs.State.{stateOf}
-use Rattle.guard_state.specs.Waits.{stops, ends}
+use Rattle.guard_state.specs.Waits.{ends}
 use Rattle.outcomes.specs.declared.Outcome.the-variants.{Done, Stopped}
-use Rattle.outcomes.specs.Values.{answerIn}
-use Rattle.outcomes.specs.Sent.{Sends, Fills, sends-leaves, stop-sends, done-sends, finish-sends}
+use Rattle.outcomes.specs.Values.{lengthOf, bytesIn, answerIn}
+use Rattle.outcomes.specs.Sent.{settled, Sends, Fills, sends-leaves, stop-sends, done-sends, finish-sends}
 use Rattle.replies.specs.Judged.{reasonFor}
 use Rattle.outcomes.specs.Answered.{taken, answered}
 
@@ -118,7 +118,7 @@ module _ (c : Config) (wide : c .width ≡ ID-BYTES) (s : State (digestStore c))
   abbrev t : Tables
   t = s .skeleton .tables
 
-  pub answer-stops : (b : ℕ) (x q : List ℕ) → b ≡ reasonFor t r p → 0 < b → stateOf c x ≡ stops c s → Sends c (answered c s r) (Stopped b) x q q
+  pub answer-stops : (b : ℕ) (x q : List ℕ) → b ≡ reasonFor t r p → 0 < b → stateOf c x ≡ s → Sends c (answered c s r) (Stopped b) x q q
   unfolding answered
   answer-stops b x q e h g = stop-sends c s _ b x q (taken-stops c wide s r p waiting b e h) g
 
@@ -141,15 +141,20 @@ module _ (c : Config) (wide : c .width ≡ ID-BYTES) (s : State (digestStore c))
       (ap (apply c (digestStore c) s) (taken-passes c wide s r p waiting e ∙ f)) g
 
   -- where the answer buffer is lent: a stop leaves it, and a call that is done puts its bytes at the front
-  pub stop-fills : (b : ℕ) (x a : List ℕ) → b ≡ reasonFor t r p → 0 < b → stateOf c x ≡ stops c s → Fills c (answered c s r) (Stopped b) x a a
+  pub stop-fills : (b : ℕ) (x a : List ℕ) → b ≡ reasonFor t r p → 0 < b → stateOf c x ≡ s → Fills c (answered c s r) (Stopped b) x a a
   stop-fills b x a e h g =
       let z : (q : List ℕ) → Sends c (answered c s r) (Stopped b) x q q = λ q. answer-stops b x q e h g in
-      record { state = z [] .state; answer = λ q. z q .answer a; filled = sends-leaves c (answered c s r) (Stopped b) x [] [] (z []) a .filled }
+      record {
+        state = z [] .state;
+        answer = λ q. z q .answer a;
+        length = z [] .length;
+        filled = sends-leaves c (answered c s r) (Stopped b) x [] [] (z []) a .filled;
+      }
 
   pub answer-fills : (u : Tables) (n l : ℕ) (y x a a′ : List ℕ) → 0 ≡ reasonFor t r p → replyAction ID-BYTES t r p ≡ finish u n y
       → stateOf c x ≡ ends c s u (s .contents)
       → a′ ≡ atFront y a → l ≡ length y → length y ≤ length a → Fills c (answered c s r) (Done n l) x a a′
-  unfolding answered apply answerIn answerBytes ends
+  unfolding answered apply answerIn lengthOf bytesIn settled answerBytes ends
   answer-fills u n l y x a a′ e f g w h m =
       let z : taken c s r ≡ finish u n y = taken-passes c wide s r p waiting e ∙ f in
       record {
@@ -157,5 +162,6 @@ module _ (c : Config) (wide : c .width ≡ ID-BYTES) (s : State (digestStore c))
         answer = λ q.
             ap (done n) (ap (λ (j : ℕ). take j a′) h ∙ ap (take (length y)) w ∙ take-overwrite a 0 y (length y) (omega arith) (omega arith))
             ∙ ap (λ (d : Move). apply c (digestStore c) s d .outcome .answer) (sym z);
+        length = h ∙ ap (λ (d : Move). bytesIn (apply c (digestStore c) s d .outcome .answer)) (sym z);
         filled = w ∙ ap (λ (d : Move). atFront (answerBytes (apply c (digestStore c) s d .outcome .answer)) a) (sym z);
       }

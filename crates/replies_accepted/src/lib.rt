@@ -22,7 +22,6 @@ pub fn accept_close(m: &mut [u8], reply: &[u8]) -> outcomes::Outcome
 {
     let b = replies::judge_status(reply, 0);
     if b != 0 {
-        guard_state::stop(m);
         return outcomes::Outcome::Stopped(b);
     }
     let g = guard_state::Guard::load(m);
@@ -50,7 +49,6 @@ pub fn accept_chmod(m: &mut [u8], reply: &[u8]) -> outcomes::Outcome
 {
     let b = replies::judge_status(reply, 0);
     if b != 0 {
-        guard_state::stop(m);
         return outcomes::Outcome::Stopped(b);
     }
     let g = guard_state::Guard::load(m);
@@ -73,7 +71,6 @@ pub fn accept_remove(m: &mut [u8], reply: &[u8]) -> outcomes::Outcome
 {
     let b = replies::judge_status(reply, 0);
     if b != 0 {
-        guard_state::stop(m);
         return outcomes::Outcome::Stopped(b);
     }
     let g = guard_state::Guard::load(m);
@@ -106,7 +103,6 @@ pub fn accept_open(m: &mut [u8], reply: &[u8]) -> outcomes::Outcome
     let o = g.opens;
     let b = replies::judge_descriptor(m, o, reply);
     if b != 0 {
-        guard_state::stop(m);
         return outcomes::Outcome::Stopped(b);
     }
     if memory::OPEN_ROWS <= o {
@@ -141,7 +137,6 @@ pub fn accept_create(m: &mut [u8], reply: &[u8]) -> outcomes::Outcome
     let n = g.nodes;
     let b = replies::judge_id(m, n, reply);
     if b != 0 {
-        guard_state::stop(m);
         return outcomes::Outcome::Stopped(b);
     }
     if limits::NODES <= n {
@@ -185,7 +180,6 @@ pub fn accept_stat(m: &mut [u8], reply: &[u8], answer: &mut [u8]) -> outcomes::O
     }
     let b = replies::judge_stat(m, n, k, reply);
     if b != 0 {
-        guard_state::stop(m);
         return outcomes::Outcome::Stopped(b);
     }
     if answer.len() < reply.len() {
@@ -215,7 +209,6 @@ pub fn accept_listing(m: &mut [u8], reply: &[u8], answer: &mut [u8]) -> outcomes
     let id = memory::node_id(m, g.node);
     let b = replies::judge_listing(m, n, id, reply);
     if b != 0 {
-        guard_state::stop(m);
         return outcomes::Outcome::Stopped(b);
     }
     if answer.len() < reply.len() {

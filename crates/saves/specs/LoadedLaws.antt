@@ -26,8 +26,8 @@ use Rattle.image_writer.specs.Width.{nodesIn, imageIn}
 use Rattle.image_reader.specs.Records.{isSome}
 use Rattle.image_reader.specs.Loaded.{Loaded}
 use Rattle.outcomes.specs.declared.Outcome.the-variants.{Done, Refused}
-use Rattle.outcomes.specs.Sent.{Sends, refusal-sends, done-sends}
-use Rattle.saves.specs.Saved.{loadMove, loadedFrom}
+use Rattle.outcomes.specs.Sent.{settled, refusal-sends, done-sends}
+use Rattle.saves.specs.Saved.{loadMove, loadedFrom, Loads}
 use Rattle.saves.specs.SavedLaws.{some-open, none-open}
 
 none-some : {A : Type 0} (x : Option A) → isNone x ≡ not (isSome x)
@@ -68,9 +68,9 @@ module _ (c : Config) (m : List ℕ) (g : Guard) (e : g ≡ numbersOf (memOf m .
           check-passes refuse 16 _ _ _ (none-open c m g e closed) ∙ check-passes refuse 74 _ _ _ (sealed ∙ ap not known)
           ∙ check-last refuse 84 _ _ (parsed ∙ ap not h) ∙ ap (λ (w : ℕ). loading (imageOr (parse w i)) d) wide
 
-  pub load-refused : (n : ℕ) → loadMove c here i d ≡ refuse n → Sends c (loadedFrom c here i d) (Refused n) m [] []
-  unfolding loadedFrom
-  load-refused n z = refusal-sends c here _ n m [] z refl
+  pub load-refused : (n : ℕ) → loadMove c here i d ≡ refuse n → Loads c (loadedFrom c here i d) (Refused n) m
+  unfolding loadedFrom settled
+  load-refused n z = let l = refusal-sends c here _ n m [] z refl in record { state = l .state; answer = l .answer []; length = l .length }
 
   -- the open files stay: there are none
   no-opens : g .opens ≤ 0 → here .skeleton .tables .opens ≡ []
@@ -102,6 +102,8 @@ module _ (c : Config) (m : List ℕ) (g : Guard) (e : g ≡ numbersOf (memOf m .
         ap₂ (λ (o : List OpenFile) (x : List (List (List ℕ))). ends c here (record { nodes = nodesIn n after; opens = o }) x) (sym (no-opens closed)) same-contents
 
     pub load-done : (m′ : List ℕ) → loadMove c here i d ≡ loading (imageOr (parse ID-BYTES i)) d → stateOf c m′ ≡ restingState c (viewOf n 0 (memOf after))
-        → Sends c (loadedFrom c here i d) (Done 0 0) m′ [] []
-    unfolding loadedFrom
-    load-done m′ z s = done-sends c here _ tables contents 0 m′ [] (move-loads z) (s ∙ rests-loaded)
+        → Loads c (loadedFrom c here i d) (Done 0 0) m′
+    unfolding loadedFrom settled
+    load-done m′ z s =
+        let l = done-sends c here _ tables contents 0 m′ [] (move-loads z) (s ∙ rests-loaded) in
+        record { state = l .state; answer = l .answer []; length = l .length }

@@ -13,7 +13,7 @@ use Rattle.rules.specs.Rules.{Move, refuse, saving, loading, inUseCheck, isNone
 use Rattle.machine.specs.Machine.{State, Result, apply, guard as digestStore}
 use Rattle.guard_state.specs.State.{stateOf}
 use Rattle.outcomes.specs.declared.Outcome.{Outcome}
-use Rattle.outcomes.specs.Values.{answerIn}
+use Rattle.outcomes.specs.Values.{lengthOf, bytesIn, answerIn}
 
 module _ (c : Config) (s : State (digestStore c)) where
   -- SPECIFICATION 8.2, into a buffer of n bytes
@@ -32,9 +32,16 @@ module _ (c : Config) (s : State (digestStore c)) where
   unfoldable pub loadedFrom : (i d : List ℕ) → Result (digestStore c)
   loadedFrom i d = apply c (digestStore c) s (loadMove i d)
 
+-- What a load leaves: the outcome r and the memory m are those of x.
+pub record Loads (c : Config) (x : Result (digestStore c)) (r : Outcome) (m : List ℕ) : Type 0 where
+  pub state : stateOf c m ≡ x .state
+  pub answer : answerIn r [] [] ≡ x .outcome .answer
+  pub length : lengthOf r ≡ bytesIn (x .outcome .answer)
+
 -- What a save leaves: the outcome r, the memory m, the image buffer, before i and now i′, and the digest, before d and now d′, are those of x.
 pub record Saves (c : Config) (x : Result (digestStore c)) (r : Outcome) (m i i′ d d′ : List ℕ) : Type 0 where
   pub state : stateOf c m ≡ x .state
   pub answer : answerIn r i′ [] ≡ x .outcome .answer
+  pub length : lengthOf r ≡ bytesIn (x .outcome .answer)
   pub image : i′ ≡ imageAfter (x .outcome .answer) i
   pub digest : d′ ≡ atFront (x .outcome .digest) d

@@ -29,7 +29,7 @@ use Rattle.guard_state.specs.Waits.{ends}
 use Rattle.guard_state.specs.LoadedLaws.{opens-count}
 use Rattle.image_writer.specs.Width.{nodesIn, imageIn}
 use Rattle.outcomes.specs.declared.Outcome.the-variants.{Done, Refused}
-use Rattle.outcomes.specs.Values.{answerIn}
+use Rattle.outcomes.specs.Values.{lengthOf, bytesIn, answerIn}
 use Rattle.saves.specs.Saved.{saveMove, savedInto, Saves}
 
 -- the digests in use, as they stand in the memory
@@ -103,10 +103,11 @@ module _ (c : Config) (m : List ℕ) (g : Guard) (e : g ≡ numbersOf (memOf m .
 -- a refusal leaves everything alone
 pub refusal-saves : (c : Config) (m i d : List ℕ) (v : Move) (n : ℕ) → v ≡ refuse n
     → Saves c (apply c (digestStore c) (stateOf c m) v) (Refused n) m i i d d
-unfolding apply answerIn imageAfter answerBytes overwrite
+unfolding apply answerIn lengthOf bytesIn imageAfter answerBytes overwrite
 refusal-saves c m i d v n z = record {
   state = ap (λ w. apply c (digestStore c) (stateOf c m) w .state) (sym z);
   answer = ap (λ w. apply c (digestStore c) (stateOf c m) w .outcome .answer) (sym z);
+  length = ap (λ w. bytesIn (apply c (digestStore c) (stateOf c m) w .outcome .answer)) (sym z);
   image = ap (λ w. imageAfter (apply c (digestStore c) (stateOf c m) w .outcome .answer) i) (sym z);
   digest = ap (λ w. atFront (apply c (digestStore c) (stateOf c m) w .outcome .digest) d) (sym z);
 }
@@ -121,7 +122,7 @@ pub save-done : (c : Config) (m i d m′ i′ d′ x : List ℕ) (l : ℕ) → c
     → imageOf c (digestStore c) (stateOf c m) ≡ x
     → stateOf c m′ ≡ ends c (stateOf c m) (stateOf c m .skeleton .tables) (stateOf c m .contents) → i′ ≡ atFront x i → d′ ≡ atFront (sha256 x) d → l ≡ length x
     → Saves c (savedInto c (stateOf c m) (length i)) (Done l l) m′ i i′ d d′
-unfolding savedInto apply answerIn imageAfter answerBytes ends
+unfolding savedInto apply answerIn lengthOf bytesIn imageAfter answerBytes ends
 save-done c m i d m′ i′ d′ x l hash z y s f g k =
     let S = digestStore c in
     let R : Result S = saved c S (stateOf c m) x in
@@ -129,6 +130,7 @@ save-done c m i d m′ i′ d′ x l hash z y s f g k =
     record {
       state = s ∙ ap (λ (r : Result S). r .state) (sym q);
       answer = ap₂ done k (ap₂ take k f ∙ take-overwrite i 0 x (length x) (omega arith) (omega arith)) ∙ ap (λ (r : Result S). r .outcome .answer) (sym q);
+      length = k ∙ ap (λ (r : Result S). bytesIn (r .outcome .answer)) (sym q);
       image = f ∙ ap (λ (r : Result S). imageAfter (r .outcome .answer) i) (sym q);
       digest = g ∙ ap (λ (h : List ℕ → List ℕ). atFront (h x) d) (sym hash) ∙ ap (λ (r : Result S). atFront (r .outcome .digest) d) (sym q);
     }

@@ -1,6 +1,5 @@
 // Saves and loads, once the guard is known to be running and idle: the numbers that are left, in their order, and the work.
 ghost use mathlib.Core.Path.{_≡_};
-ghost use mathlib.Core.List.{[]};
 ghost use Prim.Native.Nat.{_≤_};
 ghost use lib.ListN.{length};
 ghost use Rattle.digest.specs.Sha256.{sha256};
@@ -10,8 +9,7 @@ ghost use Rattle.memory.specs.Layout.{memorySize};
 ghost use Rattle.rules.specs.Skeleton.{Config, atFront};
 ghost use Rattle.guard_state.specs.State.{stateOf};
 ghost use Rattle.image_writer.specs.Width.{nodesIn, imageIn};
-ghost use Rattle.outcomes.specs.Sent.{Sends};
-ghost use Rattle.saves.specs.Saved.{savedInto, loadedFrom, Saves};
+ghost use Rattle.saves.specs.Saved.{savedInto, loadedFrom, Saves, Loads};
 
 // The image of n nodes at the front of its buffer, and its SHA-256 at the front of `digest`; the image's length.
 fn put_image(m: &[u8], n: usize, image: &mut [u8], digest: &mut [u8]) -> usize
@@ -59,7 +57,7 @@ pub fn save(m: &mut [u8], image: &mut [u8], digest: &mut [u8]) -> outcomes::Outc
 pub fn load(m: &mut [u8], image: &[u8], digest: &[u8]) -> outcomes::Outcome
     requires { ⌜ memorySize ≤ length (now m) ⌝ }
     ensures { λ r. ⌜ ((c : Config) → c .digest ≡ sha256 → c .width ≡ ID-BYTES
-        → Sends c (loadedFrom c (stateOf c (now (m .entry))) (now (image .entry)) (now (digest .entry))) r (now (m .exit)) [] []) ⌝ }
+        → Loads c (loadedFrom c (stateOf c (now (m .entry))) (now (image .entry)) (now (digest .entry))) r (now (m .exit))) ⌝ }
     ensures { λ _. ⌜ length (now (m .exit)) ≡ length (now (m .entry)) ⌝ }
 {
     let g = guard_state::Guard::load(m);

@@ -148,7 +148,6 @@ pub fn accept_fetched(m: &mut [u8], reply: &[u8], request: &mut [u8]) -> outcome
     let g = guard_state::Guard::load(m);
     let b = replies::judge_page(m, g.nodes, g.node, g.page, reply);
     if b != 0 {
-        guard_state::stop(m);
         return outcomes::Outcome::Stopped(b);
     }
     if memory::NEW_DIGESTS <= g.digests {
@@ -167,7 +166,6 @@ pub fn accept_stored(m: &mut [u8], reply: &[u8], request: &mut [u8]) -> outcomes
 {
     let b = replies::judge_status(reply, limits::PAGE_BYTES as i32);
     if b != 0 {
-        guard_state::stop(m);
         return outcomes::Outcome::Stopped(b);
     }
     ask_cut(m, request)
@@ -182,7 +180,6 @@ pub fn accept_cut(m: &mut [u8], reply: &[u8]) -> outcomes::Outcome
 {
     let b = replies::judge_status(reply, 0);
     if b != 0 {
-        guard_state::stop(m);
         return outcomes::Outcome::Stopped(b);
     }
     let g = guard_state::Guard::load(m);

@@ -1,32 +1,28 @@
 -- `guard::first_number` meets its contract. Assumes nothing.
-use native.Mathlib.Omega.{arith}
-use Rattle.guard.specs.Tested.{tested-short, tested-stopped, tested-busy, tested-quiet}
+use Rattle.guard.specs.Tested.{tested-stopped, tested-busy, tested-quiet}
 use borrow.Author.Needs.{needs}
 use Rattle.guard.proofs.first_number.Statement.{statement}
 use Rattle.guard.proofs.first_number.Tie as tie
 
 returns : tie.Need-returns
-returns c = let a = c .before .before .args in tested-short (a .busy) (a .quiet) (a .memory .now) (c .if1 .taken)
+returns c =
+    let l = c .before in
+    let a = l .before .before .args in
+    tested-stopped (a .busy) (a .quiet) (a .m .now) _ (l .load .ensures) (c .if1 .taken)
 
 returns-2 : tie.Need-returns-2
 returns-2 c =
-    let l = c .before in
-    let a = l .before .before .before .args in
-    tested-stopped (a .busy) (a .quiet) (a .memory .now) (omega arith) _ (l .load .ensures) (c .if2 .taken)
+    let w = c .before in
+    let l = w .before .before in
+    let a = l .before .before .args in
+    tested-busy (a .busy) (a .quiet) (a .m .now) _ (l .load .ensures) (w .before .if1 .left) _ (w .is-pending .ensures) (c .if2 .taken)
 
 returns-3 : tie.Need-returns-3
 returns-3 c =
     let w = c .before in
     let l = w .before .before in
-    let a = l .before .before .before .args in
-    tested-busy (a .busy) (a .quiet) (a .memory .now) (omega arith) _ (l .load .ensures) (w .before .if2 .left) _ (w .is-pending .ensures) (c .if3 .taken)
-
-returns-4 : tie.Need-returns-4
-returns-4 c =
-    let w = c .before in
-    let l = w .before .before in
-    let a = l .before .before .before .args in
-    tested-quiet (a .busy) (a .quiet) (a .memory .now) (omega arith) _ (l .load .ensures) (w .before .if2 .left) _ (w .is-pending .ensures) (c .if3 .left)
+    let a = l .before .before .args in
+    tested-quiet (a .busy) (a .quiet) (a .m .now) _ (l .load .ensures) (w .before .if1 .left) _ (w .is-pending .ensures) (c .if2 .left)
 
 pub first-number-spec : {M : Type 1} → statement M
-first-number-spec = tie.close (tie.spec returns (λ c κs. search needs) returns-2 (λ c κs. search needs) returns-3 returns-4)
+first-number-spec = tie.close (tie.spec (λ c κs. search needs) returns (λ c κs. search needs) returns-2 returns-3)

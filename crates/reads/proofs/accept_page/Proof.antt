@@ -22,15 +22,14 @@ judge-page-requires c κs =
 
 returns : tie.Need-returns
 returns c =
-    let p = c .before .before in
-    let j = p .before .before .before in
+    let j = c .before in
     let g = j .before .before in
     let b = g .before .before .before .before .before .before in
     let a = b .args in (
       λ d h ok.
           loaded-stops d (a .m .now) (a .reply .now) _ (g .load .ensures) (b .pre .0) (omega arith) ok _ (j .judge-page .ensures .0) h
-          (omega (arith, p .before .before .if1 .taken)) _ (p .stop .ensures .0 d) (a .answer .now) (a .request .now),
-      omega arith,
+          (omega (arith, c .if1 .taken)) (a .answer .now) (a .request .now),
+      refl,
     )
 
 returns-2 : tie.Need-returns-2
@@ -115,4 +114,4 @@ returns-5 c =
 pub accept-page-spec : {M : Type 1} → statement M
 accept-page-spec =
     tie.close
-    (tie.spec (λ c κs. search needs) judge-page-requires (λ c κs. search needs) (λ c. search needs) returns (λ c. search needs) returns-2 (λ c. search needs) returns-3 in-read-requires (λ c. search needs) returns-4 take-page-requires (λ c. search needs) (λ c. search needs) (λ c. search needs) returns-5)
+    (tie.spec (λ c κs. search needs) judge-page-requires (λ c. search needs) returns (λ c. search needs) returns-2 (λ c. search needs) returns-3 in-read-requires (λ c. search needs) returns-4 take-page-requires (λ c. search needs) (λ c. search needs) (λ c. search needs) returns-5)

@@ -18,14 +18,13 @@ use Rattle.replies_accepted.proofs.accept_chmod.Tie as tie
 
 returns : tie.Need-returns
 returns c =
-    let p = c .before .before in
-    let j = p .before .before .before in
+    let j = c .before in
     let b = j .before .before .before in
     let a = b .args in (
       λ d w l k q.
           answer-stops d w (stateOf d (a .m .now)) (a .reply .now) _ (chmod-pending d (a .m .now) (b .pre .0)) _ _ q
-          (j .judge-status .ensures 0 refl ∙ sym (changing-reason (stateOf d (a .m .now) .skeleton .tables) (a .reply .now) _ _)) (omega (arith, p .before .before .if1 .taken)) (p .stop .ensures .0 d),
-      omega arith,
+          (j .judge-status .ensures 0 refl ∙ sym (changing-reason (stateOf d (a .m .now) .skeleton .tables) (a .reply .now) _ _)) (omega (arith, c .if1 .taken)) refl,
+      refl,
     )
 
 set-mode-requires : tie.Need-set-mode-requires
@@ -58,4 +57,4 @@ returns-2 c =
     )
 
 pub accept-chmod-spec : {M : Type 1} → statement M
-accept-chmod-spec = tie.close (tie.spec (λ c κs. search needs) (λ c κs. search needs) (λ c. search needs) returns (λ c κs. search needs) (λ c. search needs) set-mode-requires (λ c κs. search needs) (λ c. search needs) returns-2)
+accept-chmod-spec = tie.close (tie.spec (λ c κs. search needs) returns (λ c κs. search needs) (λ c. search needs) set-mode-requires (λ c κs. search needs) (λ c. search needs) returns-2)

@@ -18,11 +18,10 @@ use Rattle.replies_accepted.proofs.accept_close.Tie as tie
 
 returns : tie.Need-returns
 returns c =
-    let p = c .before .before in
-    let j = p .before .before .before in
+    let j = c .before in
     let b = j .before .before .before in
     let a = b .args in
-    (λ d w l q. answer-stops d w (stateOf d (a .m .now)) (a .reply .now) _ (close-pending d (a .m .now) (b .pre .0)) _ _ q (j .judge-status .ensures 0 refl ∙ sym (closing-reason (stateOf d (a .m .now) .skeleton .tables) (a .reply .now) _)) (omega (arith, p .before .before .if1 .taken)) (p .stop .ensures .0 d), omega arith)
+    (λ d w l q. answer-stops d w (stateOf d (a .m .now)) (a .reply .now) _ (close-pending d (a .m .now) (b .pre .0)) _ _ q (j .judge-status .ensures 0 refl ∙ sym (closing-reason (stateOf d (a .m .now) .skeleton .tables) (a .reply .now) _)) (omega (arith, c .if1 .taken)) refl, refl)
 
 returns-2 : tie.Need-returns-2
 returns-2 c =
@@ -64,4 +63,4 @@ returns-3 c =
 
 pub accept-close-spec : {M : Type 1} → statement M
 accept-close-spec =
-    tie.close (tie.spec (λ c κs. search needs) (λ c κs. search needs) (λ c. search needs) returns (λ c κs. search needs) (λ c. search needs) returns-2 remove-open-requires (λ c. search needs) rest-requires (λ c. search needs) returns-3)
+    tie.close (tie.spec (λ c κs. search needs) returns (λ c κs. search needs) (λ c. search needs) returns-2 remove-open-requires (λ c. search needs) rest-requires (λ c. search needs) returns-3)

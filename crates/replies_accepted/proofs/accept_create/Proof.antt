@@ -33,8 +33,7 @@ judge-id-requires c κs =
 
 returns : tie.Need-returns
 returns c =
-    let p = c .before .before in
-    let j = p .before .before .before in
+    let j = c .before in
     let g = j .before .before in
     let b = g .before .before .before .before in
     let a = b .args in
@@ -44,8 +43,8 @@ returns c =
           answer-stops d w (stateOf d (a .m .now)) (a .reply .now) _ (create-pending d (a .m .now) (b .pre .0)) _ _ q
           (j .judge-id .ensures (n .parent) (n .kind) (n .mode) s (g .load .result .opens)
           ∙ ap (λ (x : Tables). reasonFor x (a .reply .now) (asked (creating (n .parent) (n .kind) (n .mode) s))) (tables-loaded (a .m .now) _ (g .load .ensures) d))
-          (omega (arith, p .before .before .if1 .taken)) (p .stop .ensures .0 d),
-      omega arith,
+          (omega (arith, c .if1 .taken)) refl,
+      refl,
     )
 
 returns-2 : tie.Need-returns-2
@@ -120,4 +119,4 @@ returns-4 c =
 
 pub accept-create-spec : {M : Type 1} → statement M
 accept-create-spec =
-    tie.close (tie.spec (λ c κs. search needs) judge-id-requires (λ c κs. search needs) (λ c. search needs) returns (λ c. search needs) returns-2 (λ c. search needs) returns-3 number-at-requires (λ c. search needs) (λ c. search needs) (λ c κs. search needs) (λ c κs. search needs) add-node-requires (λ c. search needs) rest-requires (λ c. search needs) returns-4)
+    tie.close (tie.spec (λ c κs. search needs) judge-id-requires (λ c. search needs) returns (λ c. search needs) returns-2 (λ c. search needs) returns-3 number-at-requires (λ c. search needs) (λ c. search needs) (λ c κs. search needs) (λ c κs. search needs) add-node-requires (λ c. search needs) rest-requires (λ c. search needs) returns-4)

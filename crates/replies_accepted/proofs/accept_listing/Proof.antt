@@ -34,8 +34,7 @@ judge-listing-requires c κs =
 
 returns : tie.Need-returns
 returns c =
-    let p = c .before .before in
-    let j = p .before .before .before in
+    let j = c .before in
     let i = j .before .before in
     let g = i .before .before in
     let b = g .before .before .before .before .before in
@@ -43,8 +42,8 @@ returns c =
       λ d w v l f.
           stop-fills d w (stateOf d (a .m .now)) (a .reply .now) _ (listing-pending d (a .m .now) (b .pre .0)) _ _ (a .answer .now)
           (listing-reason d (a .m .now) _ (g .load .ensures) l _ (i .node-id .ensures) _ (a .reply .now) v (j .judge-listing .ensures))
-          (omega (arith, p .before .before .if1 .taken)) (p .stop .ensures .0 d),
-      omega arith,
+          (omega (arith, c .if1 .taken)) refl,
+      refl,
     )
 
 returns-2 : tie.Need-returns-2
@@ -96,4 +95,4 @@ returns-3 c =
 
 pub accept-listing-spec : {M : Type 1} → statement M
 accept-listing-spec =
-    tie.close (tie.spec (λ c κs. search needs) node-id-requires judge-listing-requires (λ c κs. search needs) (λ c. search needs) returns (λ c. search needs) returns-2 count-children-requires (λ c κs. search needs) (λ c κs. search needs) (λ c. search needs) (λ c. search needs) returns-3)
+    tie.close (tie.spec (λ c κs. search needs) node-id-requires judge-listing-requires (λ c. search needs) returns (λ c. search needs) returns-2 count-children-requires (λ c κs. search needs) (λ c κs. search needs) (λ c. search needs) (λ c. search needs) returns-3)

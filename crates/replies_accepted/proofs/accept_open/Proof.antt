@@ -32,8 +32,7 @@ judge-descriptor-requires c κs =
 
 returns : tie.Need-returns
 returns c =
-    let p = c .before .before in
-    let j = p .before .before .before in
+    let j = c .before in
     let g = j .before .before in
     let b = g .before .before .before .before in
     let a = b .args in
@@ -41,8 +40,8 @@ returns c =
       λ d w l o u q.
           answer-stops d w (stateOf d (a .m .now)) (a .reply .now) _ (open-pending d (a .m .now) (b .pre .0)) _ _ q
           (j .judge-descriptor .ensures (n .node) (n .rights) (g .load .result .nodes) ∙ ap (λ (x : Tables). reasonFor x (a .reply .now) (asked (opening (n .node) (n .rights)))) (tables-loaded (a .m .now) _ (g .load .ensures) d))
-          (omega (arith, p .before .before .if1 .taken)) (p .stop .ensures .0 d),
-      omega arith,
+          (omega (arith, c .if1 .taken)) refl,
+      refl,
     )
 
 returns-2 : tie.Need-returns-2
@@ -116,4 +115,4 @@ returns-3 c =
 
 pub accept-open-spec : {M : Type 1} → statement M
 accept-open-spec =
-    tie.close (tie.spec (λ c κs. search needs) judge-descriptor-requires (λ c κs. search needs) (λ c. search needs) returns (λ c. search needs) returns-2 node-id-requires u32-at-requires (λ c. search needs) (λ c. search needs) (λ c κs. search needs) (λ c κs. search needs) (λ c. search needs) rest-requires (λ c. search needs) returns-3)
+    tie.close (tie.spec (λ c κs. search needs) judge-descriptor-requires (λ c. search needs) returns (λ c. search needs) returns-2 node-id-requires u32-at-requires (λ c. search needs) (λ c. search needs) (λ c κs. search needs) (λ c κs. search needs) (λ c. search needs) rest-requires (λ c. search needs) returns-3)

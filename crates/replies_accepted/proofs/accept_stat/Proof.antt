@@ -33,16 +33,15 @@ judge-stat-requires c κs =
 
 returns-2 : tie.Need-returns-2
 returns-2 c =
-    let p = c .before .before in
-    let j = p .before .before .before in
+    let j = c .before in
     let g = j .before .before .before in
     let b = g .before .before .before .before .before in
     let a = b .args in (
       λ d w l f.
           stop-fills d w (stateOf d (a .m .now)) (a .reply .now) _ (stat-pending d (a .m .now) (b .pre .0)) _ _ (a .answer .now)
           (j .judge-stat .ensures (g .load .result .opens) ∙ reason-loaded d (a .m .now) _ (g .load .ensures) (λ i. asked (stating i)) (a .reply .now))
-          (omega (arith, p .before .before .if2 .taken)) (p .stop .ensures .0 d),
-      omega arith,
+          (omega (arith, c .if2 .taken)) refl,
+      refl,
     )
 
 returns-3 : tie.Need-returns-3
@@ -91,4 +90,4 @@ returns-4 c =
 
 pub accept-stat-spec : {M : Type 1} → statement M
 accept-stat-spec =
-    tie.close (tie.spec (λ c κs. search needs) (λ c. search needs) returns judge-stat-requires (λ c κs. search needs) (λ c. search needs) returns-2 (λ c. search needs) returns-3 node-size-requires (λ c κs. search needs) (λ c κs. search needs) (λ c. search needs) (λ c. search needs) (λ c. search needs) returns-4)
+    tie.close (tie.spec (λ c κs. search needs) (λ c. search needs) returns judge-stat-requires (λ c. search needs) returns-2 (λ c. search needs) returns-3 node-size-requires (λ c κs. search needs) (λ c κs. search needs) (λ c. search needs) (λ c. search needs) (λ c. search needs) returns-4)

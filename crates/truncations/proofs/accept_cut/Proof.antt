@@ -12,13 +12,12 @@ use Rattle.truncations.proofs.accept_cut.Tie as tie
 
 returns : tie.Need-returns
 returns c =
-    let p = c .before .before in
-    let j = p .before .before .before in
+    let j = c .before in
     let b = j .before .before .before in
     let a = b .args in (
       λ d w h q. answer-stops d w (stateOf d (a .m .now)) (a .reply .now) _ (cut-waits d (a .m .now) (b .pre .0)) _ _ q
-          (j .judge-status .ensures 0 refl ∙ sym (cutting-reason (stateOf d (a .m .now) .skeleton .tables) (a .reply .now) _ _ _)) (omega (arith, p .before .before .if1 .taken)) (p .stop .ensures .0 d),
-      omega arith,
+          (j .judge-status .ensures 0 refl ∙ sym (cutting-reason (stateOf d (a .m .now) .skeleton .tables) (a .reply .now) _ _ _)) (omega (arith, c .if1 .taken)) refl,
+      refl,
     )
 
 cast-size : tie.Need-cast-size
@@ -51,5 +50,5 @@ returns-2 c =
 pub accept-cut-spec : {M : Type 1} → statement M
 accept-cut-spec =
     tie.close
-    (tie.spec (λ c κs. search needs) (λ c κs. search needs) (λ c. search needs) returns (λ c κs. search needs) cast-size open-cursor-requires (λ c. search needs) (λ c κs. search needs) cast-cursor
+    (tie.spec (λ c κs. search needs) returns (λ c κs. search needs) cast-size open-cursor-requires (λ c. search needs) (λ c κs. search needs) cast-cursor
     end-change-requires (λ c. search needs) returns-2)

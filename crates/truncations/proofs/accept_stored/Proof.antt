@@ -12,13 +12,12 @@ use Rattle.truncations.proofs.accept_stored.Tie as tie
 
 returns : tie.Need-returns
 returns c =
-    let p = c .before .before in
-    let j = p .before .before .before in
+    let j = c .before in
     let b = j .before .before .before .before in
     let a = b .args in (
       λ d w h. answer-stops d w (stateOf d (a .m .now)) (a .reply .now) _ (store-waits d (a .m .now) (b .pre .0)) _ _ (a .request .now)
-          (j .judge-status .ensures PAGE-BYTES refl ∙ sym (storing-reason (stateOf d (a .m .now) .skeleton .tables) (a .reply .now) _ _ _ _)) (omega (arith, p .before .before .if1 .taken)) (p .stop .ensures .0 d),
-      omega arith,
+          (j .judge-status .ensures PAGE-BYTES refl ∙ sym (storing-reason (stateOf d (a .m .now) .skeleton .tables) (a .reply .now) _ _ _ _)) (omega (arith, c .if1 .taken)) refl,
+      refl,
     )
 
 ask-cut-requires : tie.Need-ask-cut-requires
@@ -41,4 +40,4 @@ returns-2 c =
 pub accept-stored-spec : {M : Type 1} → statement M
 accept-stored-spec =
     tie.close
-    (tie.spec (λ c. search needs) (λ c κs. search needs) (λ c κs. search needs) (λ c. search needs) returns ask-cut-requires (λ c. search needs) (λ c. search needs) returns-2)
+    (tie.spec (λ c. search needs) (λ c κs. search needs) returns ask-cut-requires (λ c. search needs) (λ c. search needs) returns-2)

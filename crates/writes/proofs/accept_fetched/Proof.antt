@@ -14,14 +14,13 @@ judge-page-requires c κs = (in-range _ _ (c .before .load .ensures) .nodes, ome
 
 returns : tie.Need-returns
 returns c =
-    let p = c .before .before in
-    let j = p .before .before .before in
+    let j = c .before in
     let l = j .before .before in
     let b = l .before .before .before .before .before in
     let a = b .args in (
       λ d s h. judged-stops d (a .m .now) _ h (omega (arith, b .pre .0), omega (arith, b .pre .0)) (fetch-waits d (a .m .now) (b .pre .0)) _ (l .load .ensures) _ (a .reply .now)
-          (j .judge-page .ensures .0) s (omega (arith, p .before .before .if1 .taken)) _ (a .request .now) (p .stop .ensures .0 d),
-      omega arith,
+          (j .judge-page .ensures .0) s (omega (arith, c .if1 .taken)) (a .request .now),
+      refl,
     )
 
 returns-2 : tie.Need-returns-2
@@ -62,5 +61,5 @@ returns-3 c =
 pub accept-fetched-spec : {M : Type 1} → statement M
 accept-fetched-spec =
     tie.close
-    (tie.spec (λ c κs. search needs) judge-page-requires (λ c κs. search needs) (λ c. search needs) returns (λ c. search needs)
+    (tie.spec (λ c κs. search needs) judge-page-requires (λ c. search needs) returns (λ c. search needs)
     returns-2 store-page-requires (λ c. search needs) (λ c. search needs) returns-3)

@@ -13,14 +13,13 @@ use Rattle.writes.proofs.accept_stored.Tie as tie
 
 returns : tie.Need-returns
 returns c =
-    let p = c .before .before in
-    let j = p .before .before .before in
+    let j = c .before in
     let b = j .before .before .before .before in
     let a = b .args in (
       λ d u w h. answer-stops d w (stateOf d (a .m .now)) (a .reply .now) _ (store-waits d (a .m .now) (b .pre .0)) _ _ (a .request .now)
           (j .judge-status .ensures PAGE-BYTES refl ∙ sym (storing-reason (stateOf d (a .m .now) .skeleton .tables) (a .reply .now) _ _ _ _))
-          (omega (arith, p .before .before .if1 .taken)) (p .stop .ensures .0 d),
-      omega arith,
+          (omega (arith, c .if1 .taken)) refl,
+      refl,
     )
 
 add-page : tie.Need-add-page
@@ -55,5 +54,5 @@ returns-3 c =
 pub accept-stored-spec : {M : Type 1} → statement M
 accept-stored-spec =
     tie.close
-    (tie.spec (λ c. search needs) (λ c κs. search needs) (λ c κs. search needs) (λ c. search needs) returns (λ c κs. search needs) add-page
+    (tie.spec (λ c. search needs) (λ c κs. search needs) returns (λ c κs. search needs) add-page
     (λ c. search needs) returns-2 carry-on-requires (λ c. search needs) (λ c. search needs) returns-3)
