@@ -153,7 +153,8 @@ guard_outcome guard_entry_save(uint8_t *memory, size_t memory_length, uint8_t *i
 guard_outcome guard_entry_load(uint8_t *memory, size_t memory_length, const uint8_t *image, size_t length, const uint8_t *digest,
                                size_t digest_length);
 
-/* Makes a guard of any bytes: it holds the root, a directory with id 1 and mode 7, and nothing else. */
+/* Makes a guard of any bytes: it holds the root, a directory with id 1 and mode 7, and nothing else. A guard of zeros, as a static one is before this,
+ * is a stopped one: everything is refused GUARD_STOPPED_FOR_GOOD. */
 static inline void guard_fresh(guard *g)
 {
     (void)guard_entry_fresh(g->memory, sizeof g->memory);

@@ -9,8 +9,8 @@ use Rattle.rules.specs.Skeleton.{Answer, Event, call, reply, answerLength, requ
 use Rattle.configuration.specs.Delivered.{delivered}
 use Rattle.outcomes.specs.declared.Outcome.{Outcome}
 use Rattle.outcomes.specs.Values.{answerIn}
-use Rattle.guard.specs.Promise.{held, stepped, Promise, buffers}
-use Rattle.guard.specs.KeptLaws.{promise-kept}
+use Rattle.guard.specs.Promise.{Kept, held, stepped, Steps, Promise, buffers}
+use Rattle.guard.specs.KeptLaws.{kept-ready, promise-kept}
 use Rattle.desk_lines.specs.declared.Line.{Line}
 use Rattle.desk_lines.specs.declared.Line.the-variants.{Call, Reply, Bad}
 use Rattle.desk_lines.specs.Lines.{DeskLine, callLine, replyLine, badLine, printed, printedBad, lineIn, Prints}
@@ -32,23 +32,23 @@ module _ (m b a q a′ q′ : List ℕ) (o : Outcome) (r : ℕ) (m′ d d′ : L
   pub call-answers : Promise m (call b (length a) (length q)) o m′ (buffers a q) (buffers a′ q′) → Prints (printed (answerIn o a′ q′)) r d d′
       → Answers m (callLine b) r m′ d d′
   unfolding printedFor stateFor
-  call-answers p w = record {
-    prints = λ k. subst (λ (y : Event). Prints (printed (stepped m y .outcome .answer)) r d d′) (lengths (call b)) (subst (λ (y : Answer). Prints (printed y) r d d′) (p .answer k) w);
-    state = λ k. subst (λ (y : Event). held m′ ≡ stepped m y .state) (lengths (call b)) (p .state k);
+  call-answers p w = let steps : (k : Kept m) → Steps (held m) _ o (held m′) a′ q′ = λ k. p .enters (k .long) .steps (kept-ready m k _) in record {
+    prints = λ k. subst (λ (y : Event). Prints (printed (stepped m y .outcome .answer)) r d d′) (lengths (call b)) (subst (λ (y : Answer). Prints (printed y) r d d′) (steps k .answer) w);
+    state = λ k. subst (λ (y : Event). held m′ ≡ stepped m y .state) (lengths (call b)) (steps k .state);
     kept = λ k. promise-kept m _ o m′ _ _ k p;
     fits = w .fits;
-    same-length = p .same-length;
+    same-length = p .own .same-length;
   }
 
   pub reply-answers : Promise m (reply b (length a) (length q)) o m′ (buffers a q) (buffers a′ q′) → Prints (printed (answerIn o a′ q′)) r d d′
       → Answers m (replyLine b) r m′ d d′
   unfolding printedFor stateFor
-  reply-answers p w = record {
-    prints = λ k. subst (λ (y : Event). Prints (printed (stepped m y .outcome .answer)) r d d′) (lengths (reply b)) (subst (λ (y : Answer). Prints (printed y) r d d′) (p .answer k) w);
-    state = λ k. subst (λ (y : Event). held m′ ≡ stepped m y .state) (lengths (reply b)) (p .state k);
+  reply-answers p w = let steps : (k : Kept m) → Steps (held m) _ o (held m′) a′ q′ = λ k. p .enters (k .long) .steps (kept-ready m k _) in record {
+    prints = λ k. subst (λ (y : Event). Prints (printed (stepped m y .outcome .answer)) r d d′) (lengths (reply b)) (subst (λ (y : Answer). Prints (printed y) r d d′) (steps k .answer) w);
+    state = λ k. subst (λ (y : Event). held m′ ≡ stepped m y .state) (lengths (reply b)) (steps k .state);
     kept = λ k. promise-kept m _ o m′ _ _ k p;
     fits = w .fits;
-    same-length = p .same-length;
+    same-length = p .own .same-length;
   }
 
 -- a bad line changes nothing

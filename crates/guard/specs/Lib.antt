@@ -5,3 +5,4 @@ pub mod EventLaws
 pub mod FrontLaws
 pub mod EntryLaws
 pub mod KeptLaws
+pub mod ZeroLaws

@@ -22,7 +22,7 @@ use Rattle.machine.specs.Machine.{State, Result, step, fresh, guard as digestSt
 use Rattle.machine.specs.Consistent.{Consistent}
 use Rattle.guard_state.specs.State.{stateOf}
 use Rattle.outcomes.specs.declared.Outcome.{Outcome}
-use Rattle.outcomes.specs.declared.Outcome.the-variants.{Done, Refused, Stopped}
+use Rattle.outcomes.specs.declared.Outcome.the-variants.{Done, Ask, Refused, Stopped}
 use Rattle.outcomes.specs.Values.{answerIn, kindOf, valueOf, lengthOf, bytesIn}
 use Rattle.guard.specs.declared.GuardOutcome.{GuardOutcome}
 
@@ -112,6 +112,12 @@ pub record LoadPromise (m i d : List ℕ) (r : Outcome) (m′ : List ℕ) : Type
 -- What C sees of an outcome.
 unfoldable pub shownAs : Outcome → GuardOutcome
 shownAs o = record { kind = pos (kindOf o); number = valueOf o; length = lengthOf o }
+
+abbrev pub NotDone : Outcome → Type 0
+NotDone o = (number bytes : ℕ) → o ≡ Done number bytes → ⊥
+
+abbrev pub NotAsked : Outcome → Type 0
+NotAsked o = (bytes : ℕ) → o ≡ Ask bytes → ⊥
 
 pub record Shown (P : Outcome → Type 0) (r : GuardOutcome) : Type 0 where
   pub outcome : Outcome

@@ -12,7 +12,7 @@ ghost use Rattle.rules.specs.Skeleton.{call, reply, save, load, answerLength, r
 ghost use Rattle.configuration.specs.Delivered.{delivered};
 ghost use Rattle.machine.specs.Machine.{fresh, guard as digestStore};
 ghost use Rattle.outcomes.specs.Sent.{settled};
-ghost use Rattle.guard.specs.Promise.{held, firstOf, Ready, Steps, Enters, Saving, Promise, FreshPromise, SavePromise, LoadPromise, Shown, buffers, shownAs};
+ghost use Rattle.guard.specs.Promise.{held, firstOf, Ready, Steps, Enters, Saving, Promise, FreshPromise, SavePromise, LoadPromise, Shown, buffers, NotDone, NotAsked, shownAs};
 ghost use Rattle.guard.specs.Numbers.{waits};
 
 // The least lengths of the answer buffer, for the longest listing, and of the request buffer, for a store.
@@ -230,37 +230,27 @@ pub fn on_fresh(memory: &mut [u8]) -> outcomes::Outcome
 
 // ---- for C
 
-// The rest: a refusal or a stop.
+// What is neither done nor a request has no bytes.
 fn ended(o: outcomes::Outcome) -> GuardOutcome
-    ensures { λ r. ⌜ r ≡ shownAs o ⌝ }
+    ensures { λ r. ⌜ (NotDone o → NotAsked o → r ≡ shownAs o) ⌝ }
 {
-    match o {
-        outcomes::Outcome::Done { number, length } => GuardOutcome {
-            kind: 0,
-            number,
-            length,
-        },
-        outcomes::Outcome::Ask(length) => GuardOutcome {
-            kind: 1,
-            number: 0,
-            length,
-        },
-        outcomes::Outcome::Refused(number) => GuardOutcome {
-            kind: 2,
-            number: number as u64,
-            length: 0,
-        },
-        outcomes::Outcome::Stopped(number) => GuardOutcome {
+    let outcomes::Outcome::Refused(number) = o else {
+        return GuardOutcome {
             kind: 3,
-            number: number as u64,
+            number: outcomes::value(o),
             length: 0,
-        },
+        };
+    };
+    GuardOutcome {
+        kind: 2,
+        number: number as u64,
+        length: 0,
     }
 }
 
-// A request goes on to the request buffer.
+// Of what is not done, a request goes on to the request buffer.
 fn asked(o: outcomes::Outcome) -> GuardOutcome
-    ensures { λ r. ⌜ r ≡ shownAs o ⌝ }
+    ensures { λ r. ⌜ (NotDone o → r ≡ shownAs o) ⌝ }
 {
     let outcomes::Outcome::Ask(length) = o else {
         return ended(o);

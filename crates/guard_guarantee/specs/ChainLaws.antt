@@ -23,7 +23,7 @@ use Rattle.outcomes.specs.declared.Outcome.the-variants.{Done, Ask, Refused, St
 use Rattle.outcomes.specs.Values.{kindOf, valueOf, lengthOf, answerIn}
 use Rattle.guard.specs.declared.GuardOutcome.{GuardOutcome}
 use Rattle.guard.specs.Promise.{Kept, held, stepped, buffers, Promise, shownAs, Shown}
-use Rattle.guard.specs.KeptLaws.{fresh-kept, step-kept}
+use Rattle.guard.specs.KeptLaws.{kept-ready, fresh-kept, step-kept}
 use Rattle.guard_guarantee.specs.Chains.{readAs, answerRead, seenAs, digestSeen, Link, called, replied, saved, loaded, Chain, end, next, Life, Tree, freshTree, Agrees, FirstHalf, SecondHalf, allSeen, AgreeLives, FirstHalfOfLives, SecondHalfOfLives}
 
 -- what C reads is the code's outcome
@@ -63,22 +63,25 @@ module _ (m m′ : List ℕ) (k : Kept m) where
       → Steps m m′ (seenAs e (answerRead r (b′ .answer) (b′ .request)))
   entry-steps e ns r b b′ h =
       let p = h .promised in
-      record { bytes = p .bytes; same-length = p .same-length; outcome = without-digest e _ (p .bytes) ns (reads h _ _ ∙ p .answer k); state = p .state k }
+      let t = p .enters (k .long) .steps (kept-ready m k e) in
+      record { bytes = p .bytes; same-length = p .own .same-length; outcome = without-digest e _ (p .bytes) ns (reads h _ _ ∙ t .answer); state = t .state }
 
   link-steps : {x : Seen} → Link m m′ x → Steps m m′ x
   link-steps (called s a q a′ q′ r h) = entry-steps _ tt r (buffers a q) (buffers a′ q′) h
   link-steps (replied s a q a′ q′ r h) = entry-steps _ tt r (buffers a q) (buffers a′ q′) h
   link-steps (saved i i′ d d′ r h) =
       let p = h .promised in
+      let t = p .saves (k .long) (kept-ready m k (save (length i))) in
       record {
         bytes = unfold EventBytes in tt;
-        same-length = p .same-length;
-        outcome = with-digest _ _ d d′ (p .room) (reads h i′ [] ∙ p .answer k) (p .digest k);
-        state = p .state k;
+        same-length = p .own .same-length;
+        outcome = with-digest _ _ d d′ (p .room) (reads h i′ [] ∙ t .steps .answer) (t .digest);
+        state = t .steps .state;
       }
   link-steps (loaded i d r h) =
       let p = h .promised in
-      record { bytes = p .bytes; same-length = p .same-length; outcome = without-digest _ _ (p .bytes) tt (reads h [] [] ∙ p .answer k); state = p .state k }
+      let t = p .loads (k .long) in
+      record { bytes = p .bytes; same-length = p .own .same-length; outcome = without-digest _ _ (p .bytes) tt (reads h [] [] ∙ t .answer); state = t .state }
 
   steps-kept : {x : Seen} → Steps m m′ x → Kept m′
   steps-kept {x = x} s = step-kept m m′ (x .event) (s .bytes) k (s .same-length) (s .state)
@@ -104,16 +107,16 @@ chain-runs k (next {m = m} {m′ = m′} {x = x} {xs = xs} l c) =
 -- so a life is a run from the fresh guard
 module _ (l : Life) where
   life-runs : Runs (l .first) (l .seen) (l .last)
-  life-runs = chain-runs (fresh-kept (l .lent) (l .made .outcome) (l .first) (l .long) (l .made .promised)) (l .chain)
+  life-runs = chain-runs (fresh-kept (l .lent) (l .made .made .outcome) (l .first) (l .long) (l .made .made .promised)) (l .chain)
 
   life-bytes : BytesSeen (l .seen)
   life-bytes = life-runs .bytes
 
   life-fresh : OfFresh delivered (l .seen)
-  life-fresh = life-runs .same ∙ ap (λ g. outcomes delivered (digestStore delivered) g (events (l .seen))) (l .made .promised .state (l .long))
+  life-fresh = life-runs .same ∙ ap (λ g. outcomes delivered (digestStore delivered) g (events (l .seen))) (l .made .made .promised .state (l .long))
 
   life-left : held (l .last) ≡ final delivered (digestStore delivered) (fresh delivered (digestStore delivered)) (events (l .seen))
-  life-left = life-runs .left ∙ ap (λ g. final delivered (digestStore delivered) g (events (l .seen))) (l .made .promised .state (l .long))
+  life-left = life-runs .left ∙ ap (λ g. final delivered (digestStore delivered) g (events (l .seen))) (l .made .made .promised .state (l .long))
 
 all-fresh : (ls : List Life) → All (OfFresh delivered) (allSeen ls)
 all-fresh [] = none

@@ -44,14 +44,18 @@ digestSeen (ask q) d = []
 digestSeen (refused n) d = []
 digestSeen (stopped n) d = []
 
--- One entry: the memory before and afterwards, and what is seen. Each premise is the contract of an entry for C, with its buffers before and afterwards.
+abbrev pub seenSaved : (buffer : ℕ) → Answer → (digest : List ℕ) → Seen
+seenSaved n a d = record { event = save n; outcome = record { answer = a; digest = digestSeen a d } }
+
+-- One entry: the memory before and afterwards, and what is seen. Each premise is the contract of an entry for C, with its buffers before and afterwards:
+-- the functions of src/lib.rt call the entries and promise these links.
 pub data Link (m m′ : List ℕ) : Seen → Type 0 where
   called : (s a q a′ q′ : List ℕ) (r : GuardOutcome) → Shown (λ o. Promise m (call s (length a) (length q)) o m′ (buffers a q) (buffers a′ q′)) r
       → Link m m′ (seenAs (call s (length a) (length q)) (answerRead r a′ q′))
   replied : (s a q a′ q′ : List ℕ) (r : GuardOutcome) → Shown (λ o. Promise m (reply s (length a) (length q)) o m′ (buffers a q) (buffers a′ q′)) r
       → Link m m′ (seenAs (reply s (length a) (length q)) (answerRead r a′ q′))
   saved : (i i′ d d′ : List ℕ) (r : GuardOutcome) → Shown (λ o. SavePromise m o m′ i i′ d d′) r
-      → Link m m′ (record { event = save (length i); outcome = record { answer = answerRead r i′ []; digest = digestSeen (answerRead r i′ []) d′ } })
+      → Link m m′ (seenSaved (length i) (answerRead r i′ []) d′)
   loaded : (i d : List ℕ) (r : GuardOutcome) → Shown (λ o. LoadPromise m i d o m′) r → Link m m′ (seenAs (load i d) (answerRead r [] []))
 
 -- One entry after the other, nobody else writing the memory meanwhile.
@@ -59,13 +63,17 @@ pub data Chain : List ℕ → List Seen → List ℕ → Type 0 where
   end : {m : List ℕ} → Chain m [] m
   next : {m m′ m″ : List ℕ} {x : Seen} {xs : List Seen} → Link m m′ x → Chain m′ xs m″ → Chain m (x ∷ xs) m″
 
+-- a memory is lent and made fresh
+pub record Begins (lent first : List ℕ) : Type 0 where
+  pub outcome : GuardOutcome
+  pub made : Shown (λ o. FreshPromise lent o first) outcome
+
 -- What happens between two power-ups: a memory that is long enough is made fresh, and a chain leads from there to the last memory.
 pub record Life : Type 0 where
   pub lent : List ℕ
   pub long : memorySize ≤ length lent
-  pub outcome : GuardOutcome
   pub first : List ℕ
-  pub made : Shown (λ o. FreshPromise lent o first) outcome
+  pub made : Begins lent first
   pub seen : List Seen
   pub last : List ℕ
   pub chain : Chain first seen last
