@@ -1,7 +1,8 @@
+#!/usr/bin/env python3
 """What must be believed: every definition that the promises of the entries and the claim are made of, found by following names from the roots.
 
-    bench/believed.py            the modules and their names, as docs/BELIEVED.md lists them
-    bench/believed.py check      ends with 1 where docs/BELIEVED.md lists anything else
+    bench/believed.py            the modules, and the names in each that are reached
+    bench/believed.py check      ends with 1 where docs/BELIEVED.md does not list just these modules
 
 A definition is an item of crates/*/specs whose name the text of another one uses; laws are used by proofs alone and are not reached. Structs and enums that
 definitions name stand in src.
@@ -22,10 +23,9 @@ ROOTS = {
 }
 
 USE = re.compile(r"use Rattle·(\w+?)(?:·specs)?\.specs\.(declared\.)?(\w+)(?:\.\w[\w-]*)?\.\{(.*)\}")
-ITEM = re.compile(r"( *)(?:unfoldable |abbrev )?(?:pub )?(record |data )?([^\s:(){}]+(?: [^\s:(){}]+)*)(?=[\s(]).*?(?::|$)")
-SIGNATURE = re.compile(r"( *)(?:unfoldable |abbrev )?(?:pub )?([^\s(){}]+) *(?:\{\w\})?(?: \{ℓ\})? ?: ")
-DATA = re.compile(r"( *)(?:pub )?(?:record|data) ([^\s(){}:]+)")
-MODULE = re.compile(r"( *)module _ (.*)where")
+SIGNATURE = re.compile(r" *(?:unfoldable |abbrev )?(?:pub )?([^\s(){}:]+(?: [^\s(){}:]+)*)(?: \{ℓ\})? : ")
+DATA = re.compile(r" *(?:pub )?(?:record|data) ([^\s(){}:]+)")
+MODULE = re.compile(r" *module _ (.*)where")
 
 
 def words(text):
@@ -36,7 +36,7 @@ class Module:
     """The items of one file: for each name its text, and where the names come from that it imports."""
 
     def __init__(self, name, path):
-        self.name, self.path, self.items, self.imports = name, path, {}, {}
+        self.name, self.path, self.items, self.inner, self.imports = name, path, {}, {}, {}
         outer, item, indent, data = [], None, 0, None
         for line in path.read_text().splitlines():
             bare = line.strip()
@@ -50,22 +50,19 @@ class Module:
             if data is not None and depth > data:
                 self.items[item] += "\n" + bare
                 if found := SIGNATURE.match(line):
-                    self.items.setdefault(found[2], "")
-                    self.inner[found[2]] = item
+                    self.inner.update(dict.fromkeys(found[1].split(), item))
                 continue
             data = None
             if found := MODULE.match(line):
-                outer.append((depth, found[2]))
+                outer.append((depth, found[1]))
             elif found := DATA.match(line):
-                item, data = found[2], depth
+                item, data = found[1], depth
                 self.items[item] = " ".join(text for _, text in outer) + "\n" + bare
             elif (found := SIGNATURE.match(line)) and not bare.startswith("unfolding"):
-                item = found[2]
+                item = found[1]
                 self.items[item] = " ".join(text for _, text in outer) + "\n" + bare
             elif item:
                 self.items[item] += "\n" + bare
-
-    inner = {}
 
     def take_import(self, line):
         found = USE.match(line)
@@ -82,9 +79,7 @@ def modules():
     found = {}
     for path in sorted((TOP / "crates").glob("*/specs/**/*.antt")):
         name = f"{path.relative_to(TOP / 'crates').parts[0]}/{path.stem}"
-        Module.inner = {}
         found[name] = Module(name, path)
-        found[name].inner = Module.inner
     return found
 
 
@@ -109,7 +104,7 @@ def reached():
         for word in words(module.items[name]) - {name}:
             if word in module.imports:
                 todo.append(module.imports[word])
-            elif word in module.items:
+            elif word in module.items or word in module.inner:
                 todo.append((home, word))
     by_home = {}
     for home, name in seen:
@@ -117,10 +112,29 @@ def reached():
     return all_modules, by_home
 
 
-def main():
+def believed():
+    """By home, the lines of its items that are reached; the laws that a byte form carries are proofs."""
     all_modules, by_home = reached()
-    for home in sorted(by_home):
-        print(home, " ".join(sorted(by_home[home])))
+    return {
+        home: sum(len(all_modules[home].items[name].strip().splitlines()) for name in names) if home in all_modules else 0
+        for home, names in by_home.items() if home != "lists/FormLaws"
+    }
+
+
+def listed():
+    return set(re.findall(r"(?m)^\| `([\w/:]+)` \|", LIST.read_text()))
+
+
+def main():
+    found = believed()
+    if sys.argv[1:] == ["check"]:
+        lacking, spare = set(found) - listed(), listed() - set(found)
+        for home in sorted(lacking | spare):
+            print(f"docs/BELIEVED.md {'lacks' if home in lacking else 'has, and nothing reaches,'} {home}")
+        sys.exit(1 if lacking or spare else 0)
+    _, by_home = reached()
+    for home in sorted(found):
+        print(f"{home}: {' '.join(sorted(by_home[home]))}")
 
 
 if __name__ == "__main__":

@@ -33,4 +33,4 @@ unfolding shownAs kindOf valueOf lengthOf
 returns-2 c = λ f g. sym (ap shownAs (c .before .o .given .1))
 
 pub ended-spec : {M : Type 1} → statement M
-ended-spec = tie.close (tie.spec (λ c. search needs) (λ c κs. search needs) returns returns-2)
+ended-spec = tie.close (tie.spec (λ c. search needs) (λ c κs. search needs) returns (λ c. search needs) returns-2)
