@@ -1,19 +1,21 @@
 -- A page that is accepted is the kept one (SPECIFICATION 5.5, 13.3): the first page of a read, and each later one.
 -- Assumes nothing.
-use mathlib.Core.Path.{_≡_, subst}
+use mathlib.Core.Path.{_≡_, ap, _∙_, subst}
 use mathlib.Core.Bool.{true}
 use mathlib.Core.List.{List, []}
-use Prim.Native.Nat.{ℕ}
-use lib.ListN.{getD}
+use Prim.Native.Nat.{ℕ, _<_}
+use lib.ListN.{length, getD}
 use Rattle.lists.specs.Pick.{pick-ind}
 use Rattle.lists.specs.Equal.{equal-true}
 use Rattle.lists.specs.Checks.{decide-ind}
+use Rattle.filesystem.specs.Tables.{pagesFor}
 use Rattle.rules.specs.Pages.{Change, pageOf}
 use Rattle.rules.specs.Requests.{Pending, reading}
 use Rattle.rules.specs.Skeleton.{Config, reply, Answer, done, ask, refused, stopped}
 use Rattle.rules.specs.Rules.{Move, refuse, halt, readPage, fillPage, replyChecks, replyAction, eventChecks, eventAction, judge}
 use Rattle.machine.specs.Machine.{Store, State, Result, contentAt, apply, step, guard}
-use Rattle.machine.specs.Tree.{tree}
+use Rattle.machine.specs.Tree.{tree, guardOf}
+use Rattle.machine.specs.DigestLaws.{digest-at, digests-at}
 
 -- what came is accepted: no refusal, no stop
 abbrev pub Accepted : Answer → Type 0
@@ -66,3 +68,10 @@ module _ (c : Config) (k o p n i : ℕ) (r : List ℕ) (a q : ℕ) where
   pub tree-accepts : (t : State (tree c)) → t .skeleton .pending ≡ reading k o p n i
       → Accepted (step c (tree c) t (reply r a q) .outcome .answer) → r ≡ pageOf (getD (t .contents) k []) i
   tree-accepts t w h = equal-true _ _ (page-checked c (tree c) t k o p n i w r a q h)
+
+  -- beside a tree: it has the digest of the page that the tree holds, so it is that page, or the two are a collision
+  pub accepts-as-tree : (t : State (tree c)) → t .skeleton .pending ≡ reading k o p n i → i < pagesFor (length (getD (t .contents) k []))
+      → Accepted (step c (guard c) (guardOf c t) (reply r a q) .outcome .answer) → c .digest r ≡ c .digest (pageOf (getD (t .contents) k []) i)
+  unfolding guardOf
+  accepts-as-tree t w l h =
+      guard-accepts (guardOf c t) w h ∙ (ap (λ x. getD x i []) (digests-at c (t .contents) k) ∙ digest-at c (getD (t .contents) k []) i l)
