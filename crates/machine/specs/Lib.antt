@@ -1,4 +1,5 @@
 pub mod Machine
+pub mod AcceptedPages
 pub mod ValidLaws
 pub mod StateProperties
 pub mod StepOutcomes
