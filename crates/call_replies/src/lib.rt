@@ -12,6 +12,7 @@ ghost use Rattle.machine.specs.Consistent.{Consistent};
 ghost use Rattle.guard_state.specs.State.{numbersOf, stateOf};
 ghost use Rattle.outcomes.specs.Sent.{Sends, Leaves};
 ghost use Rattle.outcomes.specs.Answered.{answered};
+use guard_state::Guard;
 
 // create and mkdir, open, close, remove and rmdir, chmod: the answer has no bytes.
 fn accept_change(m: &mut [u8], call: u64, reply: &[u8]) -> outcomes::Outcome
@@ -67,7 +68,7 @@ pub fn accept_reply(
         (now (answer .exit)) (now (request .entry)) (now (request .exit))) ⌝ }
     ensures { λ _. ⌜ length (now (m .exit)) ≡ length (now (m .entry)) ⌝ }
 {
-    let g = guard_state::Guard::load(m);
+    let g = Guard::load(m);
     let call = g.call;
     match call {
         1..=5 => accept_change(m, call, reply),

@@ -18,6 +18,7 @@ ghost use Rattle.outcomes.specs.declared.Outcome.the-variants.{Ask};
 ghost use Rattle.outcomes.specs.Sent.{Sends};
 ghost use Rattle.changes.specs.Asked.{Changing, storeFront};
 ghost use Rattle.changes.specs.Ended.{Ended};
+use guard_state::Guard;
 
 // The pending change asks for a page, and waits for it as `call` says (guard_state::calls).
 pub fn ask_page(m: &mut [u8], call: u64, page: usize, request: &mut [u8]) -> outcomes::Outcome
@@ -31,7 +32,7 @@ pub fn ask_page(m: &mut [u8], call: u64, page: usize, request: &mut [u8]) -> out
         (stateOf c (now (m .entry)) .progress)) r (now (m .exit)) (now (request .entry)) (now (request .exit))) ⌝ }
     ensures { λ _. ⌜ length (now (m .exit)) ≡ length (now (m .entry)) ⌝ }
 {
-    let g = guard_state::Guard::load(m);
+    let g = Guard::load(m);
     let d = memory::open_descriptor(m, g.opened);
     guard_state::wait_further(m, call, page);
     let l = requests::write_fetch(request, d, page as u32);
@@ -75,7 +76,7 @@ pub fn end_change(
         → Sends c (finishChange c (digestStore c) (stateOf c (now (m .entry))) node opened q) r (now (m .exit)) b b) ⌝ }
     ensures { λ _. ⌜ length (now (m .exit)) ≡ length (now (m .entry)) ⌝ }
 {
-    let g = guard_state::Guard::load(m);
+    let g = Guard::load(m);
     let n = g.nodes;
     if !tables::change_file(m, n, node, size, from, count) {
         return outcomes::Outcome::Stopped(2);

@@ -14,6 +14,7 @@ ghost use Rattle.machine.specs.Machine.{fresh, guard as digestStore};
 ghost use Rattle.outcomes.specs.Sent.{settled};
 ghost use Rattle.guard.specs.Promise.{held, firstOf, Ready, Steps, Enters, Saving, Promise, FreshPromise, SavePromise, LoadPromise, Shown, buffers, NotDone, NotAsked, shownAs};
 ghost use Rattle.guard.specs.Numbers.{waits};
+use guard_state::Guard;
 
 // The least lengths of the answer buffer, for the longest listing, and of the request buffer, for a store.
 pub const ANSWER_LENGTH: usize = outcomes::ANSWER_LENGTH;
@@ -45,7 +46,7 @@ fn first_number(m: &[u8], busy: u8, quiet: u8) -> u8
     requires { ⌜ memorySize ≤ length (now m) ⌝ }
     ensures { λ r. ⌜ r ≡ firstOf busy quiet (held (now (m .entry)) .skeleton) ⌝ }
 {
-    let g = guard_state::Guard::load(m);
+    let g = Guard::load(m);
     if g.stopped {
         return 5;
     }
@@ -98,7 +99,12 @@ fn take_call(m: &mut [u8], bytes: &[u8], answer: &mut [u8], request: &mut [u8]) 
 }
 
 // A reply: 5, 61, 34, then what the pending call makes of it.
-fn take_reply(m: &mut [u8], bytes: &[u8], answer: &mut [u8], request: &mut [u8]) -> outcomes::Outcome
+fn take_reply(
+    m: &mut [u8],
+    bytes: &[u8],
+    answer: &mut [u8],
+    request: &mut [u8],
+) -> outcomes::Outcome
     requires { ⌜ memorySize ≤ length (now m) ⌝ }
     ensures { λ r. ⌜ Enters (held (now (m .entry)))
         (reply (now (bytes .entry)) (length (now (answer .entry))) (length (now (request .entry)))) r (held (now (m .exit)))
@@ -212,7 +218,7 @@ fn make_fresh(m: &mut [u8])
     ensures { λ _. ⌜ held (now (m .exit)) ≡ fresh delivered (digestStore delivered) ⌝ }
     ensures { λ _. ⌜ length (now (m .exit)) ≡ length (now (m .entry)) ⌝ }
 {
-    let g = guard_state::Guard::fresh(m);
+    let g = Guard::fresh(m);
 }
 
 pub fn on_fresh(memory: &mut [u8]) -> outcomes::Outcome

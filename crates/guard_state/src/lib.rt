@@ -44,6 +44,7 @@ pub struct Guard {
 }
 
 impl Guard {
+    // the limits, for the crates above
     pub const NODES: usize = limits::NODES;
 
     pub const OPEN_FILES: usize = limits::OPEN_FILES;
@@ -61,6 +62,10 @@ impl Guard {
     pub const ID_BYTES: usize = limits::ID_BYTES;
 
     pub const DATA_BYTES: usize = limits::DATA_BYTES;
+
+    pub const DIGEST_BYTES: usize = limits::DIGEST_BYTES;
+
+    pub const DESCRIPTORS: usize = limits::DESCRIPTORS;
 
     // The numbers that the memory's header holds, each within its limit.
     pub fn load(m: &[u8]) -> Guard

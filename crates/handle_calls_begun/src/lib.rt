@@ -15,6 +15,7 @@ ghost use Rattle.outcomes.specs.declared.Outcome.the-variants.{Ask};
 ghost use Rattle.outcomes.specs.Sent.{Sends};
 ghost use Rattle.outcomes.specs.Started.{startedBy};
 ghost use Rattle.handle_calls_begun.specs.Moved.{cursorMoved};
+use guard_state::Guard;
 
 // A close that passed: it waits, and its request goes out.
 fn send_close(m: &mut [u8], opened: usize, request: &mut [u8]) -> outcomes::Outcome
@@ -39,7 +40,7 @@ pub fn begin_close(m: &mut [u8], handle: u64, request: &mut [u8]) -> outcomes::O
         (now (request .exit))) ⌝ }
     ensures { λ _. ⌜ length (now (m .exit)) ≡ length (now (m .entry)) ⌝ }
 {
-    let g = guard_state::Guard::load(m);
+    let g = Guard::load(m);
     let w = handle_calls::judge_close(m, g.nodes, g.opens, handle);
     match w {
         handle_calls::Handled::Open { opened, node } => send_close(m, opened, request),
@@ -64,7 +65,7 @@ pub fn finish_seek(m: &mut [u8], handle: u64, position: u64) -> outcomes::Outcom
         → Sends c (startedBy c (stateOf c (now (m .entry))) (seek handle position)) r (now (m .exit)) q q) ⌝ }
     ensures { λ _. ⌜ length (now (m .exit)) ≡ length (now (m .entry)) ⌝ }
 {
-    let g = guard_state::Guard::load(m);
+    let g = Guard::load(m);
     let w = handle_calls::judge_seek(m, g.nodes, g.opens, handle, position);
     match w {
         handle_calls::Handled::Open { opened, node } => {

@@ -2,9 +2,10 @@
 // caller's buffers are.
 ghost use mathlib.Core.Path.{_≡_};
 ghost use Rattle.outcomes.specs.Values.{valueOf};
+use guard_state::Guard;
 
 // The least length of the answer buffer: the longest listing. No event that is right is longer.
-pub const ANSWER_LENGTH: usize = (limits::NODES - 1) * (limits::ID_BYTES + 2 + limits::NAME_BYTES);
+pub const ANSWER_LENGTH: usize = (Guard::NODES - 1) * (Guard::ID_BYTES + 2 + Guard::NAME_BYTES);
 
 pub enum Outcome {
     // a number, and how many bytes stand at the front of the answer buffer

@@ -16,6 +16,7 @@ ghost use Rattle.guard_state.specs.Waits.{waits};
 ghost use Rattle.outcomes.specs.Sent.{Sends};
 ghost use Rattle.path_calls_begun.specs.Begun.{begun, questionOf, plainQuestion};
 ghost use Rattle.path_calls_begun.specs.KindLaws.{OnNode};
+use guard_state::Guard;
 
 // ---- a node that is there
 
@@ -115,7 +116,7 @@ pub fn begin_on_node(
         (now (request .exit))) ⌝ }
     ensures { λ _. ⌜ length (now (m .exit)) ≡ length (now (m .entry)) ⌝ }
 {
-    let g = guard_state::Guard::load(m);
+    let g = Guard::load(m);
     let n = g.nodes;
     if n == 0 {
         return outcomes::Outcome::Refused(34);
@@ -169,7 +170,7 @@ pub fn begin_new(
         (now (request .exit))) ⌝ }
     ensures { λ _. ⌜ length (now (m .exit)) ≡ length (now (m .entry)) ⌝ }
 {
-    let g = guard_state::Guard::load(m);
+    let g = Guard::load(m);
     let n = g.nodes;
     if n == 0 {
         return outcomes::Outcome::Refused(34);

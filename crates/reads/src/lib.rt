@@ -21,6 +21,7 @@ ghost use Rattle.outcomes.specs.Started.{startedBy};
 ghost use Rattle.outcomes.specs.Answered.{answered};
 ghost use Rattle.reads.specs.Begun.{readOf, leftOf, cursorTo};
 ghost use Rattle.reads.specs.Taken.{InRead};
+use guard_state::Guard;
 
 // The read waits for the page that its position lies in, and asks for it.
 fn fetch(
@@ -42,7 +43,7 @@ fn fetch(
         × (r ≡ Ask (length (fetchRequest (openAt (memOf (now (m .entry)) .opens) opened .descriptor) (pageAt position)))) ⌝ }
 {
     let descriptor = memory::open_descriptor(m, opened);
-    let page = position / limits::PAGE_BYTES;
+    let page = position / Guard::PAGE_BYTES;
     guard_state::wait_read(m, node, opened, position, count, page);
     let l = requests::write_fetch(request, descriptor, page as u32);
     outcomes::Outcome::Ask(l)
@@ -76,7 +77,7 @@ fn read_at(
             length: 0,
         };
     }
-    if limits::FILE_BYTES < size {
+    if Guard::FILE_BYTES < size {
         return outcomes::Outcome::Refused(27);
     }
     fetch(m, node, opened, cursor, left, request)
@@ -90,7 +91,7 @@ pub fn begin_read(m: &mut [u8], handle: u64, count: usize, request: &mut [u8]) -
         (now (request .exit))) ⌝ }
     ensures { λ _. ⌜ length (now (m .exit)) ≡ length (now (m .entry)) ⌝ }
 {
-    let g = guard_state::Guard::load(m);
+    let g = Guard::load(m);
     let n = g.nodes;
     let j = handle_calls::judge_read(m, n, g.opens, handle);
     match j {
@@ -190,9 +191,9 @@ fn page_part(reply: &[u8], position: usize, count: usize, page: usize) -> &[u8]
         × (page * PAGE-BYTES < position + count) × (position < page * PAGE-BYTES + PAGE-BYTES) ⌝ }
     ensures { λ r. ⌜ (now r ≡ pagePart (now (reply .entry)) position count page) × (length (now r) ≤ count) ⌝ }
 {
-    let at = page * limits::PAGE_BYTES;
+    let at = page * Guard::PAGE_BYTES;
     let start = numbers::excess(position, at);
-    let end = numbers::smaller(position + count - at, limits::PAGE_BYTES);
+    let end = numbers::smaller(position + count - at, Guard::PAGE_BYTES);
     &reply[start..end]
 }
 
@@ -201,15 +202,15 @@ fn in_read(position: usize, count: usize, page: usize) -> bool
     requires { ⌜ (position ≤ FILE-BYTES) × (count ≤ DATA-BYTES) × (page ≤ filePages) ⌝ }
     ensures { λ r. ⌜ (r ≡ true → InRead position count page) × (InRead position count page → r ≡ true) ⌝ }
 {
-    let at = page * limits::PAGE_BYTES;
+    let at = page * Guard::PAGE_BYTES;
     let end = position + count;
     if end <= at {
         return false;
     }
-    if at + limits::PAGE_BYTES <= position {
+    if at + Guard::PAGE_BYTES <= position {
         return false;
     }
-    end <= limits::FILE_BYTES
+    end <= Guard::FILE_BYTES
 }
 
 // The right page of the read came: the next one is asked for, or the read is done. No consistent state has staged more than a read gives.
@@ -236,10 +237,10 @@ fn take_page(
     ensures { λ _. ⌜ length (now (m .exit)) ≡ length (now (m .entry)) ⌝ }
 {
     let more = page_part(reply, position, count, page);
-    if limits::DATA_BYTES < bytes + more.len() {
+    if Guard::DATA_BYTES < bytes + more.len() {
         return outcomes::Outcome::Stopped(5);
     }
-    if page * limits::PAGE_BYTES + limits::PAGE_BYTES < position + count {
+    if page * Guard::PAGE_BYTES + Guard::PAGE_BYTES < position + count {
         return next_page(m, node, opened, position, count, page, bytes, more, request);
     }
     last_page(m, opened, position, count, bytes, more, answer)
@@ -259,12 +260,12 @@ pub fn accept_page(
         (now (answer .exit)) (now (request .entry)) (now (request .exit))) ⌝ }
     ensures { λ _. ⌜ length (now (m .exit)) ≡ length (now (m .entry)) ⌝ }
 {
-    let g = guard_state::Guard::load(m);
+    let g = Guard::load(m);
     let b = replies::judge_page(m, g.nodes, g.node, g.page, reply);
     if b != 0 {
         return outcomes::Outcome::Stopped(b);
     }
-    if reply.len() != limits::PAGE_BYTES {
+    if reply.len() != Guard::PAGE_BYTES {
         return outcomes::Outcome::Stopped(1);
     }
     if g.opens <= g.opened {

@@ -13,6 +13,7 @@ ghost use Rattle.tables.specs.View.{tablesIn};
 ghost use Rattle.rules.specs.Requests.{asked, creating, opening, stating, listing};
 ghost use Rattle.replies.specs.Judged.{reasonFor, statusReason, pageReason};
 ghost use Rattle.replies.specs.Listing.{entryAt, entryEnd, endWithin, entryPlace};
+use guard_state::Guard;
 
 // A status: 1 of another length, 2 where it is not the expected one (specs/JudgedLaws.antt: of which requests).
 pub fn judge_status(reply: &[u8], expected: i32) -> u8
@@ -33,10 +34,10 @@ pub fn judge_id(m: &[u8], n: usize, reply: &[u8]) -> u8
     ensures { λ r. ⌜ ((parent kind mode : ℕ) (name : List ℕ) (o : ℕ)
         → r ≡ reasonFor (tablesIn n o (memOf (now (m .entry)))) (now (reply .entry)) (asked (creating parent kind mode name))) ⌝ }
 {
-    if reply.len() != limits::ID_BYTES {
+    if reply.len() != Guard::ID_BYTES {
         return 1;
     }
-    let id = numbers::number_at(reply, 0, limits::ID_BYTES);
+    let id = numbers::number_at(reply, 0, Guard::ID_BYTES);
     if id == 0 {
         return 3;
     }
@@ -59,7 +60,7 @@ pub fn judge_descriptor(m: &[u8], o: usize, reply: &[u8]) -> u8
     if d < 0 {
         return 4;
     }
-    if limits::DESCRIPTORS as i32 <= d {
+    if Guard::DESCRIPTORS as i32 <= d {
         return 4;
     }
     if tables::find_descriptor(m, o, d as u32) < o {
@@ -69,16 +70,16 @@ pub fn judge_descriptor(m: &[u8], o: usize, reply: &[u8]) -> u8
 }
 
 // A stat: id, kind, mode and size.
-const STAT_BYTES: usize = limits::ID_BYTES + 6;
+const STAT_BYTES: usize = Guard::ID_BYTES + 6;
 
 fn stat_row(id: u64, kind: u8, mode: u8, size: u32) -> [u8; STAT_BYTES]
     ensures { λ r. ⌜ r ≡ encode ID-BYTES id ++ (kind ∷ mode ∷ encode 4 size) ⌝ }
 {
     let mut r = [0u8; STAT_BYTES];
-    numbers::put_number(&mut r, 0, limits::ID_BYTES, id);
-    r[limits::ID_BYTES] = kind;
-    r[limits::ID_BYTES + 1] = mode;
-    numbers::put_number(&mut r, limits::ID_BYTES + 2, 4, size as u64);
+    numbers::put_number(&mut r, 0, Guard::ID_BYTES, id);
+    r[Guard::ID_BYTES] = kind;
+    r[Guard::ID_BYTES + 1] = mode;
+    numbers::put_number(&mut r, Guard::ID_BYTES + 2, 4, size as u64);
     r
 }
 
@@ -111,7 +112,7 @@ pub fn judge_page(m: &[u8], n: usize, k: usize, i: usize, reply: &[u8]) -> u8
         (now (reply .entry))) ⌝ }
     ensures { λ r. ⌜ (r ≡ 0 → length (now (reply .entry)) ≡ PAGE-BYTES) ⌝ }
 {
-    if reply.len() != limits::PAGE_BYTES {
+    if reply.len() != Guard::PAGE_BYTES {
         return 1;
     }
     if n <= k {
@@ -127,7 +128,7 @@ pub fn judge_page(m: &[u8], n: usize, k: usize, i: usize, reply: &[u8]) -> u8
 }
 
 // A listing's entry up to its name: id, kind and the name's length.
-const ENTRY_FRONT: usize = limits::ID_BYTES + 2;
+const ENTRY_FRONT: usize = Guard::ID_BYTES + 2;
 
 // The place behind the entry at `at`, or 0 where the reply ends before that.
 fn entry_end(reply: &[u8], at: usize) -> usize
@@ -137,7 +138,7 @@ fn entry_end(reply: &[u8], at: usize) -> usize
     if reply.len() - at < ENTRY_FRONT {
         return 0;
     }
-    let size = reply[at + limits::ID_BYTES + 1] as usize;
+    let size = reply[at + Guard::ID_BYTES + 1] as usize;
     let end = at + ENTRY_FRONT + size;
     if reply.len() < end {
         return 0;
@@ -159,11 +160,11 @@ fn entry_place(
     ensures { λ r. ⌜ (soundNodes ID-BYTES (take n (memOf (now (m .entry)) .nodes)) ≡ true
         → r ≡ entryPlace (take n (memOf (now (m .entry)) .nodes)) id (entryAt ID-BYTES (now (reply .entry)) at)) ⌝ }
 {
-    let k = tables::find_node(m, n, numbers::number_at(reply, at, limits::ID_BYTES), next);
+    let k = tables::find_node(m, n, numbers::number_at(reply, at, Guard::ID_BYTES), next);
     if n <= k {
         return n;
     }
-    if reply[at + limits::ID_BYTES] != memory::node_kind(m, k) {
+    if reply[at + Guard::ID_BYTES] != memory::node_kind(m, k) {
         return n;
     }
     let start = at + ENTRY_FRONT;
@@ -181,7 +182,7 @@ pub fn judge_listing(m: &[u8], n: usize, id: u64, reply: &[u8]) -> u8
         → nodeAt (take n (memOf (now (m .entry)) .nodes)) k .id ≡ id
         → r ≡ reasonFor (tablesIn n o (memOf (now (m .entry)))) (now (reply .entry)) (asked (listing k))) ⌝ }
 {
-    let mut seen = [0u8; limits::NODES];
+    let mut seen = [0u8; Guard::NODES];
     let mut count = 0;
     let mut at = 0;
     let mut next = 0;

@@ -11,6 +11,7 @@ ghost use Rattle.rules.specs.Valid.{ValidNodes};
 ghost use Rattle.guard_state.specs.State.{numbersOf, stateOf};
 ghost use Rattle.outcomes.specs.Sent.{Sends, Fills};
 ghost use Rattle.outcomes.specs.Answered.{answered};
+use guard_state::Guard;
 
 // close: the open file is taken out.
 pub fn accept_close(m: &mut [u8], reply: &[u8]) -> outcomes::Outcome
@@ -24,7 +25,7 @@ pub fn accept_close(m: &mut [u8], reply: &[u8]) -> outcomes::Outcome
     if b != 0 {
         return outcomes::Outcome::Stopped(b);
     }
-    let g = guard_state::Guard::load(m);
+    let g = Guard::load(m);
     let o = g.opens;
     let k = g.opened;
     if o <= k {
@@ -51,7 +52,7 @@ pub fn accept_chmod(m: &mut [u8], reply: &[u8]) -> outcomes::Outcome
     if b != 0 {
         return outcomes::Outcome::Stopped(b);
     }
-    let g = guard_state::Guard::load(m);
+    let g = Guard::load(m);
     memory::set_mode(m, g.node, (g.mode % 256) as u8);
     guard_state::finish(m);
     outcomes::Outcome::Done {
@@ -73,13 +74,13 @@ pub fn accept_remove(m: &mut [u8], reply: &[u8]) -> outcomes::Outcome
     if b != 0 {
         return outcomes::Outcome::Stopped(b);
     }
-    let g = guard_state::Guard::load(m);
+    let g = Guard::load(m);
     let n = g.nodes;
     let k = g.node;
     if n <= k {
         return outcomes::Outcome::Stopped(2);
     }
-    if limits::PAGES < tables::first_page(m, n) {
+    if Guard::PAGES < tables::first_page(m, n) {
         return outcomes::Outcome::Stopped(2);
     }
     tables::remove_node(m, n, k);
@@ -99,7 +100,7 @@ pub fn accept_open(m: &mut [u8], reply: &[u8]) -> outcomes::Outcome
         → Sends c (answered c (stateOf c (now (m .entry))) (now (reply .entry))) r (now (m .exit)) q q) ⌝ }
     ensures { λ _. ⌜ length (now (m .exit)) ≡ length (now (m .entry)) ⌝ }
 {
-    let g = guard_state::Guard::load(m);
+    let g = Guard::load(m);
     let o = g.opens;
     let b = replies::judge_descriptor(m, o, reply);
     if b != 0 {
@@ -113,7 +114,7 @@ pub fn accept_open(m: &mut [u8], reply: &[u8]) -> outcomes::Outcome
         id,
         numbers::u32_at(reply, 0),
         (g.rights % 256) as u8,
-        (g.node % limits::NODES) as u8,
+        (g.node % Guard::NODES) as u8,
         0,
     );
     tables::add_open(m, o, row);
@@ -133,19 +134,19 @@ pub fn accept_create(m: &mut [u8], reply: &[u8]) -> outcomes::Outcome
         → Sends c (answered c (stateOf c (now (m .entry))) (now (reply .entry))) r (now (m .exit)) q q) ⌝ }
     ensures { λ _. ⌜ length (now (m .exit)) ≡ length (now (m .entry)) ⌝ }
 {
-    let g = guard_state::Guard::load(m);
+    let g = Guard::load(m);
     let n = g.nodes;
     let b = replies::judge_id(m, n, reply);
     if b != 0 {
         return outcomes::Outcome::Stopped(b);
     }
-    if limits::NODES <= n {
+    if Guard::NODES <= n {
         return outcomes::Outcome::Stopped(3);
     }
-    if limits::NAME_BYTES < g.bytes {
+    if Guard::NAME_BYTES < g.bytes {
         return outcomes::Outcome::Stopped(3);
     }
-    let id = numbers::number_at(reply, 0, limits::ID_BYTES);
+    let id = numbers::number_at(reply, 0, Guard::ID_BYTES);
     let row = memory::node_row(
         id,
         g.parent,
@@ -172,7 +173,7 @@ pub fn accept_stat(m: &mut [u8], reply: &[u8], answer: &mut [u8]) -> outcomes::O
         (now (answer .exit))) ⌝ }
     ensures { λ _. ⌜ length (now (m .exit)) ≡ length (now (m .entry)) ⌝ }
 {
-    let g = guard_state::Guard::load(m);
+    let g = Guard::load(m);
     let n = g.nodes;
     let k = g.node;
     if n <= k {
@@ -204,7 +205,7 @@ pub fn accept_listing(m: &mut [u8], reply: &[u8], answer: &mut [u8]) -> outcomes
         (now (answer .exit))) ⌝ }
     ensures { λ _. ⌜ length (now (m .exit)) ≡ length (now (m .entry)) ⌝ }
 {
-    let g = guard_state::Guard::load(m);
+    let g = Guard::load(m);
     let n = g.nodes;
     let id = memory::node_id(m, g.node);
     let b = replies::judge_listing(m, n, id, reply);

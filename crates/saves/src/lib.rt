@@ -10,6 +10,7 @@ ghost use Rattle.rules.specs.Skeleton.{Config, atFront};
 ghost use Rattle.guard_state.specs.State.{stateOf};
 ghost use Rattle.image_writer.specs.Width.{nodesIn, imageIn};
 ghost use Rattle.saves.specs.Saved.{savedInto, loadedFrom, Saves, Loads};
+use guard_state::Guard;
 
 // The image of n nodes at the front of its buffer, and its SHA-256 at the front of `digest`; the image's length.
 fn put_image(m: &[u8], n: usize, image: &mut [u8], digest: &mut [u8]) -> usize
@@ -34,7 +35,7 @@ pub fn save(m: &mut [u8], image: &mut [u8], digest: &mut [u8]) -> outcomes::Outc
         (now (image .exit)) (now (digest .entry)) (now (digest .exit))) ⌝ }
     ensures { λ _. ⌜ length (now (m .exit)) ≡ length (now (m .entry)) ⌝ }
 {
-    let g = guard_state::Guard::load(m);
+    let g = Guard::load(m);
     if 0 < g.opens {
         return outcomes::Outcome::Refused(16);
     }
@@ -42,7 +43,7 @@ pub fn save(m: &mut [u8], image: &mut [u8], digest: &mut [u8]) -> outcomes::Outc
         return outcomes::Outcome::Refused(34);
     }
     // no valid tables have more pages
-    if limits::PAGES < tables::first_page(m, g.nodes) {
+    if Guard::PAGES < tables::first_page(m, g.nodes) {
         return outcomes::Outcome::Refused(28);
     }
     let l = put_image(m, g.nodes, image, digest);
@@ -60,7 +61,7 @@ pub fn load(m: &mut [u8], image: &[u8], digest: &[u8]) -> outcomes::Outcome
         → Loads c (loadedFrom c (stateOf c (now (m .entry))) (now (image .entry)) (now (digest .entry))) r (now (m .exit))) ⌝ }
     ensures { λ _. ⌜ length (now (m .exit)) ≡ length (now (m .entry)) ⌝ }
 {
-    let g = guard_state::Guard::load(m);
+    let g = Guard::load(m);
     if 0 < g.opens {
         return outcomes::Outcome::Refused(16);
     }

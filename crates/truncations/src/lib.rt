@@ -20,6 +20,7 @@ ghost use Rattle.outcomes.specs.Started.{startedBy};
 ghost use Rattle.outcomes.specs.Answered.{answered};
 ghost use Rattle.changes.specs.Sending.{Sending};
 ghost use Rattle.truncations.specs.Shrinking.{Shrinking, shrinkIn};
+use guard_state::Guard;
 
 // The pending truncation asks for the cut.
 fn ask_cut(m: &mut [u8], request: &mut [u8]) -> outcomes::Outcome
@@ -31,7 +32,7 @@ fn ask_cut(m: &mut [u8], request: &mut [u8]) -> outcomes::Outcome
         (now (request .exit))) ⌝ }
     ensures { λ _. ⌜ length (now (m .exit)) ≡ length (now (m .entry)) ⌝ }
 {
-    let g = guard_state::Guard::load(m);
+    let g = Guard::load(m);
     let d = memory::open_descriptor(m, g.opened);
     guard_state::wait_further(m, guard_state::calls::CUTTING, g.page);
     let l = requests::write_cut(request, d, g.size as u32);
@@ -49,7 +50,7 @@ fn store_page(m: &mut [u8], fetched: &[u8], request: &mut [u8]) -> outcomes::Out
         (now (fetched .entry))) r (now (m .exit)) (now (request .entry)) (now (request .exit))) ⌝ }
     ensures { λ _. ⌜ length (now (m .exit)) ≡ length (now (m .entry)) ⌝ }
 {
-    let g = guard_state::Guard::load(m);
+    let g = Guard::load(m);
     let size = memory::node_size(m, g.node);
     let d = memory::open_descriptor(m, g.opened);
     let page = g.page;
@@ -67,14 +68,14 @@ fn start(m: &mut [u8], request: &mut [u8]) -> outcomes::Outcome
         (numbersOf (memOf (now (m .entry)) .head) .size / PAGE-BYTES)) r (now (m .exit)) (now (request .entry)) (now (request .exit))) ⌝ }
     ensures { λ _. ⌜ length (now (m .exit)) ≡ length (now (m .entry)) ⌝ }
 {
-    let g = guard_state::Guard::load(m);
-    if g.size % limits::PAGE_BYTES == 0 {
+    let g = Guard::load(m);
+    if g.size % Guard::PAGE_BYTES == 0 {
         return ask_cut(m, request);
     }
     changes::ask_page(
         m,
         guard_state::calls::SHRINK_FETCHING,
-        g.size / limits::PAGE_BYTES,
+        g.size / Guard::PAGE_BYTES,
         request,
     )
 }
@@ -96,7 +97,7 @@ fn truncate_at(
     ensures { λ _. ⌜ length (now (m .exit)) ≡ length (now (m .entry)) ⌝ }
 {
     // no valid table has such a place or such a size
-    if limits::NODES <= node {
+    if Guard::NODES <= node {
         return outcomes::Outcome::Refused(9);
     }
     if size == memory::node_size(m, node) as usize {
@@ -106,7 +107,7 @@ fn truncate_at(
             length: 0,
         };
     }
-    if limits::FILE_BYTES < size {
+    if Guard::FILE_BYTES < size {
         return outcomes::Outcome::Refused(22);
     }
     guard_state::wait_shrink(m, node, opened, size);
@@ -121,7 +122,7 @@ pub fn begin_truncate(m: &mut [u8], handle: u64, size: u64, request: &mut [u8]) 
         (now (request .exit))) ⌝ }
     ensures { λ _. ⌜ length (now (m .exit)) ≡ length (now (m .entry)) ⌝ }
 {
-    let g = guard_state::Guard::load(m);
+    let g = Guard::load(m);
     let j = handle_calls::judge_truncate(m, g.nodes, g.opens, handle, size);
     match j {
         handle_calls::Handled::Open { opened, node } => truncate_at(
@@ -145,7 +146,7 @@ pub fn accept_fetched(m: &mut [u8], reply: &[u8], request: &mut [u8]) -> outcome
         (now (request .exit))) ⌝ }
     ensures { λ _. ⌜ length (now (m .exit)) ≡ length (now (m .entry)) ⌝ }
 {
-    let g = guard_state::Guard::load(m);
+    let g = Guard::load(m);
     let b = replies::judge_page(m, g.nodes, g.node, g.page, reply);
     if b != 0 {
         return outcomes::Outcome::Stopped(b);
@@ -164,7 +165,7 @@ pub fn accept_stored(m: &mut [u8], reply: &[u8], request: &mut [u8]) -> outcomes
         (now (request .exit))) ⌝ }
     ensures { λ _. ⌜ length (now (m .exit)) ≡ length (now (m .entry)) ⌝ }
 {
-    let b = replies::judge_status(reply, limits::PAGE_BYTES as i32);
+    let b = replies::judge_status(reply, Guard::PAGE_BYTES as i32);
     if b != 0 {
         return outcomes::Outcome::Stopped(b);
     }
@@ -182,7 +183,7 @@ pub fn accept_cut(m: &mut [u8], reply: &[u8]) -> outcomes::Outcome
     if b != 0 {
         return outcomes::Outcome::Stopped(b);
     }
-    let g = guard_state::Guard::load(m);
+    let g = Guard::load(m);
     let size = g.size as u32;
     let cursor = numbers::smaller(memory::open_cursor(m, g.opened) as usize, g.size) as u32;
     changes::end_change(
@@ -191,7 +192,7 @@ pub fn accept_cut(m: &mut [u8], reply: &[u8]) -> outcomes::Outcome
         g.opened,
         size,
         cursor,
-        g.size / limits::PAGE_BYTES,
+        g.size / Guard::PAGE_BYTES,
         g.digests,
         0,
     )

@@ -20,22 +20,23 @@ ghost use Rattle.outcomes.specs.Started.{startedBy};
 ghost use Rattle.outcomes.specs.Answered.{answered};
 ghost use Rattle.changes.specs.Sending.{Sending};
 ghost use Rattle.writes.specs.Writing.{Writing, writeIn};
+use guard_state::Guard;
 
-const FILE_PAGES: usize = limits::FILE_BYTES / limits::PAGE_BYTES;
+const FILE_PAGES: usize = Guard::FILE_BYTES / Guard::PAGE_BYTES;
 
 // Whether a byte of the page below the old end is not overwritten, so that the page is fetched first.
 fn is_fetched(position: usize, end: usize, size: usize, page: usize) -> bool
     requires { ⌜ page ≤ filePages ⌝ }
     ensures { λ r. ⌜ ((d : List ℕ) → end ≡ position + length d → r ≡ fetches (writing position d) size page) ⌝ }
 {
-    let start = page * limits::PAGE_BYTES;
+    let start = page * Guard::PAGE_BYTES;
     if size <= start {
         return false;
     }
     if start < position {
         return true;
     }
-    end < numbers::smaller(size, start + limits::PAGE_BYTES)
+    end < numbers::smaller(size, start + Guard::PAGE_BYTES)
 }
 
 // A page of the pending write goes out, made from the one that was fetched or from none.
@@ -49,9 +50,9 @@ fn store_page(m: &mut [u8], page: usize, fetched: &[u8], request: &mut [u8]) -> 
         (now (request .entry)) (now (request .exit))) ⌝ }
     ensures { λ _. ⌜ length (now (m .exit)) ≡ length (now (m .entry)) ⌝ }
 {
-    let g = guard_state::Guard::load(m);
+    let g = Guard::load(m);
     let end = g.position + g.bytes;
-    let reached = numbers::smaller(end, page * limits::PAGE_BYTES + limits::PAGE_BYTES);
+    let reached = numbers::smaller(end, page * Guard::PAGE_BYTES + Guard::PAGE_BYTES);
     let size = numbers::larger(memory::node_size(m, g.node), reached as u32);
     let d = memory::open_descriptor(m, g.opened);
     let bytes = memory::staged(m, 0, g.bytes);
@@ -69,7 +70,7 @@ fn end_write(m: &mut [u8]) -> outcomes::Outcome
         (numbersOf (memOf (now (m .entry)) .head) .opened) (writeIn (now (m .entry)))) r (now (m .exit)) b b) ⌝ }
     ensures { λ _. ⌜ length (now (m .exit)) ≡ length (now (m .entry)) ⌝ }
 {
-    let g = guard_state::Guard::load(m);
+    let g = Guard::load(m);
     let end = (g.position + g.bytes) as u32;
     let size = numbers::larger(memory::node_size(m, g.node), end);
     changes::end_change(
@@ -78,7 +79,7 @@ fn end_write(m: &mut [u8]) -> outcomes::Outcome
         g.opened,
         size,
         end,
-        g.position / limits::PAGE_BYTES,
+        g.position / Guard::PAGE_BYTES,
         g.digests,
         g.bytes as u64,
     )
@@ -94,7 +95,7 @@ fn on_page(m: &mut [u8], page: usize, request: &mut [u8]) -> outcomes::Outcome
         (now (request .exit))) ⌝ }
     ensures { λ _. ⌜ length (now (m .exit)) ≡ length (now (m .entry)) ⌝ }
 {
-    let g = guard_state::Guard::load(m);
+    let g = Guard::load(m);
     let end = g.position + g.bytes;
     let size = memory::node_size(m, g.node) as usize;
     if is_fetched(g.position, end, size, page) {
@@ -113,8 +114,8 @@ fn carry_on(m: &mut [u8], page: usize, request: &mut [u8]) -> outcomes::Outcome
         (now (request .exit))) ⌝ }
     ensures { λ _. ⌜ length (now (m .exit)) ≡ length (now (m .entry)) ⌝ }
 {
-    let g = guard_state::Guard::load(m);
-    if g.position + g.bytes <= page * limits::PAGE_BYTES {
+    let g = Guard::load(m);
+    if g.position + g.bytes <= page * Guard::PAGE_BYTES {
         return end_write(m);
     }
     if memory::NEW_DIGESTS <= g.digests {
@@ -149,14 +150,14 @@ fn write_at(
     }
     let cursor = memory::open_cursor(m, opened) as usize;
     // no valid table has such a place or such a cursor
-    if limits::NODES <= node {
+    if Guard::NODES <= node {
         return outcomes::Outcome::Refused(9);
     }
-    if limits::FILE_BYTES < cursor {
+    if Guard::FILE_BYTES < cursor {
         return outcomes::Outcome::Refused(27);
     }
     guard_state::wait_write(m, node, opened, cursor, bytes);
-    carry_on(m, cursor / limits::PAGE_BYTES, request)
+    carry_on(m, cursor / Guard::PAGE_BYTES, request)
 }
 
 // write: these bytes at the cursor of the open file with this handle.
@@ -167,7 +168,7 @@ pub fn begin_write(m: &mut [u8], handle: u64, bytes: &[u8], request: &mut [u8]) 
         (now (request .exit))) ⌝ }
     ensures { λ _. ⌜ length (now (m .exit)) ≡ length (now (m .entry)) ⌝ }
 {
-    let g = guard_state::Guard::load(m);
+    let g = Guard::load(m);
     let j = handle_calls::judge_write(m, g.nodes, g.opens, handle, bytes);
     match j {
         handle_calls::Handled::Open { opened, node } => write_at(m, opened, node, bytes, request),
@@ -185,7 +186,7 @@ pub fn accept_fetched(m: &mut [u8], reply: &[u8], request: &mut [u8]) -> outcome
         (now (request .exit))) ⌝ }
     ensures { λ _. ⌜ length (now (m .exit)) ≡ length (now (m .entry)) ⌝ }
 {
-    let g = guard_state::Guard::load(m);
+    let g = Guard::load(m);
     let b = replies::judge_page(m, g.nodes, g.node, g.page, reply);
     if b != 0 {
         return outcomes::Outcome::Stopped(b);
@@ -204,11 +205,11 @@ pub fn accept_stored(m: &mut [u8], reply: &[u8], request: &mut [u8]) -> outcomes
         (now (request .exit))) ⌝ }
     ensures { λ _. ⌜ length (now (m .exit)) ≡ length (now (m .entry)) ⌝ }
 {
-    let b = replies::judge_status(reply, limits::PAGE_BYTES as i32);
+    let b = replies::judge_status(reply, Guard::PAGE_BYTES as i32);
     if b != 0 {
         return outcomes::Outcome::Stopped(b);
     }
-    let g = guard_state::Guard::load(m);
+    let g = Guard::load(m);
     let page = g.page + 1;
     // no consistent write stores a page behind the largest file
     if FILE_PAGES < page {

@@ -21,9 +21,11 @@ returns-2 : tie.Need-returns-2
 returns-2 c =
     let x = c .before in
     let f = x .before .before in
-    let a = f .before .before .before .before .before .before .args in
-    (refused-as (a .m .now) (a .answer .now) (a .request .now) (call-behind (held (a .m .now)) (a .bytes .now) _ _) (f .first-number .ensures) (x .before .if1 .left) 34
-    (call-short delivered (held (a .m .now)) (a .bytes .now) _ _ (sym (x .is-short .ensures) ∙ c .if2 .taken)), refl)
+    let a = f .before .before .before .before .before .before .args in (
+      refused-as (a .m .now) (a .answer .now) (a .request .now) (call-behind (held (a .m .now)) (a .bytes .now) _ _) (f .first-number .ensures) (x .before .if1 .left) 34
+          (call-short delivered (held (a .m .now)) (a .bytes .now) _ _ (sym (x .is-short .ensures) ∙ c .if2 .taken)),
+      refl,
+    )
 
 begin-call-requires : tie.Need-begin-call-requires
 begin-call-requires c κs =
@@ -41,11 +43,13 @@ returns-3 c =
     let f = x .before .before in
     let a = f .before .before .before .before .before .before .args in
     let s = held (a .m .now) in
-    let z = long-enough (length (a .answer .now)) (length (a .request .now)) (sym (x .is-short .ensures) ∙ j .if2 .left) in
-    (taken-as (a .m .now) (a .answer .now) (a .request .now) (call-behind s (a .bytes .now) _ _) (f .first-number .ensures) (x .before .if1 .left)
-    (call-read delivered s (a .bytes .now) _ _ (sym (x .is-short .ensures) ∙ j .if2 .left)) _ _ _ _ _ _ (t .settle .ensures .0 .0) (t .settle .ensures .0 .1)
-    (λ k. sends-leaves delivered _ _ _ _ _ (v .begin-call .ensures .0 delivered digest-delivered width-delivered
-    (call-ready s (a .bytes .now) _ _ (z .0) (z .1) (sym (f .first-number .ensures) ∙ x .before .if1 .left) k)) _), omega arith)
+    let z = long-enough (length (a .answer .now)) (length (a .request .now)) (sym (x .is-short .ensures) ∙ j .if2 .left) in (
+      taken-as (a .m .now) (a .answer .now) (a .request .now) (call-behind s (a .bytes .now) _ _) (f .first-number .ensures) (x .before .if1 .left)
+          (call-read delivered s (a .bytes .now) _ _ (sym (x .is-short .ensures) ∙ j .if2 .left)) _ _ _ _ _ _ (t .settle .ensures .0 .0) (t .settle .ensures .0 .1)
+          (λ k. sends-leaves delivered _ _ _ _ _ (v .begin-call .ensures .0 delivered digest-delivered width-delivered
+          (call-ready s (a .bytes .now) _ _ (z .0) (z .1) (sym (f .first-number .ensures) ∙ x .before .if1 .left) k)) _),
+      omega arith,
+    )
 
 pub take-call-spec : {M : Type 1} → statement M
 take-call-spec =

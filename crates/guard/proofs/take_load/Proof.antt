@@ -18,9 +18,11 @@ returns-2 c =
     let v = c .before .before in
     let j = v .before .before in
     let f = j .before in
-    let a = f .before .before .before .before .before .args in
-    (load-taken (a .m .now) (a .image .now) (a .digest .now) (f .first-number .ensures) (j .if1 .left) _ _
-    (v .load .ensures .0 delivered digest-delivered width-delivered), omega arith)
+    let a = f .before .before .before .before .before .args in (
+      load-taken (a .m .now) (a .image .now) (a .digest .now) (f .first-number .ensures) (j .if1 .left) _ _
+          (v .load .ensures .0 delivered digest-delivered width-delivered),
+      omega arith,
+    )
 
 pub take-load-spec : {M : Type 1} → statement M
 take-load-spec = tie.close (tie.spec (λ c κs. search needs) (λ c. search needs) returns (λ c κs. search needs) (λ c. search needs) returns-2)

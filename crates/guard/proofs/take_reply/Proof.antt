@@ -21,9 +21,11 @@ returns-2 : tie.Need-returns-2
 returns-2 c =
     let x = c .before in
     let f = x .before .before in
-    let a = f .before .before .before .before .before .before .args in
-    (refused-as (a .m .now) (a .answer .now) (a .request .now) (reply-behind (held (a .m .now)) (a .bytes .now) _ _) (f .first-number .ensures) (x .before .if1 .left) 34
-    (reply-short delivered (held (a .m .now)) (a .bytes .now) _ _ (sym (x .is-short .ensures) ∙ c .if2 .taken)), refl)
+    let a = f .before .before .before .before .before .before .args in (
+      refused-as (a .m .now) (a .answer .now) (a .request .now) (reply-behind (held (a .m .now)) (a .bytes .now) _ _) (f .first-number .ensures) (x .before .if1 .left) 34
+          (reply-short delivered (held (a .m .now)) (a .bytes .now) _ _ (sym (x .is-short .ensures) ∙ c .if2 .taken)),
+      refl,
+    )
 
 accept-reply-requires : tie.Need-accept-reply-requires
 accept-reply-requires c κs =
@@ -44,10 +46,12 @@ returns-3 c =
     let s = held (a .m .now) in
     let z = long-enough (length (a .answer .now)) (length (a .request .now)) (sym (x .is-short .ensures) ∙ j .if2 .left) in
     let w = sym (f .first-number .ensures) ∙ x .before .if1 .left in
-    let n = pending-number (a .m .now) w in
-    (taken-as (a .m .now) (a .answer .now) (a .request .now) (reply-behind s (a .bytes .now) _ _) (f .first-number .ensures) (x .before .if1 .left)
-    (reply-read delivered s (a .bytes .now) _ _ (sym (x .is-short .ensures) ∙ j .if2 .left)) _ _ _ _ _ _ (t .settle .ensures .0 .0) (t .settle .ensures .0 .1)
-    (λ k. v .accept-reply .ensures .0 delivered digest-delivered width-delivered (reply-ready s (a .bytes .now) _ _ (z .0) (z .1) w k) (n .0) (n .1) (z .0)), omega arith)
+    let n = pending-number (a .m .now) w in (
+      taken-as (a .m .now) (a .answer .now) (a .request .now) (reply-behind s (a .bytes .now) _ _) (f .first-number .ensures) (x .before .if1 .left)
+          (reply-read delivered s (a .bytes .now) _ _ (sym (x .is-short .ensures) ∙ j .if2 .left)) _ _ _ _ _ _ (t .settle .ensures .0 .0) (t .settle .ensures .0 .1)
+          (λ k. v .accept-reply .ensures .0 delivered digest-delivered width-delivered (reply-ready s (a .bytes .now) _ _ (z .0) (z .1) w k) (n .0) (n .1) (z .0)),
+      omega arith,
+    )
 
 pub take-reply-spec : {M : Type 1} → statement M
 take-reply-spec =

@@ -21,9 +21,11 @@ returns-2 c =
     let v = c .before .before .before .before .before .before in
     let j = v .before .before .before .before in
     let f = j .before in
-    let a = f .before .before .before .before .before .args in
-    (save-taken (a .m .now) (a .image .now) (a .digest .now) (f .first-number .ensures) (j .if1 .left) _ _ _ _
-    (λ h. v .save .ensures .0 delivered digest-delivered width-delivered h), omega arith)
+    let a = f .before .before .before .before .before .args in (
+      save-taken (a .m .now) (a .image .now) (a .digest .now) (f .first-number .ensures) (j .if1 .left) _ _ _ _
+          (λ h. v .save .ensures .0 delivered digest-delivered width-delivered h),
+      omega arith,
+    )
 
 pub take-save-spec : {M : Type 1} → statement M
 take-save-spec =
