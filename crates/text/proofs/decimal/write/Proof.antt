@@ -7,13 +7,15 @@ use mathlib.Core.Path.{_≡_, refl, _∙_}
 use mathlib.Core.List.{_++_}
 use lib.ListN.{length, take, drop, length-set}
 use lib.Seq.{take-set-le}
-use Rattle.text.specs.Digits.{decimalOf, length-more, decimal-some, decimal-most, digit-none, digit-more, digit-first, digits-end}
+use Rattle.text.specs.Digits.{decimalOf, length-more, decimal-some, decimal-most}
+use Rattle.text.specs.Digits.{digit-none, digit-more, digit-first, digits-end}
 use Rattle.text.proofs.decimal.write.Statement.{statement}
 use Rattle.text.proofs.decimal.write.Tie as tie
 
 abbrev Inv-loop : tie.InvT-loop
 Inv-loop n out₀ i₀ rest₀ out i rest =
-    (i < length out) × (length out ≡ length out₀) × (length (decimalOf rest) ≤ i + 1) × (decimalOf n ≡ decimalOf rest ++ drop (suc i) out)
+    (i < length out) × (length out ≡ length out₀) × (length (decimalOf rest) ≤ i + 1)
+    × (decimalOf n ≡ decimalOf rest ++ drop (suc i) out)
     × ((k : ℕ) → k ≤ suc i → take k out ≡ take k out₀)
 
 abbrev μ-loop : tie.MeasureT-loop
@@ -54,7 +56,8 @@ returns c =
     let a = c .before .before .args in
     let l = c .before .loop in
     let e = digits-end (a .n) (l .rest) (l .i) (l .out) (l .inv .0) (l .inv .3) (omega arith) in
-    (omega arith, digit-first (a .n) (l .rest) (l .i) (l .out) (l .inv .0) (l .inv .3) (omega arith) (a .out .now) (l .inv .4 (l .i) (omega arith)))
+    let f = digit-first (a .n) (l .rest) (l .i) (l .out) (l .inv .0) (l .inv .3) (omega arith) in
+    (omega arith, f (a .out .now) (l .inv .4 (l .i) (omega arith)))
 
 pub write-spec : {M : Type 1} → statement M
 write-spec =
