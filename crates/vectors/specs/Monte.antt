@@ -34,5 +34,7 @@ pub filled : (l a b c : List ℕ) → length l ≡ 96 → length a ≡ 32 → le
 filled l a b c n x y z =
     let ab : length (a ++ b) ≡ 64 = length-append a b ∙ omega arith in
     let abc : length ((a ++ b) ++ c) ≡ 96 = length-append (a ++ b) c ∙ omega arith in
-    rw (overwrite-next l 0 a b 32 (omega arith) (omega arith), overwrite-next l 0 (a ++ b) c 64 (omega arith) (omega arith))
+    let two = overwrite-next l 0 a b 32 (omega arith) (omega arith) in
+    let three = overwrite-next l 0 (a ++ b) c 64 (omega arith) (omega arith) in
+    rw (two, three)
     (overwrite-all l ((a ++ b) ++ c) (omega arith) ∙ append-assoc a b c)
