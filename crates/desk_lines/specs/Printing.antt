@@ -5,7 +5,7 @@ use mathlib.Core.List.{List, [], _∷_, _++_, append-assoc, append-nil}
 use Prim.Native.Nat.{ℕ, _+_, _-_, _*_, _≤_, _<_}
 use native.Mathlib.Omega.{arith}
 use lib.ListN.{length, take, drop, length-append, length-drop, drop-of-length-le}
-use lib.Seq.{drop-drop, take-all}
+use lib.Seq.{length-take-le, drop-at, drop-drop, take-all}
 use Rattle.lists.specs.Parts.{overwrite}
 use Rattle.lists.specs.PartLaws.{overwrite-front, overwrite-next, overwrite-none}
 use Rattle.text.specs.Ascii.{ascii}
@@ -20,6 +20,10 @@ use Rattle.desk_lines.specs.Lines.{anyBytes, printed, Puts, Prints}
 -- all that lies behind `at`, as a slice has it
 pub all-behind : (l : List ℕ) (at n : ℕ) → n ≡ length l → take (n - at) (drop at l) ≡ drop at l
 all-behind l at n e = take-all (n - at) (drop at l) (rw (e, length-drop at l) (omega arith))
+
+-- what was written to the end of a buffer
+pub digits-behind : (x l : List ℕ) {l′ : List ℕ} (r : ℕ) → r + length x ≡ length l → l′ ≡ take r l ++ x → drop r l′ ≡ x
+digits-behind x l r n e = rw e (drop-at (take r l) x r (length-take-le r l (omega arith)))
 
 pub overwrite-behind : (l x : List ℕ) (at n : ℕ) → n ≡ length l
     → take at l ++ (overwrite (take (n - at) (drop at l)) 0 x ++ drop (n - at) (drop at l)) ≡ overwrite l at x

@@ -1,21 +1,22 @@
--- The padded end of a message byte by byte, and the hash value after it.
+-- The padded end of a message in the code's last blocks, and the hash value after it.
 -- Assumes nothing.
-use mathlib.Core.List.{List, [], _∷_, _++_}
-use mathlib.Core.Path.{_≡_, sym, ap, _∙_}
+use mathlib.Core.List.{List, [], _∷_, _++_, append-assoc}
+use mathlib.Core.Path.{_≡_, refl, sym, ap, _∙_}
 use Prim.Native.Nat.{ℕ, zero, suc, _+_, _-_, _*_, _/_, _%_, _^_, _≤_, _<_}
-use native.Mathlib.Nat.{lt-of-not-le}
+use native.Mathlib.Nat.{zero-add}
 use native.Mathlib.Omega.{arith}
-use native.Mathlib.Decide.{decLe}
-use lib.ListN.{length, getD, set, replicate, length-append, length-replicate, getD-replicate, List·getD-append}
-use lib.Seq.{getD-append-add, getD-set-same}
+use lib.ListN.{length, getD, drop, set, replicate, length-append, length-drop, length-replicate}
+use lib.ListN.{replicate-append-replicate, List·getD-append}
+use lib.Seq.{drop-append-le, getD-drop}
+use Rattle.lists.specs.Parts.{overwrite}
+use Rattle.lists.specs.PartLaws.{overwrite-front, overwrite-next, overwrite-snoc}
 use Rattle.lists.specs.BigEndian.{bigEndian, length-bigEndian}
 use Rattle.compression.specs.Compression.{block, compress}
 use Rattle.compression.specs.declared.State.{State}
 use Rattle.digest.specs.Sha256.{hash, bytes}
 use Rattle.digest.specs.Blocks.{block-agrees, hash-agrees}
 use Rattle.digest.specs.Streaming.{ending, absorbed, finished}
-use Rattle.digest.specs.Padding.{Rest, Put, Ended}
-use Rattle.digest.proofs.Stores.{unstored}
+use Rattle.digest.specs.Padding.{withZeros, lastBlocks}
 
 pub length-byte : (n j : ℕ) → j < 8 → n * 2 ^ 3 % 2 ^ 64 / 2 ^ (56 - 8 * j) % 256 ≡ getD (bigEndian 8 (8 * n)) j 0
 unfolding bigEndian
@@ -29,12 +30,40 @@ length-byte n (suc (suc (suc (suc (suc (suc zero)))))) h = omega arith
 length-byte n (suc (suc (suc (suc (suc (suc (suc zero))))))) h = omega arith
 length-byte n (suc (suc (suc (suc (suc (suc (suc (suc j)))))))) h = absurd (omega arith)
 
+drop-zeros : (k n : ℕ) → drop {A = ℕ} k (replicate n 0) ≡ replicate (n - k) 0
+drop-zeros zero n = let e : n - 0 ≡ n = omega arith in rw e
+drop-zeros (suc k) zero = let e : 0 - suc k ≡ 0 = omega arith in rw e
+drop-zeros (suc k) (suc n) = let e : suc n - suc k ≡ n - k = omega arith in rw e (drop-zeros k n)
+
+-- zeros behind x are there already
+zeros-more : (x : List ℕ) (k : ℕ) → length x + k ≤ 128 → withZeros x ≡ withZeros (x ++ replicate k 0)
+unfolding withZeros
+zeros-more x k h =
+    let z : List ℕ = replicate 128 0 in
+    let e : length (x ++ replicate k 0) ≡ length x + k = length-append x (replicate k 0) ∙ rw length-replicate in
+    let f : 128 - length x ≡ k + (128 - (length x + k)) = omega arith in
+    let r : List ℕ = replicate (128 - (length x + k)) 0 in
+    rw (overwrite-front z x, overwrite-front z (x ++ replicate k 0), e, drop-zeros (length x) 128)
+    (rw (drop-zeros (length x + k) 128, f, ← replicate-append-replicate {A = ℕ} k (128 - (length x + k)) 0)
+    (sym (append-assoc x (replicate k 0) r)))
+
+zeros-set : (x : List ℕ) (k v : ℕ) → length x ≡ k → k < 128 → set (withZeros x) k v ≡ withZeros (x ++ (v ∷ []))
+unfolding withZeros
+zeros-set x k v e h = rw (← e) (rw (zero-add (length x)) at (overwrite-snoc 0 (replicate 128 0) 0 x v (omega arith)))
+
+zeros-next : (x y : List ℕ) (k : ℕ) → k ≡ length x → overwrite (withZeros x) k y ≡ withZeros (x ++ y)
+unfolding withZeros
+zeros-next x y k e = overwrite-next (replicate 128 0) 0 x y k (omega arith) (omega arith)
+
 module _ (m : List ℕ) (n : ℕ) where
   abbrev zeros : ℕ
   zeros = (119 - length m % 64) % 64
 
   abbrev tail : List ℕ
   tail = replicate zeros 0 ++ bigEndian 8 (8 * n)
+
+  abbrev whole : ℕ
+  whole = length m / 64 * 64
 
   length-tail : length tail ≡ zeros + 8
   length-tail = length-append (replicate zeros 0) (bigEndian 8 (8 * n)) ∙ rw (length-replicate, length-bigEndian)
@@ -47,58 +76,43 @@ module _ (m : List ℕ) (n : ℕ) where
   unfolding ending
   ending-front i h = List·getD-append m (0x80 ∷ tail) 0 i h
 
-  ending-past : (j : ℕ) → getD (ending m n) (length m + j) 0 ≡ getD (0x80 ∷ tail) j 0
-  unfolding ending
-  ending-past j = getD-append-add m (0x80 ∷ tail) j 0
+  last-at : (k : ℕ) → whole + k < length (ending m n) → getD (lastBlocks m n) k 0 ≡ getD (ending m n) (whole + k) 0
+  unfolding lastBlocks withZeros
+  last-at k h =
+      let x = drop whole (ending m n) in
+      rw (overwrite-front (replicate 128 0) x)
+      (List·getD-append x _ 0 k (rw length-drop (omega arith)) ∙ getD-drop whole (ending m n) k 0)
 
-  ending-one : getD (ending m n) (length m + 0) 0 ≡ 0x80
-  ending-one = ending-past 0
-
-  ending-zeros : (j : ℕ) → j < zeros → getD (ending m n) (length m + suc j) 0 ≡ 0
-  ending-zeros j h =
-      ending-past (suc j) ∙ List·getD-append (replicate zeros 0) (bigEndian 8 (8 * n)) 0 j (omega (arith, length-replicate {A = ℕ} zeros 0))
-      ∙ getD-replicate zeros j 0 0 h
-
-  ending-length : (j : ℕ) → getD (ending m n) (length m + suc (zeros + j)) 0 ≡ getD (bigEndian 8 (8 * n)) j 0
-  ending-length j =
-      ending-past (suc (zeros + j))
-      ∙ ap (λ (k : ℕ). getD tail (k + j) 0) (sym (length-replicate zeros 0))
-      ∙ getD-append-add (replicate zeros 0) (bigEndian 8 (8 * n)) j 0
-
-less : {A : Type 0} (j k : ℕ) → (j < k → A) → (k ≤ j → A) → A
-less {A} j k f g = pick (decLe k j)
-  where
-    pick : Dec (k ≤ j) → A
-    pick (yes h) = g h
-    pick (no h) = f (lt-of-not-le h)
-
-pub ended : (m : List ℕ) (n : ℕ) (t r : List ℕ) (e : ℕ) → length t ≡ 128 → Rest m t → e ≡ length m % 64 + suc (zeros m n)
-    → Put (set t (length m % 64) 0x80) e (bigEndian 8 (8 * n)) r → Ended m n r
-ended m n t r e l rest at put =
-    record {
-      agrees = λ k h.
-          let x : ℕ = length m in
-          let w : ℕ = x / 64 * 64 in
-          let place : (i : ℕ) → i ≡ w + k → getD (ending m n) i 0 ≡ getD (ending m n) (w + k) 0 = λ i p. ap (λ (j : ℕ). getD (ending m n) j 0) p in
-          less k (x % 64)
-          (λ p. put .before k (omega arith) ∙ unstored t (x % 64) 0x80 k (λ q. omega arith) ∙ rest .part k p ∙ sym (ending-front m n (w + k) (omega arith)))
-          (λ p. less k (suc (x % 64))
-          (λ q. put .before k (omega arith) ∙ ap (λ (j : ℕ). getD (set t (x % 64) 0x80) j 0) (omega arith) ∙ getD-set-same t (x % 64) 0x80 0 (omega arith)
-          ∙ sym (ending-one m n) ∙ place (x + 0) (omega arith))
-          (λ q. less k e
-          (λ s. put .before k s ∙ unstored t (x % 64) 0x80 k (λ y. omega arith) ∙ rest .zeros k p
-          ∙ sym (ending-zeros m n (k - suc (x % 64)) (omega arith)) ∙ place (x + suc (k - suc (x % 64))) (omega arith))
-          (λ s. ap (λ (j : ℕ). getD r j 0) (omega arith) ∙ put .from (k - e) (omega (arith, length-ending m n)) ∙ sym (ending-length m n (k - e)) ∙ place (x + suc (zeros m n + (k - e))) (omega arith))));
-    }
+  -- the rest, a one bit, and the length
+  pub ended : (t r : List ℕ) (e : ℕ) → t ≡ withZeros (drop whole m) → e ≡ length m % 64 + suc zeros
+      → r ≡ overwrite (set t (length m % 64) 0x80) e (bigEndian 8 (8 * n)) → r ≡ lastBlocks m n
+  unfolding lastBlocks ending
+  ended t r e rest at put =
+      let x = drop whole m in
+      let y = x ++ (0x80 ∷ []) in
+      let l : length x ≡ length m % 64 = length-drop whole m ∙ omega arith in
+      let k : length y ≡ suc (length m % 64) = length-append x (0x80 ∷ []) ∙ omega arith in
+      let z = y ++ replicate zeros 0 in
+      let g : e ≡ length z = sym (length-append y (replicate zeros 0) ∙ rw length-replicate (omega arith)) in
+      put ∙ rw (rest, zeros-set x _ 0x80 l (omega arith), zeros-more y zeros (omega arith))
+      (zeros-next z (bigEndian 8 (8 * n)) e g
+      ∙ ap withZeros (rw (drop-append-le whole m (0x80 ∷ tail) (omega arith)) (simp append-assoc)))
 
 -- one block more, of the last blocks
-hash-last : (s₀ s : State) (m : List ℕ) (n : ℕ) (r : List ℕ) (i j : ℕ) → Ended m n r → i ≡ length m / 64 + j → s ≡ hash s₀ (ending m n) i
+hash-last : (s₀ s : State) (m : List ℕ) (n : ℕ) (r : List ℕ) (i j : ℕ) → r ≡ lastBlocks m n
+    → i ≡ length m / 64 + j → s ≡ hash s₀ (ending m n) i
     → 64 * i + 64 ≤ length (ending m n) → compress s (block r (64 * j)) ≡ hash s₀ (ending m n) (suc i)
 unfolding hash
 hash-last s₀ s m n r i j last at e h =
-    rw (e, block-agrees r (ending m n) (64 * j) (64 * i) (λ k l. last .agrees (64 * j + k) (omega arith) ∙ ap (λ (x : ℕ). getD (ending m n) x 0) (omega arith)))
+    rw (
+      e,
+      block-agrees r (ending m n) (64 * j) (64 * i)
+          (λ k l. ap (λ (x : List ℕ). getD x (64 * j + k) 0) last ∙ last-at m n (64 * j + k) (omega arith)
+          ∙ ap (λ (x : ℕ). getD (ending m n) x 0) (omega arith)),
+    )
 
-module _ (s₀ : State) (m : List ℕ) (n : ℕ) (r : List ℕ) (s s1 : State) (last : Ended m n r) (start : s ≡ absorbed s₀ m) (one : s1 ≡ compress s (block r 0)) where
+module _ (s₀ : State) (m : List ℕ) (n : ℕ) (r : List ℕ) (s s1 : State) (last : r ≡ lastBlocks m n)
+    (start : s ≡ absorbed s₀ m) (one : s1 ≡ compress s (block r 0)) where
   hash-whole : s ≡ hash s₀ (ending m n) (length m / 64)
   unfolding absorbed
   hash-whole = start ∙ hash-agrees s₀ m (ending m n) (length m / 64) (λ k h. sym (ending-front m n k (omega arith)))

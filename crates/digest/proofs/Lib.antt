@@ -1,3 +1,2 @@
 pub mod Endings
 pub mod Examples
-pub mod Stores

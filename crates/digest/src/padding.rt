@@ -1,13 +1,14 @@
 // The last blocks of a message: FIPS 180-4 §5.1.1 on at most 128 copied bytes.
 ghost use mathlib.Core.Path.{_≡_};
-ghost use Prim.Native.Nat.{_*_, _≤_, _<_};
-ghost use lib.ListN.{getD};
+ghost use Prim.Native.Nat.{_*_, _/_, _≤_, _<_};
+ghost use lib.ListN.{length, getD, drop};
+ghost use Rattle.lists.specs.Parts.{overwrite};
 ghost use Rattle.lists.specs.BigEndian.{bigEndian};
-ghost use Rattle.digest.specs.Padding.{Rest, Put, Ended};
+ghost use Rattle.digest.specs.Padding.{withZeros, lastBlocks};
 
 // The message's bytes after its last whole block, and then zeros.
 fn rest_of(m: &[u8]) -> [u8; 128]
-    ensures { λ r. ⌜ Rest (now (m .entry)) r ⌝ }
+    ensures { λ r. ⌜ r ≡ withZeros (drop (length (now (m .entry)) / 64 * 64) (now (m .entry))) ⌝ }
 {
     let whole = m.len() / 64 * 64;
     let rest = m.len() % 64;
@@ -32,7 +33,7 @@ fn length_byte(n: usize, j: usize) -> u8
 // t with the length in bits of n bytes at byte i.
 fn with_length(t: [u8; 128], i: usize, n: usize) -> [u8; 128]
     requires { ⌜ i ≤ 120 ⌝ }
-    ensures { λ r. ⌜ Put t i (bigEndian 8 (8 * n)) r ⌝ }
+    ensures { λ r. ⌜ r ≡ overwrite t i (bigEndian 8 (8 * n)) ⌝ }
 {
     let mut r = t;
     let mut j = 0;
@@ -44,9 +45,10 @@ fn with_length(t: [u8; 128], i: usize, n: usize) -> [u8; 128]
     r
 }
 
-// The bytes of the padded message after its last whole block: m has the message's last bytes, n counts them all.
+// The bytes of the padded message after its last whole block, and then zeros: m has the message's last bytes, n counts
+// them all.
 pub fn last_blocks(m: &[u8], n: usize) -> [u8; 128]
-    ensures { λ r. ⌜ Ended (now (m .entry)) n r ⌝ }
+    ensures { λ r. ⌜ r ≡ lastBlocks (now (m .entry)) n ⌝ }
 {
     let rest = m.len() % 64;
     let mut t = rest_of(m);

@@ -8,13 +8,14 @@ use mathlib.Core.Option.{some}
 use native.Mathlib.Omega.{arith}
 use native.Mathlib.Numerals.{add-one}
 use lib.Dec.{eqb}
-use lib.ListN.{length, take, set}
+use lib.ListN.{length, take, drop, set}
+use lib.Seq.{drop-at}
 use borrow.Author.Tests.{eqb-true}
 use Rattle.lists.specs.All.{Bytes}
 use Rattle.lists.specs.Equal.{Is, isT, isF, is, and-fst, and-snd, and-both}
 use Rattle.lists.specs.Pick.{pick-true}
 use Rattle.lists.specs.Parts.{overwrite}
-use Rattle.lists.specs.PartLaws.{overwrite-snoc, take-overwrite}
+use Rattle.lists.specs.PartLaws.{overwrite-front, overwrite-snoc, take-overwrite}
 use Rattle.lists.specs.RowLaws.{length-rows}
 use Rattle.lists.specs.Form.{bind}
 use Rattle.filesystem.specs.Tables.{ID-BYTES, NODES, PAGES, Node, noNode, nodeAt, newNode, withSize, pageTotal}
@@ -31,6 +32,10 @@ pub record Loaded (image before after : List ℕ) (n : ℕ) : Type 0 where
   pub tables : parse ID-BYTES image ≡ some (imageIn n after)
   pub few : n ≤ NODES
   pub rest : memOf after ≡ withDigests (memOf after .digests) (withNodes (memOf after .nodes) (memOf before))
+  -- rows behind the image's are as they were
+  pub nodes-behind : drop n (memOf after .nodes) ≡ drop n (memOf before .nodes)
+  pub digests-behind : (k : ℕ) → k ≡ pageTotal (take n (memOf after .nodes))
+      → drop k (memOf after .digests) ≡ drop k (memOf before .digests)
 
 -- what a sound image says
 pub record SoundImage (w : ℕ) (s : List ℕ) : Type 0 where
@@ -92,6 +97,9 @@ same-node w s at a b c d e f = λ i. record { id = a i; parent = b i; kind = c i
 front : {A : Type 0} (l x : List A) (n : ℕ) → n ≡ length x → take n (overwrite l 0 x) ≡ x
 front l x n e = take-overwrite l 0 x n (e ∙ omega arith) (omega arith)
 
+behind : {A : Type 0} (l x : List A) (n : ℕ) → n ≡ length x → drop n (overwrite l 0 x) ≡ drop n l
+behind l x n e = rw (overwrite-front l x, e) (drop-at x (drop (length x) l) (length x) refl)
+
 pub both-loaded : (s before middle after : List ℕ) (n : ℕ) → SoundImage ID-BYTES s → n ≡ nodeCount s
     → memOf middle ≡ withNodes (overwrite (memOf before .nodes) 0 (imageNodes ID-BYTES s)) (memOf before)
     → memOf after ≡ withDigests (overwrite (memOf middle .digests) 0 (imageDigests ID-BYTES s)) (memOf middle) → Loaded s before after n
@@ -103,7 +111,12 @@ both-loaded s before middle after n i q a b =
     let e : take n (memOf after .nodes) ≡ ns = ap (λ (M : Mem). take n (M .nodes)) m ∙ front (memOf before .nodes) ns n (q ∙ sym (length-from ID-BYTES s 4 (nodeCount s))) in
     let d : take (pageTotal (take n (memOf after .nodes))) (memOf after .digests) ≡ ds =
     ap₂ (λ (u : List Node) (M : Mem). take (pageTotal u) (M .digests)) e m ∙ front (memOf before .digests) ds (pageTotal ns) (sym (i .count) ∙ sym (length-rows 32 (digestCount ID-BYTES s) _)) in
+    let many : n ≡ length ns = q ∙ sym (length-from ID-BYTES s 4 (nodeCount s)) in
+    let more : pageTotal ns ≡ length ds = sym (i .count) ∙ sym (length-rows 32 (digestCount ID-BYTES s) _) in
     record {
+      nodes-behind = ap (λ (M : Mem). drop n (M .nodes)) m ∙ behind (memOf before .nodes) ns n many;
+      digests-behind = λ k p. ap (λ (M : Mem). drop k (M .digests)) m
+          ∙ behind (memOf before .digests) ds k (p ∙ ap pageTotal e ∙ more);
       few = let z = i .form .count in omega arith;
       tables = i .is ∙ ap₂ (λ (u : List Node) (v : List (List ℕ)). some (u, v)) (sym e) (sym d);
       rest = m ∙ ap (λ (M : Mem). withDigests (M .digests) (withNodes (M .nodes) (memOf before))) (sym m);

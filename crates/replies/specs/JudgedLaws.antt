@@ -24,7 +24,7 @@ use Rattle.rules.specs.Pages.{Change}
 use Rattle.rules.specs.Requests.{asked, creating, opening, closing, removing, changing, stating, storing, cutting}
 use Rattle.rules.specs.Rules.{signedOf, isNumber, isDescriptor, statBytes, replyChecks}
 use Rattle.tables.specs.RowsInUse.{node-front}
-use Rattle.replies.specs.Judged.{reasonFor, statusReason, pageReason}
+use Rattle.replies.specs.Judged.{reasonFor, statusReason, isNegative, statusOf, pageReason}
 
 -- a reply of this length is its own part
 pub whole-part : (r : List ℕ) (n : ℕ) → length r ≡ n → part 0 n r ≡ r
@@ -69,24 +69,40 @@ unfolding isNumber
 number-no n (pos m) h = ne-eqb m n (λ e. h (ap pos e))
 number-no n (negsuc m) h = refl
 
-module _ (r : List ℕ) (n : ℕ) where
-  pub status-length : (length r ≡ 4 → ⊥) → statusReason r n ≡ 1
+negative-yes : (n : ℕ) (z : ℤ) → z ≡ negsuc n → isNegative n z ≡ true
+unfolding isNegative
+negative-yes n z e = rw e (eq-eqb n n refl)
+
+negative-no : (n : ℕ) (z : ℤ) → (z ≡ negsuc n → ⊥) → isNegative n z ≡ false
+unfolding isNegative
+negative-no n (pos m) h = refl
+negative-no n (negsuc m) h = ne-eqb m n (λ e. h (ap negsuc e))
+
+module _ (r : List ℕ) where
+  pub status-length : (z : ℤ) → (length r ≡ 4 → ⊥) → statusOf r z ≡ 1
   unfolding statusReason
-  status-length h = check-stops (λ i. i) 1 _ _ _ (ap not (ne-eqb _ _ h))
+  status-length (pos n) h = check-stops (λ i. i) 1 _ _ _ (ap not (ne-eqb _ _ h))
+  status-length (negsuc n) h = check-stops (λ i. i) 1 _ _ _ (ap not (ne-eqb _ _ h))
 
   module _ (s : ℤ) (read : s ≡ signed 4 (decode (part 0 4 r))) (long : length r ≡ 4) where
     status-read : signedOf r ≡ s
     status-read = ap (λ (l : List ℕ). signed 4 (decode l)) (sym (whole-part r 4 long)) ∙ sym read
 
-    status-passed : statusReason r n ≡ decide (λ i. i) ((2, not (isNumber n s)) ∷ []) 0
+    passed : (f : ℤ → Bool) → decide (λ i. i) ((1, not (eqb (length r) 4)) ∷ (2, not (f (signedOf r))) ∷ []) 0
+        ≡ decide (λ i. i) ((2, not (f s)) ∷ []) 0
+    passed f =
+        check-passes (λ i. i) 1 _ _ _ (ap not (eq-eqb _ _ long))
+        ∙ ap (λ (z : ℤ). decide (λ i. i) ((2, not (f z)) ∷ []) 0) status-read
+
+    pub status-other : (z : ℤ) → (s ≡ z → ⊥) → statusOf r z ≡ 2
     unfolding statusReason
-    status-passed = check-passes (λ i. i) 1 _ _ _ (ap not (eq-eqb _ _ long)) ∙ ap (λ (z : ℤ). decide (λ i. i) ((2, not (isNumber n z)) ∷ []) 0) status-read
+    status-other (pos n) h = passed (isNumber n) ∙ check-stops (λ i. i) 2 _ _ _ (ap not (number-no n s h))
+    status-other (negsuc n) h = passed (isNegative n) ∙ check-stops (λ i. i) 2 _ _ _ (ap not (negative-no n s h))
 
-    pub status-other : (s ≡ pos n → ⊥) → statusReason r n ≡ 2
-    status-other h = status-passed ∙ check-stops (λ i. i) 2 _ _ _ (ap not (number-no n s h))
-
-    pub status-same : s ≡ pos n → statusReason r n ≡ 0
-    status-same e = status-passed ∙ check-last (λ i. i) 2 _ _ (ap not (number-yes n s e))
+    pub status-same : (z : ℤ) → s ≡ z → statusOf r z ≡ 0
+    unfolding statusReason
+    status-same (pos n) e = passed (isNumber n) ∙ check-last (λ i. i) 2 _ _ (ap not (number-yes n s e))
+    status-same (negsuc n) e = passed (isNegative n) ∙ check-last (λ i. i) 2 _ _ (ap not (negative-yes n s e))
 
 -- A new id.
 module _ (t : Tables) (r : List ℕ) (p k m : ℕ) (name : List ℕ) where

@@ -2,7 +2,6 @@
 ghost use mathlib.Core.Path.{_≡_};
 ghost use Prim.Native.Nat.{ℕ, _≤_, _<_};
 ghost use mathlib.Core.List.{List, [], _∷_, _++_};
-ghost use lib.IntN.{pos};
 ghost use mathlib.Core.Bool.{true};
 ghost use lib.ListN.{length, getD, take};
 ghost use Rattle.lists.specs.LittleEndian.{encode};
@@ -11,13 +10,13 @@ ghost use Rattle.filesystem.specs.Image.{soundNodes, divide};
 ghost use Rattle.memory.specs.Layout.{memOf, memorySize, openRows};
 ghost use Rattle.tables.specs.View.{tablesIn};
 ghost use Rattle.rules.specs.Requests.{asked, creating, opening, stating, listing};
-ghost use Rattle.replies.specs.Judged.{reasonFor, statusReason, pageReason};
+ghost use Rattle.replies.specs.Judged.{reasonFor, statusOf, pageReason};
 ghost use Rattle.replies.specs.Listing.{entryAt, entryEnd, endWithin, entryPlace};
 use guard_state::Guard;
 
 // A status: 1 of another length, 2 where it is not the expected one (specs/JudgedLaws.antt: of which requests).
 pub fn judge_status(reply: &[u8], expected: i32) -> u8
-    ensures { λ r. ⌜ ((n : ℕ) → expected ≡ pos n → r ≡ statusReason (now (reply .entry)) n) ⌝ }
+    ensures { λ r. ⌜ r ≡ statusOf (now (reply .entry)) expected ⌝ }
 {
     if reply.len() != 4 {
         return 1;

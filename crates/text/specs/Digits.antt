@@ -7,8 +7,8 @@ use Prim.Native.Nat.{ℕ, zero, suc, _+_, _-_, _/_, _%_, _^_, _≤_, _<_}
 use native.Mathlib.Nat.{pow-suc}
 use native.Mathlib.Omega.{arith}
 use lib.Dec.{ltb}
-use lib.ListN.{length, drop, set, length-append}
-use lib.Seq.{drop-length}
+use lib.ListN.{length, take, drop, set, length-append, length-drop}
+use lib.Seq.{drop-length, set-split}
 use borrow.Author.Tests.{lt-ltb, le-ltb, ltb-true, ltb-false}
 use Rattle.lists.specs.Equal.{Is, isT, isF, is}
 use Rattle.text.specs.Ascii.{ascii}
@@ -92,8 +92,12 @@ module _ (n m i : ℕ) (l : List ℕ) (inside : i < length l) (written : decimal
   digit-more h k e =
       written ∙ rw (← e, decimal-more m h, append-assoc (decimalOf (m / 10)) (lastDigit m ∷ []) (drop (suc i) l), front-set l i (lastDigit m) inside)
 
-  pub digit-first : m < 10 → decimalOf n ≡ drop i (set l i (lastDigit m))
-  digit-first h = written ∙ rw (decimal-one m h, front-set l i (lastDigit m) inside)
+  module _ (one : m < 10) where
+    pub digit-first : (l₀ : List ℕ) → take i l ≡ take i l₀ → set l i (lastDigit m) ≡ take i l₀ ++ decimalOf n
+    digit-first l₀ e = set-split l i (lastDigit m) inside ∙ rw (e, written, decimal-one m one)
+
+    pub digits-end : i + length (decimalOf n) ≡ length l
+    digits-end = rw (written, decimal-one m one) (omega (arith, length-drop (suc i) l))
 
 pub decimal-examples : (decimalOf 0 ≡ ascii "0") × (decimalOf 2 ≡ ascii "2") × (decimalOf 10 ≡ ascii "10") × (decimalOf 65535 ≡ ascii "65535")
     × (decimalOf 18446744073709551615 ≡ ascii "18446744073709551615")

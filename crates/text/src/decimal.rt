@@ -1,7 +1,8 @@
 // Decimal numbers.
 ghost use mathlib.Core.Path.{_≡_};
-ghost use Prim.Native.Nat.{_≤_};
-ghost use lib.ListN.{length, drop};
+ghost use mathlib.Core.List.{_++_};
+ghost use Prim.Native.Nat.{_+_, _≤_};
+ghost use lib.ListN.{length, take};
 ghost use Rattle.text.specs.Decimal.{readDecimal};
 ghost use Rattle.text.specs.Digits.{decimalOf};
 
@@ -43,10 +44,11 @@ pub fn read(text: &[u8]) -> Decimal
     Decimal::Value(n)
 }
 
-// Writes the digits of n to the end of `out`, and answers where they begin.
+// Writes the digits of n to the end of `out`, and answers where they begin; what stands before them is kept.
 pub fn write(n: u64, out: &mut [u8]) -> usize
     requires { ⌜ 20 ≤ length (now out) ⌝ }
-    ensures { λ r. ⌜ (r ≤ length (now (out .exit))) × (drop r (now (out .exit)) ≡ decimalOf n) ⌝ }
+    ensures { λ r. ⌜ (r + length (decimalOf n) ≡ length (now (out .entry)))
+        × (now (out .exit) ≡ take r (now (out .entry)) ++ decimalOf n) ⌝ }
 {
     let mut i = out.len() - 1;
     let mut rest = n;

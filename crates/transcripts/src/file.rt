@@ -1,5 +1,7 @@
-// A file of lists replayed: the answers that come are held against those that stand below the events, and counted.
-ghost use Prim.Native.Nat.{_≤_};
+// A file of lists replayed: the answers that come are held against those that stand below the events, and counted. No
+// contract can say what a file holds.
+ghost use mathlib.Core.Path.{_≡_};
+ghost use Prim.Native.Nat.{_+_, _≤_, min};
 ghost use lib.ListN.{length};
 use libc::STDOUT_FILENO;
 
@@ -8,11 +10,17 @@ const LINE: usize = super::ANSWER_LINE;
 
 const TEXT: usize = 262144;
 
+// How many lists there were, how many answers, and how many of these are not the stored ones. No count goes further
+// than it fits.
+pub struct Counts {
+    pub lists: u64,
+    pub answers: u64,
+    pub different: u64,
+}
+
 struct Progress {
     settings: super::Settings,
-    lists: u64,
-    answers: u64,
-    different: u64,
+    counts: Counts,
 }
 
 // How far the lines that were replayed reach.
@@ -31,8 +39,13 @@ fn say(text: &[u8]) {
     io::write_all(STDOUT_FILENO, text);
 }
 
-fn more(n: u64) -> u64 {
-    std::num::wrapping_add_u64(n, 1)
+fn more(n: u64) -> u64
+    ensures { λ r. ⌜ r ≡ min (n + 1) 18446744073709551615 ⌝ }
+{
+    if n == u64::MAX {
+        return n;
+    }
+    n + 1
 }
 
 fn say_difference(line: &[u8], said: &[u8], s: super::Settings) {
@@ -43,20 +56,38 @@ fn say_difference(line: &[u8], said: &[u8], s: super::Settings) {
     say(b"\n");
 }
 
+fn one_answer(c: Counts, is_same: bool) -> Counts
+    requires { ⌜ c .different ≤ c .answers ⌝ }
+    ensures { λ r. ⌜ r .different ≤ r .answers ⌝ }
+{
+    let answers = more(c.answers);
+    if is_same {
+        return Counts {
+            lists: c.lists,
+            answers,
+            different: c.different,
+        };
+    }
+    Counts {
+        lists: c.lists,
+        answers,
+        different: more(c.different),
+    }
+}
+
 // An answer that is stored.
-fn judge(line: &[u8], said: &[u8], p: Progress) -> Progress {
-    let s = p.settings;
-    let mut different = p.different;
-    if !super::is_answer(line, said, s) {
-        say_difference(line, said, s);
-        different = more(different);
+fn judge(line: &[u8], said: &[u8], p: Progress) -> Progress
+    requires { ⌜ p .counts .different ≤ p .counts .answers ⌝ }
+    ensures { λ r. ⌜ r .counts .different ≤ r .counts .answers ⌝ }
+{
+    let settings = p.settings;
+    let before = p.counts;
+    let is_same = super::is_answer(line, said, settings);
+    if !is_same {
+        say_difference(line, said, settings);
     }
-    Progress {
-        settings: s,
-        lists: p.lists,
-        answers: more(p.answers),
-        different,
-    }
+    let counts = one_answer(before, is_same);
+    Progress { settings, counts }
 }
 
 // An answer that is shown: the words behind `p `, and the answer up to its number.
@@ -67,8 +98,24 @@ fn show(line: &[u8], said: &[u8], s: super::Settings) {
     say(b"\n");
 }
 
+// One list more, where a line begins one.
+fn listed(line: &[u8], c: Counts) -> Counts
+    requires { ⌜ c .different ≤ c .answers ⌝ }
+    ensures { λ r. ⌜ r .different ≤ r .answers ⌝ }
+{
+    if text::line::starts(line, b"f ") {
+        return Counts {
+            lists: more(c.lists),
+            answers: c.answers,
+            different: c.different,
+        };
+    }
+    c
+}
+
 fn replay_line(memory: &mut [u8], line: &[u8], said: &mut [u8], p: Progress) -> Progress
-    requires { ⌜ 131072 ≤ length (now said) ⌝ }
+    requires { ⌜ (131072 ≤ length (now said)) × (p .counts .different ≤ p .counts .answers) ⌝ }
+    ensures { λ r. ⌜ r .counts .different ≤ r .counts .answers ⌝ }
 {
     if text::line::starts(line, b"= ") {
         return judge(line, said, p);
@@ -78,22 +125,17 @@ fn replay_line(memory: &mut [u8], line: &[u8], said: &mut [u8], p: Progress) -> 
         show(line, said, s);
         return p;
     }
-    let mut lists = p.lists;
-    if text::line::starts(line, b"f ") {
-        lists = more(lists);
-    }
-    Progress {
-        settings: super::feed(memory, line, said, s),
-        lists,
-        answers: p.answers,
-        different: p.different,
-    }
+    let before = p.counts;
+    let counts = listed(line, before);
+    let settings = super::feed(memory, line, said, s);
+    Progress { settings, counts }
 }
 
 // Every line that ends in the text.
 fn replay_all(memory: &mut [u8], text: &[u8], said: &mut [u8], before: Progress) -> Replayed
-    requires { ⌜ 131072 ≤ length (now said) ⌝ }
-    ensures { λ r. ⌜ r .at ≤ length (now (text .entry)) ⌝ }
+    requires { ⌜ (131072 ≤ length (now said)) × (before .counts .different ≤ before .counts .answers) ⌝ }
+    ensures { λ r. ⌜ (r .at ≤ length (now (text .entry)))
+        × (r .progress .counts .different ≤ r .progress .counts .answers) ⌝ }
 {
     let mut at = 0;
     let mut progress = before;
@@ -110,8 +152,9 @@ fn replay_all(memory: &mut [u8], text: &[u8], said: &mut [u8], before: Progress)
 
 // One read, and the lines that end in it.
 fn turn(fd: i32, memory: &mut [u8], text: &mut [u8], said: &mut [u8], r: Rest) -> Rest
-    requires { ⌜ (r .kept ≤ length (now text)) × (131072 ≤ length (now said)) ⌝ }
-    ensures { λ q. ⌜ q .kept ≤ 131072 ⌝ }
+    requires { ⌜ (r .kept ≤ length (now text)) × (131072 ≤ length (now said))
+        × (r .progress .counts .different ≤ r .progress .counts .answers) ⌝ }
+    ensures { λ q. ⌜ (q .kept ≤ 131072) × (q .progress .counts .different ≤ q .progress .counts .answers) ⌝ }
 {
     let kept = r.kept;
     let p = r.progress;
@@ -134,28 +177,31 @@ fn turn(fd: i32, memory: &mut [u8], text: &mut [u8], said: &mut [u8], r: Rest) -
     }
 }
 
-fn replay(fd: i32) -> Progress {
+fn replay(fd: i32) -> Counts
+    ensures { λ r. ⌜ r .different ≤ r .answers ⌝ }
+{
     let mut memory = [0u8; memory::SIZE];
     let mut text = [0u8; TEXT];
     let mut said = [0u8; super::ANSWER_LINE];
     let settings = super::fresh(&mut memory);
-    let start = Progress {
-        settings,
+    let counts = Counts {
         lists: 0,
         answers: 0,
         different: 0,
     };
+    let progress = Progress { settings, counts };
     let mut rest = Rest {
         kept: 0,
         open: true,
-        progress: start,
+        progress,
     };
     let mut turns = u64::MAX;
     while turns > 0 && rest.open {
         rest = turn(fd, &mut memory, &mut text, &mut said, rest);
         turns -= 1;
     }
-    rest.progress
+    let last = rest.progress;
+    last.counts
 }
 
 fn count(n: u64, of: &[u8]) {
@@ -163,14 +209,17 @@ fn count(n: u64, of: &[u8]) {
     say(of);
 }
 
-// Every list of a file.
-pub fn run(path: &[u8]) {
+// Every list of a file: what was counted, which is said too.
+pub fn run(path: &[u8]) -> Counts
+    ensures { λ r. ⌜ r .different ≤ r .answers ⌝ }
+{
     let fd = os::open_read(path);
-    let p = replay(fd);
+    let c = replay(fd);
     libc::close(fd);
-    count(p.lists, b" lists, ");
-    count(p.answers, b" answers, ");
-    count(p.different, b" different in ");
+    count(c.lists, b" lists, ");
+    count(c.answers, b" answers, ");
+    count(c.different, b" different in ");
     say(path);
     say(b"\n");
+    c
 }

@@ -10,7 +10,8 @@ returns : tie.Need-returns
 returns c =
     let called = c .before .rest-of in
     let a = c .before .before .before .args in
-    ended (a .m .now) (a .n) (called .result) (c .with-length .result) _ (search needs) (called .ensures) (omega arith) (c .with-length .ensures)
+    ended (a .m .now) (a .n) (called .result) (c .with-length .result) _
+    (called .ensures) (omega arith) (c .with-length .ensures)
 
 pub last-blocks-spec : {M : Type 1} → statement M
 last-blocks-spec = tie.close (tie.spec (λ c κs. search needs) (λ c. search needs) (λ c. search needs) (λ c. search needs) (λ c κs. search needs) returns)

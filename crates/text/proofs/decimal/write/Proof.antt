@@ -1,16 +1,22 @@
--- `text::decimal::write` meets its contract. n has the digits of rest, and those that stand behind i.
+-- `text::decimal::write` meets its contract. n has the digits of rest, and those that stand behind i;
+-- what stands before them is as it was.
 -- Assumes nothing.
 use native.Mathlib.Omega.{arith}
-use Prim.Native.Nat.{suc, _+_, _-_, _/_, _≤_, _<_}
-use mathlib.Core.Path.{_≡_, sym}
+use Prim.Native.Nat.{ℕ, suc, _+_, _-_, _/_, _≤_, _<_}
+use mathlib.Core.Path.{_≡_, refl, _∙_}
 use mathlib.Core.List.{_++_}
-use lib.ListN.{length, drop, length-set}
-use Rattle.text.specs.Digits.{decimalOf, length-more, decimal-some, decimal-most, digit-none, digit-more, digit-first}
+use lib.ListN.{length, take, drop, length-set}
+use lib.Seq.{take-set-le}
+use Rattle.text.specs.Digits.{decimalOf, length-more, decimal-some, decimal-most}
+use Rattle.text.specs.Digits.{digit-none, digit-more, digit-first, digits-end}
 use Rattle.text.proofs.decimal.write.Statement.{statement}
 use Rattle.text.proofs.decimal.write.Tie as tie
 
 abbrev Inv-loop : tie.InvT-loop
-Inv-loop n out₀ i₀ rest₀ out i rest = (i < length out) × (length out ≡ length out₀) × (length (decimalOf rest) ≤ i + 1) × (decimalOf n ≡ decimalOf rest ++ drop (suc i) out)
+Inv-loop n out₀ i₀ rest₀ out i rest =
+    (i < length out) × (length out ≡ length out₀) × (length (decimalOf rest) ≤ i + 1)
+    × (decimalOf n ≡ decimalOf rest ++ drop (suc i) out)
+    × ((k : ℕ) → k ≤ suc i → take k out ≡ take k out₀)
 
 abbrev μ-loop : tie.MeasureT-loop
 μ-loop n out₀ i₀ rest₀ out i rest = rest
@@ -18,7 +24,7 @@ abbrev μ-loop : tie.MeasureT-loop
 loop-holds : tie.Need-loop-holds Inv-loop μ-loop
 loop-holds c =
     let m = decimal-most 19 (c .args .n) (omega arith) in
-    (omega arith, omega arith, omega arith, digit-none (c .args .n) (c .args .out .now) (omega arith))
+    (omega arith, omega arith, omega arith, digit-none (c .args .n) (c .args .out .now) (omega arith), λ k h. refl)
 
 -- a number of two digits or more has one more to write
 sub-i : tie.Need-sub-i-2 Inv-loop μ-loop
@@ -39,6 +45,7 @@ loop-again c =
       simp length-set (omega arith),
       omega arith,
       digit-more (c .before .before .args .n) (l .rest) (l .i) (l .out) (l .inv .0) (l .inv .3) t (l .i - 1) (omega arith),
+      λ k p. take-set-le k (l .out) (l .i) _ (omega arith) ∙ l .inv .4 k (omega arith),
     )
 
 same-length : tie.Need-same-length Inv-loop μ-loop
@@ -46,10 +53,11 @@ same-length c = simp length-set (omega arith)
 
 returns : tie.Need-returns Inv-loop μ-loop
 returns c =
-    let l = c .before .loop in (
-      simp length-set (omega arith),
-      sym (digit-first (c .before .before .args .n) (l .rest) (l .i) (l .out) (l .inv .0) (l .inv .3) (omega arith)),
-    )
+    let a = c .before .before .args in
+    let l = c .before .loop in
+    let e = digits-end (a .n) (l .rest) (l .i) (l .out) (l .inv .0) (l .inv .3) (omega arith) in
+    let f = digit-first (a .n) (l .rest) (l .i) (l .out) (l .inv .0) (l .inv .3) (omega arith) in
+    (omega arith, f (a .out .now) (l .inv .4 (l .i) (omega arith)))
 
 pub write-spec : {M : Type 1} → statement M
 write-spec =

@@ -9,13 +9,15 @@ use Rattle.transcripts.proofs.file.replay.Statement.{statement}
 use Rattle.transcripts.proofs.file.replay.Tie as tie
 
 abbrev Inv-loop : tie.InvT-loop
-Inv-loop fd memory₀ text₀ said₀ rest₀ turns₀ memory text said rest turns = (length memory ≡ 52672) × (length text ≡ 262144) × (length said ≡ 131072) × (rest .kept ≤ 131072)
+Inv-loop fd memory₀ text₀ said₀ rest₀ turns₀ memory text said rest turns =
+    (length memory ≡ 52672) × (length text ≡ 262144) × (length said ≡ 131072) × (rest .kept ≤ 131072)
+    × (rest .progress .counts .different ≤ rest .progress .counts .answers)
 
 abbrev μ-loop : tie.MeasureT-loop
 μ-loop fd memory₀ text₀ said₀ rest₀ turns₀ memory text said rest turns = turns
 
 loop-holds : tie.Need-loop-holds Inv-loop μ-loop
-loop-holds c = (search needs, refl, refl, omega arith)
+loop-holds c = (search needs, refl, refl, omega arith, omega arith)
 
 pub replay-spec : {M : Type 1} → statement M
 replay-spec =

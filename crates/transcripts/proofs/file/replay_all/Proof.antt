@@ -9,6 +9,7 @@ use Rattle.transcripts.proofs.file.replay_all.Tie as tie
 abbrev Inv-loop : tie.InvT-loop
 Inv-loop memory₀ text said₀ at₀ progress₀ memory said at progress =
     (at ≤ length text) × (length said ≡ length said₀) × (length memory ≡ length memory₀)
+    × (progress .counts .different ≤ progress .counts .answers)
 
 abbrev μ-loop : tie.MeasureT-loop
 μ-loop memory₀ text said₀ at₀ progress₀ memory said at progress = length text - at

@@ -1,24 +1,25 @@
--- `vectors::monte::joined` meets its contract. The loop counts i up to 32.
+-- `vectors::monte::joined` meets its contract.
 -- Assumes nothing.
-use Prim.Native.Nat.{_≤_, _-_}
-use mathlib.Core.Path.{_≡_}
-use native.Mathlib.Omega.{arith}
+use mathlib.Core.Path.{refl}
+use lib.ListN.{replicate}
 use borrow.Author.Needs.{needs}
-use lib.ListN.{length, length-set}
+use Rattle.vectors.specs.Monte.{filled}
 use Rattle.vectors.proofs.monte.joined.Statement.{statement}
 use Rattle.vectors.proofs.monte.joined.Tie as tie
 
-abbrev Inv-loop : tie.InvT-loop
-Inv-loop a b c m₀ i₀ m i = (i ≤ 32) × (96 ≡ length m)
-
-abbrev μ-loop : tie.MeasureT-loop
-μ-loop a b c m₀ i₀ m i = 32 - i
-
-loop-again : tie.Need-loop-again Inv-loop μ-loop
-loop-again c = (omega arith, simp length-set (c .before .loop .inv .1))
+returns : tie.Need-returns
+returns c =
+    let third = c .before in
+    let second = third .before .before .before .before in
+    let first = second .before .before .before .before in
+    let start = first .before .before .before in
+    let a = start .args in
+    let g = start .good .1 .1 .0 in
+    rw (third .put3 .ensures, second .put2 .ensures, first .put .ensures)
+    (filled (replicate 96 0) (a .t1) (a .t2) (a .t3) refl (search needs) (search needs) (search needs))
 
 pub joined-spec : {M : Type 1} → statement M
 joined-spec =
     tie.close
-    (tie.spec Inv-loop μ-loop (λ c. search needs) (λ c. search needs) (λ c. search needs) (λ c. search needs) (λ c. search needs) (λ c. search needs)
-    (λ c. search needs) (λ c. search needs) (λ c. search needs) (λ c. search needs) (λ c. search needs) loop-again (λ c. search needs))
+    (tie.spec (λ c. search needs) (λ c. search needs) (λ c κs. search needs) (λ c. search needs) (λ c. search needs)
+    (λ c κs. search needs) (λ c. search needs) (λ c. search needs) (λ c κs. search needs) returns)
