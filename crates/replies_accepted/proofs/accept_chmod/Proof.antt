@@ -23,7 +23,7 @@ returns c =
     let a = b .args in (
       λ d w l k q.
           answer-stops d w (stateOf d (a .m .now)) (a .reply .now) _ (chmod-pending d (a .m .now) (b .pre .0)) _ _ q
-          (j .judge-status .ensures 0 refl ∙ sym (changing-reason (stateOf d (a .m .now) .skeleton .tables) (a .reply .now) _ _)) (omega (arith, c .if1 .taken)) refl,
+          (j .judge-status .ensures ∙ sym (changing-reason (stateOf d (a .m .now) .skeleton .tables) (a .reply .now) _ _)) (omega (arith, c .if1 .taken)) refl,
       refl,
     )
 
@@ -49,7 +49,7 @@ returns-2 c =
     let z : g .load .result .mode ≡ n .mode = ap (λ (x : Guard). x .mode) (g .load .ensures) in (
       λ d w l u q.
           answer-finishes d w (stateOf d (a .m .now)) (a .reply .now) _ (chmod-pending d (a .m .now) (b .pre .0)) _ 0 _ q
-          (sym (g .before .before .if1 .left) ∙ j .judge-status .ensures 0 refl ∙ sym (changing-reason (stateOf d (a .m .now) .skeleton .tables) (a .reply .now) _ _)) refl
+          (sym (g .before .before .if1 .left) ∙ j .judge-status .ensures ∙ sym (changing-reason (stateOf d (a .m .now) .skeleton .tables) (a .reply .now) _ _)) refl
           (f .finish .ensures .0 d
           ∙ chmod-ends d (a .m .now) _ (n .node) (n .mode)
           (v .set-mode .ensures .0 ∙ ap₂ (λ (i y : ℕ). withNodes (setMode (memOf (a .m .now) .nodes) i y) (memOf (a .m .now))) k (ap (λ (y : ℕ). y % 256) z ∙ mod-eq-of-lt u)) l),

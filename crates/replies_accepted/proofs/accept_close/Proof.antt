@@ -21,7 +21,7 @@ returns c =
     let j = c .before in
     let b = j .before .before .before in
     let a = b .args in
-    (λ d w l q. answer-stops d w (stateOf d (a .m .now)) (a .reply .now) _ (close-pending d (a .m .now) (b .pre .0)) _ _ q (j .judge-status .ensures 0 refl ∙ sym (closing-reason (stateOf d (a .m .now) .skeleton .tables) (a .reply .now) _)) (omega (arith, c .if1 .taken)) refl, refl)
+    (λ d w l q. answer-stops d w (stateOf d (a .m .now)) (a .reply .now) _ (close-pending d (a .m .now) (b .pre .0)) _ _ q (j .judge-status .ensures ∙ sym (closing-reason (stateOf d (a .m .now) .skeleton .tables) (a .reply .now) _)) (omega (arith, c .if1 .taken)) refl, refl)
 
 returns-2 : tie.Need-returns-2
 returns-2 c =
@@ -56,7 +56,7 @@ returns-3 c =
     let a = b .args in (
       λ d w l q.
           answer-finishes d w (stateOf d (a .m .now)) (a .reply .now) _ (close-pending d (a .m .now) (b .pre .0)) _ 0 _ q
-          (sym (g .before .before .if1 .left) ∙ j .judge-status .ensures 0 refl ∙ sym (closing-reason (stateOf d (a .m .now) .skeleton .tables) (a .reply .now) _)) refl
+          (sym (g .before .before .if1 .left) ∙ j .judge-status .ensures ∙ sym (closing-reason (stateOf d (a .m .now) .skeleton .tables) (a .reply .now) _)) refl
           (r .rest .ensures .0 d ∙ ap (λ (x : View). restingState d x) (v .remove-open .ensures .0 (g .load .result .nodes)) ∙ close-ends d (a .m .now) _ (g .load .ensures)),
       omega arith,
     )

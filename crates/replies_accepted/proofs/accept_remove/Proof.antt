@@ -24,7 +24,7 @@ returns c =
     let a = b .args in (
       λ d w l k q.
           answer-stops d w (stateOf d (a .m .now)) (a .reply .now) _ (remove-pending d (a .m .now) (b .pre .0)) _ _ q
-          (j .judge-status .ensures 0 refl ∙ sym (removing-reason (stateOf d (a .m .now) .skeleton .tables) (a .reply .now) _)) (omega (arith, c .if1 .taken)) refl,
+          (j .judge-status .ensures ∙ sym (removing-reason (stateOf d (a .m .now) .skeleton .tables) (a .reply .now) _)) (omega (arith, c .if1 .taken)) refl,
       refl,
     )
 
@@ -78,7 +78,7 @@ returns-4 c =
     let a = b .args in (
       λ d w l u q.
           answer-deletes d w (stateOf d (a .m .now)) (a .reply .now) _ (remove-pending d (a .m .now) (b .pre .0)) _ _ q
-          (sym (g .before .before .if1 .left) ∙ j .judge-status .ensures 0 refl ∙ sym (removing-reason (stateOf d (a .m .now) .skeleton .tables) (a .reply .now) _)) refl
+          (sym (g .before .before .if1 .left) ∙ j .judge-status .ensures ∙ sym (removing-reason (stateOf d (a .m .now) .skeleton .tables) (a .reply .now) _)) refl
           (r .rest .ensures .0 d ∙ ap (λ (x : View). restingState d x) (v .remove-node .ensures .0 (g .load .result .opens)) ∙ remove-ends d (a .m .now) _ (g .load .ensures)),
       omega arith,
     )

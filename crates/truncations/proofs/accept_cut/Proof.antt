@@ -16,7 +16,7 @@ returns c =
     let b = j .before .before .before in
     let a = b .args in (
       λ d w h q. answer-stops d w (stateOf d (a .m .now)) (a .reply .now) _ (cut-waits d (a .m .now) (b .pre .0)) _ _ q
-          (j .judge-status .ensures 0 refl ∙ sym (cutting-reason (stateOf d (a .m .now) .skeleton .tables) (a .reply .now) _ _ _)) (omega (arith, c .if1 .taken)) refl,
+          (j .judge-status .ensures ∙ sym (cutting-reason (stateOf d (a .m .now) .skeleton .tables) (a .reply .now) _ _ _)) (omega (arith, c .if1 .taken)) refl,
       refl,
     )
 
@@ -42,7 +42,7 @@ returns-2 c =
     let j = i .before in
     let b = j .before .before .before in
     let a = b .args in (
-      λ d w h q. cut-done d (a .m .now) h (b .pre .0) _ (l .load .ensures) w (a .reply .now) _ _ q q (sym (i .if1 .left) ∙ j .judge-status .ensures 0 refl)
+      λ d w h q. cut-done d (a .m .now) h (b .pre .0) _ (l .load .ensures) w (a .reply .now) _ _ q q (sym (i .if1 .left) ∙ j .judge-status .ensures)
           (f .end-change .ensures .0 d _ (cut-ended d (a .m .now) h (b .pre .0) _ (l .load .ensures) _ _ (o .open-cursor .ensures) (x .smaller .ensures)) q),
       omega arith,
     )

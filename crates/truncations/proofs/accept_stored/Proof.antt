@@ -16,7 +16,7 @@ returns c =
     let b = j .before .before .before .before in
     let a = b .args in (
       λ d w h. answer-stops d w (stateOf d (a .m .now)) (a .reply .now) _ (store-waits d (a .m .now) (b .pre .0)) _ _ (a .request .now)
-          (j .judge-status .ensures PAGE-BYTES refl ∙ sym (storing-reason (stateOf d (a .m .now) .skeleton .tables) (a .reply .now) _ _ _ _)) (omega (arith, c .if1 .taken)) refl,
+          (j .judge-status .ensures ∙ sym (storing-reason (stateOf d (a .m .now) .skeleton .tables) (a .reply .now) _ _ _ _)) (omega (arith, c .if1 .taken)) refl,
       refl,
     )
 
@@ -32,7 +32,7 @@ returns-2 c =
     let j = i .before in
     let b = j .before .before .before .before in
     let a = b .args in (
-      λ d w h. stored-cuts d (a .m .now) h (b .pre .0) w (a .reply .now) _ _ (a .request .now) _ (sym (i .if1 .left) ∙ j .judge-status .ensures PAGE-BYTES refl)
+      λ d w h. stored-cuts d (a .m .now) h (b .pre .0) w (a .reply .now) _ _ (a .request .now) _ (sym (i .if1 .left) ∙ j .judge-status .ensures)
           (k .ask-cut .ensures .0 d (stored-within d (a .m .now) h (b .pre .0))),
       omega arith,
     )

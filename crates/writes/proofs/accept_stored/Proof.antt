@@ -17,7 +17,7 @@ returns c =
     let b = j .before .before .before .before in
     let a = b .args in (
       λ d u w h. answer-stops d w (stateOf d (a .m .now)) (a .reply .now) _ (store-waits d (a .m .now) (b .pre .0)) _ _ (a .request .now)
-          (j .judge-status .ensures PAGE-BYTES refl ∙ sym (storing-reason (stateOf d (a .m .now) .skeleton .tables) (a .reply .now) _ _ _ _))
+          (j .judge-status .ensures ∙ sym (storing-reason (stateOf d (a .m .now) .skeleton .tables) (a .reply .now) _ _ _ _))
           (omega (arith, c .if1 .taken)) refl,
       refl,
     )
@@ -46,7 +46,7 @@ returns-3 c =
     let b = j .before .before .before .before in
     let a = b .args in (
       λ d u w h. stored-next d (a .m .now) h _ (l .load .ensures) (b .pre .0) _ refl w (a .reply .now) _ _ (a .request .now) _
-          (sym (i .if1 .left) ∙ j .judge-status .ensures PAGE-BYTES refl)
+          (sym (i .if1 .left) ∙ j .judge-status .ensures)
           (k .carry-on .ensures .0 d u (next-sending d (a .m .now) h _ (l .load .ensures) (b .pre .0) _ refl)),
       omega arith,
     )
