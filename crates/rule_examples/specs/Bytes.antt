@@ -1,10 +1,12 @@
 -- Bytes, put together from SPECIFICATION alone and by none of the definitions that the rows are to pin; pages; a digest that costs little.
+-- The width of ids is the one that is delivered: the rows' own bytes have four.
 use mathlib.Core.List.{List, [], _∷_, _++_}
 use Prim.Native.Nat.{ℕ, zero, suc, _+_, _-_, _/_, _%_}
 use Prim.Native.Char.{code}
 use Prim.Native.String as S
 use Prim.Native.String.{String}
 use lib.ListN.{length, take, drop, replicate}
+use Rattle.filesystem.specs.Tables.{ID-BYTES}
 use Rattle.rules.specs.Skeleton.{Config}
 
 -- bytes: of a text, of a number in 4 and in 8 bytes, the same byte n times
@@ -59,4 +61,4 @@ digest (a ∷ []) = ends a 0 a 1 []
 digest (a ∷ b ∷ s) = ends a b b 2 s
 
 abbrev pub config : Config
-config = record { digest = digest; width = 4 }
+config = record { digest = digest; width = ID-BYTES }

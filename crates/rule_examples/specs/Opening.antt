@@ -42,6 +42,12 @@ rows =
     -- the open file has its rights, the descriptor of the reply, cursor 0 (SPECIFICATION 9.6); done with the id
     ∷ row "open is done" w
     (openFor 2 "/b" ⇒ asks (3 ∷ 2 ∷ bytesOf "/b") then holds items opens then gives 900 ⇒ isDone 5 nothing then holds items (opens ++ (opened 5 900 2 0 ∷ [])) then end)
+    ∷ row "open for reading" (moded 7)
+    (sendsItself (openFor 1 "/a") then gives 0 ⇒ isDone 2 nothing
+    then holds (root ∷ file 2 1 7 "a" nothing ∷ []) (opened 2 0 1 0 ∷ []) then end)
+    ∷ row "open for writing" (moded 7)
+    (sendsItself (openFor 2 "/a") then gives 0 ⇒ isDone 2 nothing
+    then holds (root ∷ file 2 1 7 "a" nothing ∷ []) (opened 2 0 2 0 ∷ []) then end)
     ∷ row "open for both" (moded 7) (sendsItself (openFor 3 "/a") then gives 0 ⇒ isDone 2 nothing then holds (root ∷ file 2 1 7 "a" nothing ∷ []) (opened 2 0 3 0 ∷ []) then end)
     -- a file that was closed may be opened again
     ∷ row "open, close, open" (moded 7)
