@@ -42,6 +42,16 @@ name n = times n "n"
 abbrev pub under : String → ℕ → String
 under p n = S._++_ p (S._++_ "/" (name n))
 
+-- a name of the bytes 128 and 255 (a character is the byte of its code), the same with 127 for 255, and such a name behind `/`
+abbrev pub high : String
+high = "\u{80}ÿ"
+
+abbrev pub lowered : String
+lowered = "\u{80}\u{7f}"
+
+abbrev pub slashed : String → String
+slashed s = S._++_ "/" s
+
 -- the pages of a file of this size, zero past the bytes
 unfoldable pub pagesOf : ℕ → List ℕ → List (List ℕ)
 pagesOf zero b = []

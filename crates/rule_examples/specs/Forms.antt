@@ -2,7 +2,7 @@
 use mathlib.Core.Path.{_≡_, refl}
 use mathlib.Core.List.{List, [], _∷_, _++_}
 use Prim.Native.String.{String}
-use Rattle.rule_examples.specs.Bytes.{bytesOf, four, eight, many, nothing, times, under}
+use Rattle.rule_examples.specs.Bytes.{bytesOf, four, eight, many, nothing, times, under, high, slashed}
 use Rattle.rule_examples.specs.Given.{folder, file, root, opened, Given, given}
 use Rattle.rule_examples.specs.Events.{callOf, create, mkdir, openFor, read, write, remove, rmdir, chmod, readdir, stat}
 use Rattle.rule_examples.specs.Rows.{isRefused, fetches, Row, one, passes}
@@ -99,8 +99,9 @@ rows =
     ∷ one "path /../a" fresh (stat "/../a") (isRefused 22)
     ∷ one "path /a./b" fresh (stat "/a./b") (isRefused 2)
     ∷ one "path /..a" fresh (stat "/..a") (isRefused 2)
-    ∷ one "path with the bytes 128 and 255" fresh (stat "/\u{80}\u{ff}") (isRefused 2)
-    ∷ passes "create, path with the bytes 174, 175 and 255" fresh (create 7 "/\u{ae}\u{af}\u{ff}")
+    ∷ one "path with the bytes 128 and 255" fresh (stat (slashed high)) (isRefused 2)
+    ∷ passes "create, path with the bytes 128 and 255" fresh (create 7 (slashed high))
+    ∷ passes "create, path with the bytes 174 and 175, which are . and / and 128 more" fresh (create 7 "/®¯")
     ∷ one "path /..." fresh (stat "/...") (isRefused 2)
     ∷ one "path /.a" fresh (stat "/.a") (isRefused 2)
     -- 36 of a component over 32 (SPECIFICATION 3.3)

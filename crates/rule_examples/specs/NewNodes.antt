@@ -2,7 +2,7 @@
 use mathlib.Core.Path.{_≡_, refl}
 use mathlib.Core.List.{List, [], _∷_, _++_}
 use Prim.Native.Nat.{ℕ}
-use Rattle.rule_examples.specs.Bytes.{bytesOf, nothing}
+use Rattle.rule_examples.specs.Bytes.{bytesOf, nothing, high, slashed}
 use Rattle.rule_examples.specs.Given.{Item, folder, file, rootOf, root, Given, given}
 use Rattle.rule_examples.specs.Events.{create, mkdir, gives}
 use Rattle.rule_examples.specs.Rows.{isDone, isRefused, asks, _⇒_, holds, _then_, end, sendsItself, Row, row, one, passes}
@@ -52,8 +52,8 @@ rows =
     (sendsItself (mkdir 5 "/d/e/g/n") then gives 9 ⇒ isDone 9 nothing
     then holds (deep 7 ++ (folder 9 4 5 "n" ∷ [])) [] then end)
     ∷ row "create, bytes over 127 in the name" (given (root ∷ []) [])
-    (sendsItself (create 7 "/\u{80}\u{ff}") then gives 2 ⇒ isDone 2 nothing
-    then holds (root ∷ file 2 1 7 "\u{80}\u{ff}" nothing ∷ []) [] then create 7 "/\u{80}\u{ff}" ⇒ isRefused 17 then end)
+    (sendsItself (create 7 (slashed high)) then gives 2 ⇒ isDone 2 nothing
+    then holds (root ∷ file 2 1 7 high nothing ∷ []) [] then create 7 (slashed high) ⇒ isRefused 17 then end)
     -- the tables change when the reply is accepted (SPECIFICATION 5.9)
     ∷ row "create that waits" w (sendsItself (create 7 "/b") then holds items [] then end)
     -- the root has id 1

@@ -5,7 +5,7 @@ use Prim.Native.Nat.{ℕ}
 use Prim.Native.String.{String}
 use lib.ListN.{replicate}
 use mathlib.Core.Option.{none}
-use Rattle.rule_examples.specs.Bytes.{bytesOf, four, many, nothing, name}
+use Rattle.rule_examples.specs.Bytes.{bytesOf, four, many, nothing, name, high, lowered}
 use Rattle.rule_examples.specs.Given.{Item, folder, file, sized, rootOf, root, Given, given, imageWith, section, recordOf, node}
 use Rattle.rule_examples.specs.Events.{loads}
 use Rattle.rule_examples.specs.Rows.{isDone, isRefused, Row, one}
@@ -71,7 +71,7 @@ rows =
     -- children of one directory have different names
     ∷ unsound "two siblings of one name" (image (root ∷ file 2 1 7 "a" nothing ∷ folder 3 1 7 "a" ∷ []) 0)
     ∷ sound "a name and its beginning" (image (root ∷ file 2 1 7 "abc" nothing ∷ file 3 1 7 "ab" nothing ∷ []) 0)
-    ∷ sound "names that differ in one bit" (image (root ∷ file 2 1 7 "\u{ff}" nothing ∷ file 3 1 7 "\u{7f}" nothing ∷ []) 0)
+    ∷ sound "names that differ in one bit" (image (root ∷ file 2 1 7 high nothing ∷ file 3 1 7 lowered nothing ∷ []) 0)
     ∷ sound "one name in two folders" (image (root ∷ file 2 1 7 "a" nothing ∷ folder 3 1 7 "d" ∷ file 4 3 7 "a" nothing ∷ []) 0)
     -- kind, mode, size
     ∷ unsound "kind 0" (image (root ∷ free 2 1 0 7 0 (bytesOf "a") ∷ []) 0)
@@ -94,7 +94,7 @@ rows =
     ∷ sound "the name ..." (image (root ∷ file 2 1 7 "..." nothing ∷ []) 0)
     ∷ unsound "a name with /" (image (root ∷ file 2 1 7 "a/b" nothing ∷ []) 0)
     ∷ unsound "a name with a byte 0" (image (root ∷ file 2 1 7 "a\0" nothing ∷ []) 0)
-    ∷ sound "a name with bytes over 127" (image (root ∷ file 2 1 7 "\u{80}\u{af}\u{ff}" nothing ∷ []) 0)
+    ∷ sound "a name with bytes over 127" (image (root ∷ file 2 1 7 high nothing ∷ []) 0)
     ∷ sound "a name of 32" (image (root ∷ file 2 1 7 (name 32) nothing ∷ []) 0)
     ∷ unsound "a name of 33" (image (root ∷ file 2 1 7 (name 33) nothing ∷ []) 0)
     -- full paths

@@ -1,7 +1,7 @@
 -- The walk along a path: 20, 13, 2 at each component (SPECIFICATION 7.6).
 use mathlib.Core.Path.{_≡_, refl}
 use mathlib.Core.List.{List, [], _∷_}
-use Rattle.rule_examples.specs.Bytes.{nothing}
+use Rattle.rule_examples.specs.Bytes.{nothing, high, lowered, slashed}
 use Rattle.rule_examples.specs.Given.{Item, folder, file, rootOf, root, Given, given}
 use Rattle.rule_examples.specs.Events.{create, mkdir, openFor, remove, rmdir, chmod, readdir, stat}
 use Rattle.rule_examples.specs.Rows.{isRefused, Row, one, passes}
@@ -13,7 +13,7 @@ abbrev items : List Item
 items =
     root ∷ file 2 1 7 "a" nothing ∷ file 3 1 6 "n" nothing ∷ folder 4 1 7 "d" ∷ file 5 4 7 "b" nothing
     ∷ folder 6 1 6 "x" ∷ file 7 6 7 "f" nothing ∷ folder 8 1 1 "y" ∷ file 9 8 7 "f" nothing
-    ∷ file 10 1 7 "abc" nothing ∷ folder 11 6 7 "g" ∷ file 12 1 7 "\u{80}\u{ff}" nothing ∷ []
+    ∷ file 10 1 7 "abc" nothing ∷ folder 11 6 7 "g" ∷ file 12 1 7 high nothing ∷ []
 
 abbrev w : Given
 w = given items []
@@ -64,8 +64,8 @@ rows =
     ∷ passes "the whole name" w (stat "/abc")
     ∷ passes "create: the beginning of a name" w (create 7 "/ab")
     ∷ passes "mkdir: one letter more" w (mkdir 7 "/abcd")
-    ∷ passes "a name with bytes over 127" w (stat "/\u{80}\u{ff}")
-    ∷ one "2: bytes over 127 that differ in one bit" w (stat "/\u{80}\u{7f}") (isRefused 2)
+    ∷ passes "a name with bytes over 127" w (stat (slashed high))
+    ∷ one "2: bytes over 127 that differ in one bit" w (stat (slashed lowered)) (isRefused 2)
     ∷ one "2: absent in the middle" w (stat "/none/b") (isRefused 2)
     -- each component, from the left
     ∷ one "13 at the first component" w (stat "/x/f/c") (isRefused 13)
