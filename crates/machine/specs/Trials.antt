@@ -13,7 +13,8 @@ use Rattle.lists.specs.Signed.{signed}
 use Rattle.lists.specs.LittleEndian.{encode, decode}
 use Rattle.lists.specs.Form.{bind, front, get₂, get-as, get-all, ended, whole}
 use Rattle.lists.specs.Checks.{decide}
-use Rattle.filesystem.specs.Tables.{ID-BYTES, pagesFor, pageTotal, nodeAt, openAt, findId, findChild, children, findHandle, findDescriptor, setMode, setSize, setCursor}
+use Rattle.filesystem.specs.Tables.{ID-BYTES}
+use Rattle.filesystem.specs.Tables.{pagesFor, pageTotal, nodeAt, openAt, findId, findChild, children, findHandle, findDescriptor, setMode, setSize, setCursor}
 use Rattle.filesystem.specs.Rights.{coverTable, covers}
 use Rattle.filesystem.specs.Paths.{joined, pathBytes, componentForm, onto, split, afterSlash, readPath, tooLong, childAt, walk, walkChecks, parentChecks, parentOf, lastOf}
 use Rattle.rules.specs.Calls.{callBytes, byPath, byNumberAndPath, byHandle, byHandleAndNumber, byHandleAndBytes, readFields, readCall}

@@ -7,7 +7,8 @@ use Rattle.rules.specs.Skeleton.{save, done, ask, refused, stopped, answerBytes
 use Rattle.rule_examples.specs.Bytes.{nothing}
 use Rattle.rule_examples.specs.Given.{file, root, opened, Given, given, imageOf}
 use Rattle.rule_examples.specs.Events.{lent, create, seek, gives}
-use Rattle.rule_examples.specs.Rows.{isDone, isSaved, isRefused, _⇒_, _then_, end, sendsItself, Row, row, one, passes}
+use Rattle.rule_examples.specs.Rows.{isDone, isSaved, isRefused, _⇒_, _then_, end}
+use Rattle.rule_examples.specs.Rows.{sendsItself, Row, row, one, passes}
 use Rattle.rule_examples.specs.Evaluation.{wrong}
 
 abbrev quiet : Given
@@ -39,10 +40,13 @@ unfolding wrong
 rows-hold = refl
 
 -- The buffers afterwards: the front of one is written, nothing behind it and nothing in the other.
-abbrev before : Buffers
-before = record { answer = 201 ∷ 202 ∷ 203 ∷ 204 ∷ []; request = 211 ∷ 212 ∷ 213 ∷ [] }
+abbrev lentWith : (answer request : List ℕ) → Buffers
+lentWith a q = record { answer = a; request = q }
 
-pub after-done : buffersAfter (done 7 (1 ∷ 2 ∷ [])) before ≡ record { answer = 1 ∷ 2 ∷ 203 ∷ 204 ∷ []; request = 211 ∷ 212 ∷ 213 ∷ [] }
+abbrev before : Buffers
+before = lentWith (201 ∷ 202 ∷ 203 ∷ 204 ∷ []) (211 ∷ 212 ∷ 213 ∷ [])
+
+pub after-done : buffersAfter (done 7 (1 ∷ 2 ∷ [])) before ≡ lentWith (1 ∷ 2 ∷ 203 ∷ 204 ∷ []) (211 ∷ 212 ∷ 213 ∷ [])
 unfolding buffersAfter overwrite
 after-done = refl
 
@@ -50,13 +54,13 @@ pub after-done-without-bytes : buffersAfter (done 300 nothing) before ≡ before
 unfolding buffersAfter overwrite
 after-done-without-bytes = refl
 
-pub after-ask : buffersAfter (ask (1 ∷ 2 ∷ [])) before ≡ record { answer = 201 ∷ 202 ∷ 203 ∷ 204 ∷ []; request = 1 ∷ 2 ∷ 213 ∷ [] }
+pub after-ask : buffersAfter (ask (1 ∷ 2 ∷ [])) before ≡ lentWith (201 ∷ 202 ∷ 203 ∷ 204 ∷ []) (1 ∷ 2 ∷ 213 ∷ [])
 unfolding buffersAfter overwrite
 after-ask = refl
 
-pub after-ask-in-full : buffersAfter (ask (1 ∷ 2 ∷ 3 ∷ [])) before ≡ record { answer = 201 ∷ 202 ∷ 203 ∷ 204 ∷ []; request = 1 ∷ 2 ∷ 3 ∷ [] }
+pub after-full-ask : buffersAfter (ask (1 ∷ 2 ∷ 3 ∷ [])) before ≡ lentWith (201 ∷ 202 ∷ 203 ∷ 204 ∷ []) (1 ∷ 2 ∷ 3 ∷ [])
 unfolding buffersAfter overwrite
-after-ask-in-full = refl
+after-full-ask = refl
 
 pub after-refused : buffersAfter (refused 22) before ≡ before
 unfolding buffersAfter

@@ -42,7 +42,7 @@ name n = times n "n"
 abbrev pub under : String → ℕ → String
 under p n = S._++_ p (S._++_ "/" (name n))
 
--- a name of the bytes 128 and 255 (a character is the byte of its code), the same with 127 for 255, and such a name behind `/`
+-- a name of the bytes 128 and 255 (a character is the byte of its code); the same with 127 for 255; a name behind `/`
 abbrev pub high : String
 high = "\u{80}ÿ"
 

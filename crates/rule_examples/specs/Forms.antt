@@ -133,7 +133,7 @@ rows =
     ∷ one "36 before 13: create" barred (create 7 (under "/x" 33)) (isRefused 36)
     ∷ one "36 before 2: create" barred (create 7 (under (under "" 33) 1)) (isRefused 36)
     ∷ one "36 before 2: mkdir" barred (mkdir 7 (under (under "" 33) 1)) (isRefused 36)
-    -- and before create's and mkdir's own 13 (parent bit 2); a path that is too long is never there, so no other number of theirs can hold
+    -- and before 13 (parent bit 2); 28 stands in `Limits`; a path that is too long is never there, so 17 cannot hold
     ∷ one "36 before 13: create without the parent's bit 2" barred (create 7 (under "/r" 33)) (isRefused 36)
     ∷ one "36 before 13: mkdir without the parent's bit 2" barred (mkdir 7 (under "/r" 33)) (isRefused 36)
     ∷ []

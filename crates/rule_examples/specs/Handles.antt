@@ -28,6 +28,8 @@ rows =
     ∷ one "9: write, not open" w (write 5 (1 ∷ [])) (isRefused 9)
     ∷ one "9: truncate, not open" w (truncate 5 0) (isRefused 9)
     ∷ one "9: close by the descriptor" w (close 10) (isRefused 9)
+    ∷ one "9: handle 0" w (close 0) (isRefused 9)
+    ∷ one "9: the root's id" w (seek 1 0) (isRefused 9)
     -- a read needs the right 1 (SPECIFICATION 4.9)
     ∷ one "9: read without right 1" w (read 3 1) (isRefused 9)
     ∷ one "9: read of no bytes without right 1" w (read 3 0) (isRefused 9)

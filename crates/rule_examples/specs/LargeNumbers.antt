@@ -7,8 +7,10 @@ use Rattle.filesystem.specs.Tables.{OpenFile}
 use Rattle.rules.specs.Skeleton.{save}
 use Rattle.rule_examples.specs.Bytes.{many, nothing, digest, padded}
 use Rattle.rule_examples.specs.Given.{Item, folder, file, sized, root, opened, Given, given, concatenated}
-use Rattle.rule_examples.specs.Events.{replies, create, mkdir, openFor, close, seek, read, write, truncate, remove, rmdir, chmod, readdir, stat, says, gives, entry, statOf, loads}
-use Rattle.rule_examples.specs.Rows.{isDone, isSaved, isRefused, isStopped, asks, begins, _⇒_, holds, _then_, end, sendsItself, Row, row, one, passes}
+use Rattle.rule_examples.specs.Events.{create, mkdir, openFor, close, seek, read, write, truncate, remove}
+use Rattle.rule_examples.specs.Events.{rmdir, chmod, readdir, stat, replies, says, gives, entry, statOf, loads}
+use Rattle.rule_examples.specs.Rows.{isDone, isSaved, isRefused, isStopped, asks, begins, _⇒_, holds}
+use Rattle.rule_examples.specs.Rows.{_then_, end, sendsItself, Row, row, one, passes}
 use Rattle.rule_examples.specs.Evaluation.{guardSide, wrong, wrongOn}
 
 -- the ids of `/d` and `/d/a`: as bytes 3, 2, 1, 0 and 4, 3, 2, 1
@@ -72,7 +74,8 @@ rows =
     ∷ one "22: seek to 65,537" w (seek a 65537) (isRefused 22)
     ∷ one "22: seek to 2^24" w (seek a 16777216) (isRefused 22)
     ∷ one "22: truncate to 65,537" w (truncate a 65537) (isRefused 22)
-    ∷ row "truncate to 65,536 and the same size" w (truncate a 65536 ⇒ isDone 0 nothing then holds (items 65536) (opens 40000) then end)
+    ∷ row "truncate to 65,536, the same size" w
+    (truncate a 65536 ⇒ isDone 0 nothing then holds (items 65536) (opens 40000) then end)
     -- handles: all four bytes
     ∷ one "9: the low byte of a handle" w (close 4) (isRefused 9)
     ∷ one "9: two bytes of a handle" w (seek 772 0) (isRefused 9)
@@ -92,9 +95,11 @@ rows =
     ∷ row "the low bytes of another's id" w (sendsItself (mkdir 7 "/n") then gives 515 ⇒ isDone 515 nothing then end)
     ∷ row "open" (given (items 65536) [])
     (sendsItself (openFor 3 "/d/a") then gives 513 ⇒ isDone a nothing then holds (items 65536) (opens 0) then end)
-    ∷ row "stop 4: a descriptor that an open file has" w (sendsItself (openFor 1 "/d/b") then gives 513 ⇒ isStopped 4 then end)
+    ∷ row "stop 4: a descriptor that an open file has" w
+    (sendsItself (openFor 1 "/d/b") then gives 513 ⇒ isStopped 4 then end)
     ∷ row "the low byte of another's descriptor" w
-    (sendsItself (openFor 1 "/d/b") then gives 1 ⇒ isDone 9 nothing then holds (items 65536) (opens 40000 ++ (opened 9 1 1 0 ∷ [])) then end)
+    (sendsItself (openFor 1 "/d/b") then gives 1 ⇒ isDone 9 nothing
+    then holds (items 65536) (opens 40000 ++ (opened 9 1 1 0 ∷ [])) then end)
     ∷ one "16: open" w (openFor 1 "/d/a") (isRefused 16)
     ∷ one "16: remove" w (remove "/d/a") (isRefused 16)
     ∷ row "remove" w
@@ -114,8 +119,10 @@ rows =
     ∷ row "stat" w
     (sendsItself (stat "/d/a") then replies (4 ∷ 3 ∷ 2 ∷ 1 ∷ 1 ∷ 7 ∷ 0 ∷ 0 ∷ 1 ∷ 0 ∷ [])
     ⇒ isDone 65536 (4 ∷ 3 ∷ 2 ∷ 1 ∷ 1 ∷ 7 ∷ 0 ∷ 0 ∷ 1 ∷ 0 ∷ []) then end)
-    ∷ row "stop 6: the low bytes of an id" w (sendsItself (stat "/d/a") then replies (statOf 131844 1 7 65536) ⇒ isStopped 6 then end)
-    ∷ row "stop 6: the low bytes of a size" w (sendsItself (stat "/d/a") then replies (statOf a 1 7 0) ⇒ isStopped 6 then end)
+    ∷ row "stop 6: the low bytes of an id" w
+    (sendsItself (stat "/d/a") then replies (statOf 131844 1 7 65536) ⇒ isStopped 6 then end)
+    ∷ row "stop 6: the low bytes of a size" w
+    (sendsItself (stat "/d/a") then replies (statOf a 1 7 0) ⇒ isStopped 6 then end)
     -- parents: a child is its own parent's
     ∷ one "2: a child of the low bytes of an id" low (stat "/d/x") (isRefused 2)
     ∷ passes "no 2: of the whole id" low (stat "/f/x")
@@ -123,7 +130,8 @@ rows =
     ∷ passes "no 39: no child of this id" low (rmdir "/d")
     ∷ passes "no 39: no child of the low byte" low (rmdir "/e")
     ∷ one "39: a child of this id" low (rmdir "/f") (isRefused 39)
-    ∷ row "readdir: no child of this id" low (sendsItself (readdir "/e") then replies nothing ⇒ isDone 0 nothing then end)
+    ∷ row "readdir: no child of this id" low
+    (sendsItself (readdir "/e") then replies nothing ⇒ isDone 0 nothing then end)
     -- an image: the bytes of each field
     ∷ row "save" (given (root ∷ folder d 1 5 "d" ∷ file a d 6 "a" nothing ∷ []) [])
     (save 44776 ⇒ isSaved image then loads image ⇒ isDone 0 nothing

@@ -2,7 +2,8 @@
 use mathlib.Core.Path.{_≡_, refl}
 use mathlib.Core.List.{List, [], _∷_, _++_}
 use Prim.Native.Nat.{ℕ}
-use Rattle.rule_examples.specs.Bytes.{many, nothing}
+use Rattle.machine.specs.Tree.{tree}
+use Rattle.rule_examples.specs.Bytes.{many, nothing, config}
 use Rattle.rule_examples.specs.Given.{Item, file, sparse, root, opened, Given, given}
 use Rattle.rule_examples.specs.Events.{replies, read, givesPage}
 use Rattle.rule_examples.specs.Rows.{isDone, isStopped, fetches, _⇒_, holds, Line, _then_, end, Row, row, one}
@@ -49,8 +50,6 @@ rows =
     -- stop 5, for each page of a read, zeros past the end among it (SPECIFICATION 2.4); the tables are those of before the call
     ∷ row "stop 5: the second page of a read, past the file's end" (reader long 1023)
     (read 2 2 ⇒ fetches 5 0 then givesPage (1 ∷ 2 ∷ 3 ∷ []) ⇒ fetches 5 1 then replies (many 1023 0 ++ (1 ∷ [])) ⇒ isStopped 5 then left long 1023 then end)
-    ∷ row "stop 5: the first page of a read" (reader long 0)
-    (read 2 1025 ⇒ fetches 5 0 then givesPage (2 ∷ []) ⇒ isStopped 5 then left long 0 then end)
     -- stop 1, before 5
     ∷ row "stop 1: a page of 1,023 bytes" (reader three 0) (read 2 1 ⇒ fetches 5 0 then replies (1 ∷ 2 ∷ 3 ∷ many 1020 0) ⇒ isStopped 1 then end)
     ∷ row "stop 1: a page of 1,025 bytes" (reader three 0) (read 2 1 ⇒ fetches 5 0 then replies (1 ∷ 2 ∷ 3 ∷ many 1022 0) ⇒ isStopped 1 then end)
@@ -61,13 +60,20 @@ rows =
 abbrev pub guardRows : List Row
 guardRows =
     row "a read over a page's edge" (reader twoPages 1022)
-    (read 2 4096 ⇒ fetches 5 0 then replies page₀ ⇒ fetches 5 1 then givesPage (3 ∷ 4 ∷ []) ⇒ isDone 4 (1 ∷ 2 ∷ 3 ∷ 4 ∷ [])
-    then left twoPages 1026 then end)
+    (read 2 4096 ⇒ fetches 5 0 then replies page₀ ⇒ fetches 5 1
+    then givesPage (3 ∷ 4 ∷ []) ⇒ isDone 4 (1 ∷ 2 ∷ 3 ∷ 4 ∷ []) then left twoPages 1026 then end)
+    ∷ row "stop 5: the first page of a read" (reader twoPages 0)
+    (read 2 1025 ⇒ fetches 5 0 then givesPage (2 ∷ []) ⇒ isStopped 5 then left twoPages 0 then end)
     ∷ row "stop 5: the first page for the second" (reader twoPages 1023)
     (read 2 2 ⇒ fetches 5 0 then replies page₀ ⇒ fetches 5 1 then replies page₀ ⇒ isStopped 5 then end)
     ∷ row "stop 5: the first page for the last" (reader twoPages 1025)
     (read 2 1 ⇒ fetches 5 1 then replies page₀ ⇒ isStopped 5 then left twoPages 1025 then end)
     ∷ []
+
+-- and the bytes that the tree gives over a page's edge
+pub tree-reads : tree config .gathered (page₀ ++ (3 ∷ 4 ∷ [])) 1022 4 tt ≡ 1 ∷ 2 ∷ 3 ∷ 4 ∷ []
+unfolding wrong
+tree-reads = refl
 
 pub rows-hold : wrong rows ≡ []
 unfolding wrong

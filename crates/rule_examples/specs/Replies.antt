@@ -71,7 +71,8 @@ rows =
     ∷ answered "stop 4: descriptor 65,537" (openFor 1 "/c") (gives 65537) (isStopped 4)
     ∷ answered "stop 4: another file's descriptor" (openFor 1 "/c") (gives 8) (isStopped 4)
     ∷ answered "a descriptor beside another file's" (openFor 1 "/c") (gives 9) (isDone 6 nothing)
-    ∷ row "stop 4 leaves the open files" w (sendsItself (openFor 1 "/c") then gives 8 ⇒ isStopped 4 then holds items opens then end)
+    ∷ row "stop 4 leaves the open files" w
+    (sendsItself (openFor 1 "/c") then gives 8 ⇒ isStopped 4 then holds items opens then end)
     -- close, cut, remove, rmdir, chmod: the status 0, signed (SPECIFICATION 5.4)
     ∷ row "stop 2: close answered 1" w (close 5 ⇒ closes 8 then says 1 ⇒ isStopped 2 then holds items opens then end)
     ∷ row "stop 2: close answered -1" w (close 5 ⇒ closes 8 then saysMinus 1 ⇒ isStopped 2 then end)
@@ -83,7 +84,8 @@ rows =
     ∷ answered "stop 2: remove answered -2" (remove "/c") (saysMinus 2) (isStopped 2)
     ∷ answered "stop 2: remove answered 65,536" (remove "/c") (says 65536) (isStopped 2)
     ∷ answered "stop 2: remove answered -2^31" (remove "/c") (says 2147483648) (isStopped 2)
-    ∷ row "stop 2 leaves the nodes" w (sendsItself (remove "/c") then says 1 ⇒ isStopped 2 then holds items opens then end)
+    ∷ row "stop 2 leaves the nodes" w
+    (sendsItself (remove "/c") then says 1 ⇒ isStopped 2 then holds items opens then end)
     ∷ answered "stop 1: remove answered by no byte" (remove "/c") (replies nothing) (isStopped 1)
     ∷ answered "remove answered 0" (remove "/c") (says 0) (isDone 0 nothing)
     ∷ answered "stop 2: rmdir answered 1,024" (rmdir "/d/b") (says 1024) (isStopped 2)
@@ -94,7 +96,8 @@ rows =
     ∷ answered "stop 2: chmod answered -1" (chmod 0 "/d") (saysMinus 1) (isStopped 2)
     ∷ answered "stop 2: chmod answered 1" (chmod 0 "/d") (says 1) (isStopped 2)
     ∷ answered "stop 2: chmod answered 2^24" (chmod 0 "/d") (says 16777216) (isStopped 2)
-    ∷ row "stop 2 leaves the mode" w (sendsItself (chmod 0 "/d") then saysMinus 1 ⇒ isStopped 2 then holds items opens then end)
+    ∷ row "stop 2 leaves the mode" w
+    (sendsItself (chmod 0 "/d") then saysMinus 1 ⇒ isStopped 2 then holds items opens then end)
     ∷ answered "stop 1: chmod answered by 1 byte" (chmod 0 "/d") (replies (0 ∷ [])) (isStopped 1)
     ∷ answered "chmod answered 0" (chmod 0 "/d") (says 0) (isDone 0 nothing)
     -- readdir: one entry for each child, in any order; whatever is wrong is 7 (SPECIFICATION 5.11)
@@ -112,7 +115,8 @@ rows =
     ∷ listed "stop 7: two ids exchanged" (entry 4 1 "a" ++ entry 3 2 "b") (isStopped 7)
     ∷ listed "stop 7: 9,691 bytes" (many 9691 0) (isStopped 7)
     ∷ row "a listing of three" three
-    (sendsItself (readdir "/d") then replies (entryC ++ (entryA ++ entryB)) ⇒ isDone 3 (entryC ++ (entryA ++ entryB)) then end)
+    (sendsItself (readdir "/d")
+    then replies (entryC ++ (entryA ++ entryB)) ⇒ isDone 3 (entryC ++ (entryA ++ entryB)) then end)
     ∷ row "stop 7: one of three twice" three
     (sendsItself (readdir "/d") then replies (entryA ++ (entryB ++ entryB)) ⇒ isStopped 7 then end)
     ∷ listed "stop 7: another name" (entryA ++ entry 4 2 "c") (isStopped 7)

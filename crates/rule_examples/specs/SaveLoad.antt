@@ -8,7 +8,8 @@ use Rattle.filesystem.specs.Tables.{ID-BYTES}
 use Rattle.rules.specs.Skeleton.{Config, save, load}
 use Rattle.machine.specs.Tree.{digestsOf}
 use Rattle.rule_examples.specs.Bytes.{bytesOf, four, many, nothing, digest}
-use Rattle.rule_examples.specs.Given.{Item, folder, file, sized, root, opened, Given, given, imageOf, imageWith, concatenated}
+use Rattle.rule_examples.specs.Given.{Item, folder, file, sized, root, opened, Given, given}
+use Rattle.rule_examples.specs.Given.{imageOf, imageWith, concatenated}
 use Rattle.rule_examples.specs.Events.{create, openFor, close, remove, chmod, says, gives, loads}
 use Rattle.rule_examples.specs.Rows.{isDone, isSaved, isRefused, closes, _⇒_, holds, _then_, end, sendsItself, Row, row, one}
 use Rattle.rule_examples.specs.Evaluation.{guardSide, treeSide, wrong, wrongOn}
@@ -52,7 +53,8 @@ twoPages = root ∷ file 2 1 7 "a" (many 1024 1 ++ (2 ∷ [])) ∷ []
 -- five files of 64 pages, and an image of them with 320 digests that differ
 abbrev five : List Item
 five =
-    root ∷ sized 2 1 7 "a" 65536 ∷ sized 3 1 7 "b" 65536 ∷ sized 4 1 7 "c" 65536 ∷ sized 5 1 7 "d" 65536 ∷ sized 6 1 7 "e" 65536 ∷ []
+    root ∷ sized 2 1 7 "a" 65536 ∷ sized 3 1 7 "b" 65536 ∷ sized 4 1 7 "c" 65536 ∷ sized 5 1 7 "d" 65536
+    ∷ sized 6 1 7 "e" 65536 ∷ []
 
 abbrev manyDigests : List ℕ
 manyDigests = imageWith five (tab 320 (λ i. i % 256 ∷ i / 256 ∷ many 30 7))
@@ -72,7 +74,6 @@ rows =
     ∷ one "34: a buffer one byte too short" w (save (length image - 1)) (isRefused 34)
     ∷ one "a buffer just long enough" w (save (length image)) (isSaved image)
     ∷ one "34: one byte too short, with digests" (given full []) (save (length (imageOf full) - 1)) (isRefused 34)
-    ∷ one "just long enough, with digests" (given full []) (save (length (imageOf full))) (isSaved (imageOf full))
     -- 74 where the image has another digest, or the one handed in has not 32 bytes; before 84
     ∷ one "74: another digest" w (load image (many 32 0)) (isRefused 74)
     ∷ one "74: 31 bytes of the digest" w (load image (take 31 (digest image))) (isRefused 74)
@@ -105,20 +106,23 @@ rows =
     then save 44776 ⇒ isRefused 16 then end)
     ∷ []
 
--- a sound image that no save gave: the guard has what it says (SPECIFICATION 8.7)
+-- On the guard alone: after a load that no save gave it has what the image says (SPECIFICATION 8.7); digests in order.
 abbrev pub guardRows : List Row
 guardRows =
     row "load of an image that no save gave" (given (root ∷ []) [])
     (loads (imageOf full) ⇒ isDone 0 nothing then holds full [] then end)
-    ∷ row "load in place of other nodes" (given items []) (loads (imageOf full) ⇒ isDone 0 nothing then holds full [] then end)
+    ∷ row "load in place of other nodes" (given items [])
+    (loads (imageOf full) ⇒ isDone 0 nothing then holds full [] then end)
+    ∷ one "just long enough, with digests" (given full []) (save (length (imageOf full))) (isSaved (imageOf full))
     -- digests page by page
     ∷ one "save of two pages" (given twoPages []) (save 44776) (isSaved (imageOf twoPages))
-    ∷ row "load of two pages" (given (root ∷ []) []) (loads (imageOf twoPages) ⇒ isDone 0 nothing then holds twoPages [] then end)
+    ∷ row "load of two pages" (given (root ∷ []) [])
+    (loads (imageOf twoPages) ⇒ isDone 0 nothing then holds twoPages [] then end)
     ∷ row "320 digests, by node, then by page" (given (root ∷ []) [])
     (loads manyDigests ⇒ isDone 0 nothing then save 44776 ⇒ isSaved manyDigests then end)
     ∷ []
 
--- and the tree changes nothing (SPECIFICATION 9.8)
+-- On the tree alone: there nothing changes (SPECIFICATION 9.8).
 abbrev pub treeRows : List Row
 treeRows =
     row "load of an image that no save gave" (given items [])

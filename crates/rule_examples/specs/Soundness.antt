@@ -54,7 +54,8 @@ rows =
     ∷ unsound "two ids alike" (image (root ∷ file 2 1 7 "a" nothing ∷ file 2 1 7 "b" nothing ∷ []) 0)
     ∷ unsound "the root's id again" (image (root ∷ file 1 1 7 "a" nothing ∷ []) 0)
     ∷ unsound "two ids over 255 alike" (image (root ∷ file 300 1 7 "a" nothing ∷ file 300 1 7 "b" nothing ∷ []) 0)
-    ∷ sound "two ids alike in their low bytes" (image (root ∷ file 300 1 7 "a" nothing ∷ file 44 1 7 "b" nothing ∷ []) 0)
+    ∷ sound "two ids alike in their low bytes"
+    (image (root ∷ file 300 1 7 "a" nothing ∷ file 44 1 7 "b" nothing ∷ []) 0)
     ∷ sound "the root's low byte" (image (root ∷ file 257 1 7 "a" nothing ∷ []) 0)
     ∷ sound "the largest id" (image (root ∷ file 4294967295 1 7 "a" nothing ∷ []) 0)
     ∷ unsound "an id 0" (image (root ∷ file 0 1 7 "a" nothing ∷ []) 0)

@@ -5,7 +5,8 @@ use Prim.Native.Nat.{ℕ}
 use Rattle.rule_examples.specs.Bytes.{many, nothing}
 use Rattle.rule_examples.specs.Given.{Item, file, sized, sparse, root, opened, Given, given}
 use Rattle.rule_examples.specs.Events.{replies, truncate, says, saysMinus, givesPage}
-use Rattle.rule_examples.specs.Rows.{isDone, isStopped, fetches, stores, storesFront, storesPage, has, cutsTo, _⇒_, holds, Line, _then_, end, Row, row, one}
+use Rattle.rule_examples.specs.Rows.{stores, storesFront}
+use Rattle.rule_examples.specs.Rows.{isDone, isStopped, fetches, storesPage, has, cutsTo, _⇒_, holds, Line, _then_, end, Row, row, one}
 use Rattle.rule_examples.specs.Evaluation.{guardSide, wrong, wrongOn}
 
 -- files of 3 bytes and of 2,000
@@ -44,7 +45,8 @@ abbrev pub rows : List Row
 rows =
     -- within a page; a cursor behind the new end is put there (SPECIFICATION 4.6); done with 0
     row "a truncation inside a page" (writer brim 1500)
-    (truncate 2 2 ⇒ fetches 5 0 then givesPage (4 ∷ 5 ∷ 6 ∷ []) ⇒ storesPage 5 0 65536 (has 0 4 ∷ has 1 5 ∷ has 2 0 ∷ has 1023 0 ∷ [])
+    (truncate 2 2 ⇒ fetches 5 0
+    then givesPage (4 ∷ 5 ∷ 6 ∷ []) ⇒ storesPage 5 0 65536 (has 0 4 ∷ has 1 5 ∷ has 2 0 ∷ has 1023 0 ∷ [])
     then says 1024 ⇒ cutsTo 5 2 then leftSize 65536 1500 then says 0 ⇒ isDone 0 nothing then leftSize 2 2 then end)
     ∷ one "a truncation inside the second page" (writer long 0) (truncate 2 1025) (fetches 5 1)
     ∷ one "a truncation to one byte before a page's edge" (writer long 0) (truncate 2 1023) (fetches 5 0)
@@ -59,7 +61,8 @@ rows =
     ∷ row "stop 2: a cut answered 1" (writer three 2) (truncate 2 0 ⇒ cutsTo 5 0 then says 1 ⇒ isStopped 2 then left three 2 then end)
     ∷ row "stop 2: a cut answered -1" (writer three 2)
     (truncate 2 0 ⇒ cutsTo 5 0 then saysMinus 1 ⇒ isStopped 2 then left three 2 then end)
-    ∷ row "stop 2: a cut answered 1,024" (writer three 2) (truncate 2 0 ⇒ cutsTo 5 0 then says 1024 ⇒ isStopped 2 then end)
+    ∷ row "stop 2: a cut answered 1,024" (writer three 2)
+    (truncate 2 0 ⇒ cutsTo 5 0 then says 1024 ⇒ isStopped 2 then end)
     ∷ row "stop 2: a cut answered -2^31" (writer three 2)
     (truncate 2 0 ⇒ cutsTo 5 0 then says 2147483648 ⇒ isStopped 2 then end)
     ∷ row "stop 2: a truncation's store answered -1" (writer three 0)

@@ -7,7 +7,7 @@ use Rattle.rule_examples.specs.Events.{create, mkdir, openFor, remove, r
 use Rattle.rule_examples.specs.Rows.{isRefused, Row, one, passes}
 use Rattle.rule_examples.specs.Evaluation.{wrong}
 
--- `/a`, `/n` and `/abc` are files, `/n` without bit 1, and so is one whose name has bytes over 127; `/d` is a folder that holds `b`;
+-- `/a`, `/n` without bit 1, `/abc` and one with bytes over 127 in its name are files; `/d` is a folder that holds `b`;
 -- `/x` one without bit 1 that holds `f` and the folder `g`; `/y` one with bit 1 alone that holds `f`
 abbrev items : List Item
 items =
@@ -26,7 +26,8 @@ deep =
     ∷ file 7 6 7 "f" nothing ∷ folder 8 5 1 "g" ∷ file 9 8 7 "f" nothing ∷ [])
     []
 
--- `/y` has bit 1 alone; in it `f`, the folder `r` with bit 4 alone and the folder `w` with the bits 2 and 1, which holds `f` and the folder `g`
+-- `/y` has bit 1 alone and holds `f`, the folder `r` with bit 4 alone, and the folder `w` with the bits 2 and 1; this
+-- holds `f` and the folder `g`
 abbrev narrow : Given
 narrow =
     given
@@ -37,6 +38,10 @@ narrow =
 -- the root without bit 1
 abbrev shut : Given
 shut = given (rootOf 6 ∷ file 2 1 7 "a" nothing ∷ []) []
+
+-- the root without any bit
+abbrev bare : Given
+bare = given (rootOf 0 ∷ []) []
 
 abbrev pub rows : List Row
 rows =
@@ -51,6 +56,12 @@ rows =
     ∷ passes "no 13: bit 1 alone" w (stat "/y/f")
     ∷ one "13: the root without bit 1" shut (stat "/a") (isRefused 13)
     ∷ passes "no bit on the way to the root" shut (stat "/")
+    ∷ one "no bit on the way to the root: create" bare (create 7 "/") (isRefused 17)
+    ∷ one "no bit on the way to the root: mkdir" bare (mkdir 7 "/") (isRefused 17)
+    ∷ one "no bit on the way to the root: open" bare (openFor 1 "/") (isRefused 21)
+    ∷ one "no bit on the way to the root: remove" bare (remove "/") (isRefused 21)
+    ∷ one "no bit on the way to the root: rmdir" bare (rmdir "/") (isRefused 16)
+    ∷ passes "no bit on the way to the root: chmod" bare (chmod 7 "/")
     -- 2 where the directory does not hold it
     ∷ one "2: no such child" w (stat "/none") (isRefused 2)
     ∷ one "2: no such child of a folder" w (stat "/d/none") (isRefused 2)

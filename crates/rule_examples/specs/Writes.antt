@@ -5,7 +5,8 @@ use Prim.Native.Nat.{ℕ}
 use Rattle.rule_examples.specs.Bytes.{four, many, nothing}
 use Rattle.rule_examples.specs.Given.{Item, file, sized, sparse, root, opened, Given, given}
 use Rattle.rule_examples.specs.Events.{replies, write, says, saysMinus, givesPage}
-use Rattle.rule_examples.specs.Rows.{isDone, isStopped, fetches, stores, storesFront, _⇒_, holds, Line, _then_, end, Row, row, one}
+use Rattle.rule_examples.specs.Rows.{storesFront}
+use Rattle.rule_examples.specs.Rows.{isDone, isStopped, fetches, stores, _⇒_, holds, Line, _then_, end, Row, row, one}
 use Rattle.rule_examples.specs.Evaluation.{guardSide, wrong, wrongOn}
 
 -- files of no byte, of 3, of a page, of a page and two bytes
@@ -62,7 +63,7 @@ rows =
     -- where nothing is fetched, zeros stand behind the data (SPECIFICATION 5.7)
     ∷ row "a write into an empty file" (writer empty 0)
     (write 2 (7 ∷ 8 ∷ []) ⇒ storesFront 5 0 2 (7 ∷ 8 ∷ 0 ∷ 0 ∷ []) then left empty 0
-    then says 1024 ⇒ isDone 2 nothing then left (file 2 1 7 "a" (7 ∷ 8 ∷ [])) 2 then end)
+    then says 1024 ⇒ isDone 2 nothing then leftSize 2 2 then end)
     -- stop 5 and, before it, stop 1
     ∷ row "stop 5: a write's page" (writer three 0) (write 2 (9 ∷ []) ⇒ fetches 5 0 then givesPage (2 ∷ []) ⇒ isStopped 5 then end)
     ∷ row "stop 1: a write's page of 1,023 bytes" (writer three 0) (write 2 (9 ∷ []) ⇒ fetches 5 0 then replies (many 1023 0) ⇒ isStopped 1 then end)
@@ -83,7 +84,7 @@ rows =
     ∷ row "stop 1: a store answered by 5 bytes" (writer empty 0) (write 2 (9 ∷ []) ⇒ stores 5 0 1 then replies (four 1024 ++ (0 ∷ [])) ⇒ isStopped 1 then end)
     ∷ []
 
--- on the guard alone, since on the tree these pages take many seconds: the data over the page, the digests that are left
+-- on the guard alone, since on the tree these pages take many seconds: the data over the page, and the digests
 abbrev pub guardRows : List Row
 guardRows =
     row "a write over the end" (writer three 1)
@@ -94,10 +95,6 @@ guardRows =
     (write 2 (7 ∷ 8 ∷ []) ⇒ fetches 5 0 then givesPage (5 ∷ []) ⇒ storesFront 5 0 1026 (5 ∷ 0 ∷ [])
     then says 1024 ⇒ fetches 5 1 then givesPage nothing ⇒ storesFront 5 1 1026 (8 ∷ 0 ∷ [])
     then says 1024 ⇒ isDone 2 nothing then left (sparse 2 1 7 "a" 1026 (5 ∷ many 1022 0 ++ (7 ∷ 8 ∷ []))) 1025 then end)
-    ∷ row "two new pages" (writer empty 0)
-    (write 2 (many 1024 9 ++ (7 ∷ 8 ∷ [])) ⇒ storesFront 5 0 1024 (9 ∷ 9 ∷ [])
-    then says 1024 ⇒ storesFront 5 1 1026 (7 ∷ 8 ∷ 0 ∷ [])
-    then says 1024 ⇒ isDone 1026 nothing then left (file 2 1 7 "a" (many 1024 9 ++ (7 ∷ 8 ∷ []))) 1026 then end)
     ∷ []
 
 pub guard-rows-hold : wrongOn guardSide guardRows ≡ []
