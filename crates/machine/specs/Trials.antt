@@ -1,5 +1,5 @@
 -- The trials with ● (SPECIFICATION 11.1) and the desk's session (12.6), as one table over the definitions: each row the events and what they come to.
--- The digest is left open: no row hangs on its value.
+-- The digest is left open: no row hangs on its value. The width of ids is the one that is delivered.
 use mathlib.Core.Path.{_≡_, refl}
 use mathlib.Core.List.{List, [], _∷_, _++_, map}
 use Prim.Native.Nat.{ℕ}
@@ -13,6 +13,7 @@ use Rattle.lists.specs.Signed.{signed}
 use Rattle.lists.specs.LittleEndian.{encode, decode}
 use Rattle.lists.specs.Form.{bind, front, get₂, get-as, get-all, ended, whole}
 use Rattle.lists.specs.Checks.{decide}
+use Rattle.filesystem.specs.Tables.{ID-BYTES}
 use Rattle.filesystem.specs.Tables.{pagesFor, pageTotal, nodeAt, openAt, findId, findChild, children, findHandle, findDescriptor, setMode, setSize, setCursor}
 use Rattle.filesystem.specs.Rights.{coverTable, covers}
 use Rattle.filesystem.specs.Paths.{joined, pathBytes, componentForm, onto, split, afterSlash, readPath, tooLong, childAt, walk, walkChecks, parentChecks, parentOf, lastOf}
@@ -111,11 +112,11 @@ table =
     ∷ []
 
 module _ (digest : List ℕ → List ℕ) where
-  abbrev four : Config
-  four = record { digest = digest; width = 4 }
+  abbrev config : Config
+  config = record { digest = digest; width = ID-BYTES }
 
   pub answers : List Event → List Answer
-  answers es = map (λ o. o .answer) (outcomes four (guard four) (fresh four (guard four)) es)
+  answers es = map (λ o. o .answer) (outcomes config (guard config) (fresh config (guard config)) es)
 
   pub trials : map (λ row. answers (row .0)) table ≡ map (λ row. row .1) table
   unfolding answers outcomes step judge eventChecks eventAction callChecks callAction readAction replyChecks replyAction isIdle callOr isNone decide pick noRoom apply readOn finishChange pagesStored askStore onPage pagesFrom answerLength requestLength storeLength signed isNumber isDescriptor entryForm sameEntry isRearranged isListing closeRequest fetchRequest storeRequest pageAt overlay first last fetches fill sizeSent cuts sizeAfter cursorAfter numberOf callBytes byPath byNumberAndPath byHandle byHandleAndNumber byHandleAndBytes readFields readCall joined pathBytes componentForm onto split afterSlash readPath tooLong childAt walk walkChecks parentChecks parentOf lastOf coverTable covers pagesFor pageTotal nodeAt openAt findId findChild children findHandle findDescriptor setMode setSize setCursor bind front get₂ get-as get-all ended whole encode decode every any place select without tab equal

@@ -1,10 +1,12 @@
 -- Bytes, put together from SPECIFICATION alone and by none of the definitions that the rows are to pin; pages; a digest that costs little.
+-- The width of ids is the one that is delivered: the rows' own bytes have four.
 use mathlib.Core.List.{List, [], _∷_, _++_}
 use Prim.Native.Nat.{ℕ, zero, suc, _+_, _-_, _/_, _%_}
 use Prim.Native.Char.{code}
 use Prim.Native.String as S
 use Prim.Native.String.{String}
 use lib.ListN.{length, take, drop, replicate}
+use Rattle.filesystem.specs.Tables.{ID-BYTES}
 use Rattle.rules.specs.Skeleton.{Config}
 
 -- bytes: of a text, of a number in 4 and in 8 bytes, the same byte n times
@@ -40,6 +42,16 @@ name n = times n "n"
 abbrev pub under : String → ℕ → String
 under p n = S._++_ p (S._++_ "/" (name n))
 
+-- a name of the bytes 128 and 255 (a character is the byte of its code); the same with 127 for 255; a name behind `/`
+abbrev pub high : String
+high = "\u{80}ÿ"
+
+abbrev pub lowered : String
+lowered = "\u{80}\u{7f}"
+
+abbrev pub slashed : String → String
+slashed s = S._++_ "/" s
+
 -- the pages of a file of this size, zero past the bytes
 unfoldable pub pagesOf : ℕ → List ℕ → List (List ℕ)
 pagesOf zero b = []
@@ -59,4 +71,4 @@ digest (a ∷ []) = ends a 0 a 1 []
 digest (a ∷ b ∷ s) = ends a b b 2 s
 
 abbrev pub config : Config
-config = record { digest = digest; width = 4 }
+config = record { digest = digest; width = ID-BYTES }

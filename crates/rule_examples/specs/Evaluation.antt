@@ -138,3 +138,9 @@ unfolding runs pick
 wrong [] = []
 wrong (r ∷ rs) =
     pick (runs guardSide (begun guardSide (r .start)) (r .lines) && runs treeSide (begun treeSide (r .start)) (r .lines)) (wrong rs) (r .title ∷ wrong rs)
+
+-- the titles of the rows that do not hold on one of them
+unfoldable pub wrongOn : Side → List Row → List String
+unfolding runs pick
+wrongOn S [] = []
+wrongOn S (r ∷ rs) = pick (runs S (begun S (r .start)) (r .lines)) (wrongOn S rs) (r .title ∷ wrongOn S rs)

@@ -2,7 +2,7 @@
 use mathlib.Core.Path.{_≡_, refl}
 use mathlib.Core.List.{List, [], _∷_, _++_}
 use Prim.Native.String.{String}
-use Rattle.rule_examples.specs.Bytes.{bytesOf, four, eight, many, nothing, times, under}
+use Rattle.rule_examples.specs.Bytes.{bytesOf, four, eight, many, nothing, times, under, high, slashed}
 use Rattle.rule_examples.specs.Given.{folder, file, root, opened, Given, given}
 use Rattle.rule_examples.specs.Events.{callOf, create, mkdir, openFor, read, write, remove, rmdir, chmod, readdir, stat}
 use Rattle.rule_examples.specs.Rows.{isRefused, fetches, Row, one, passes}
@@ -15,9 +15,9 @@ fresh = given (root ∷ []) []
 abbrev openA : Given
 openA = given (root ∷ file 2 1 7 "a" (1 ∷ 2 ∷ 3 ∷ []) ∷ []) (opened 2 5 3 1 ∷ [])
 
--- `/f` is a file, `/x` a folder without bit 1
+-- `/f` is a file, `/x` a folder without bit 1, `/r` one without bit 2
 abbrev barred : Given
-barred = given (root ∷ file 2 1 7 "f" nothing ∷ folder 3 1 6 "x" ∷ []) []
+barred = given (root ∷ file 2 1 7 "f" nothing ∷ folder 3 1 6 "x" ∷ folder 4 1 5 "r" ∷ []) []
 
 -- 255 bytes of path, and 256: no component is over 32
 abbrev long : String
@@ -32,6 +32,8 @@ rows =
     one "no byte" fresh (callOf []) (isRefused 22)
     ∷ one "kind 0" fresh (callOf (0 ∷ bytesOf "/a")) (isRefused 22)
     ∷ one "kind 14" fresh (callOf (14 ∷ bytesOf "/")) (isRefused 22)
+    ∷ one "kind 141: over 127, 13 below" fresh (callOf (141 ∷ bytesOf "/")) (isRefused 22)
+    ∷ one "kind 255" fresh (callOf (255 ∷ bytesOf "/")) (isRefused 22)
     -- create, mkdir, chmod: mode 0 to 7, path
     ∷ passes "create, mode 7" fresh (create 7 "/a")
     ∷ passes "create, mode 0" fresh (create 0 "/a")
@@ -40,11 +42,18 @@ rows =
     ∷ passes "mkdir, mode 7" fresh (mkdir 7 "/a")
     ∷ one "chmod, mode 8" fresh (chmod 8 "/") (isRefused 22)
     ∷ passes "chmod, mode 7" fresh (chmod 7 "/")
+    ∷ passes "mkdir, mode 0" fresh (mkdir 0 "/a")
+    ∷ passes "chmod, mode 0" fresh (chmod 0 "/")
+    ∷ one "create, mode 255" fresh (create 255 "/a") (isRefused 22)
+    ∷ one "mkdir, mode 15" fresh (mkdir 15 "/a") (isRefused 22)
+    ∷ one "chmod, mode 135" fresh (chmod 135 "/") (isRefused 22)
     ∷ one "create, no mode" fresh (callOf (1 ∷ [])) (isRefused 22)
     ∷ one "create, no path" fresh (create 7 "") (isRefused 22)
     -- open: rights 1 to 3, path
     ∷ one "open, rights 0" fresh (openFor 0 "/a") (isRefused 22)
     ∷ one "open, rights 4" fresh (openFor 4 "/a") (isRefused 22)
+    ∷ one "open, rights 129" fresh (openFor 129 "/a") (isRefused 22)
+    ∷ one "open, rights 255" fresh (openFor 255 "/a") (isRefused 22)
     ∷ one "open, rights 3" fresh (openFor 3 "/a") (isRefused 2)
     ∷ one "open, rights 1" fresh (openFor 1 "/a") (isRefused 2)
     -- close: handle (4)
@@ -59,6 +68,9 @@ rows =
     ∷ one "read 4,096" openA (read 2 4096) (fetches 5 0)
     ∷ one "read 4,097" openA (read 2 4097) (isRefused 22)
     ∷ one "read 4,097, not open" openA (read 9 4097) (isRefused 22)
+    ∷ one "read 65,537" openA (read 2 65537) (isRefused 22)
+    ∷ one "read 2^24 + 1" openA (read 2 16777217) (isRefused 22)
+    ∷ one "read 2^32 - 1" openA (read 2 4294967295) (isRefused 22)
     -- write: handle (4), 0 to 4,096 bytes
     ∷ one "write, no handle" openA (callOf (7 ∷ 2 ∷ 0 ∷ 0 ∷ [])) (isRefused 22)
     ∷ one "write 4,096 bytes" openA (write 2 (many 4096 0)) (fetches 5 0)
@@ -83,6 +95,13 @@ rows =
     ∷ one "path with a byte 1" fresh (stat "/a\u{1}") (isRefused 2)
     ∷ one "path /." fresh (stat "/.") (isRefused 22)
     ∷ one "path /a/.." fresh (stat "/a/..") (isRefused 22)
+    ∷ one "path /./a" fresh (stat "/./a") (isRefused 22)
+    ∷ one "path /../a" fresh (stat "/../a") (isRefused 22)
+    ∷ one "path /a./b" fresh (stat "/a./b") (isRefused 2)
+    ∷ one "path /..a" fresh (stat "/..a") (isRefused 2)
+    ∷ one "path with the bytes 128 and 255" fresh (stat (slashed high)) (isRefused 2)
+    ∷ passes "create, path with the bytes 128 and 255" fresh (create 7 (slashed high))
+    ∷ passes "create, path with the bytes 174 and 175, which are . and / and 128 more" fresh (create 7 "/®¯")
     ∷ one "path /..." fresh (stat "/...") (isRefused 2)
     ∷ one "path /.a" fresh (stat "/.a") (isRefused 2)
     -- 36 of a component over 32 (SPECIFICATION 3.3)
@@ -104,11 +123,19 @@ rows =
     ∷ one "22 before 36: rights 0" fresh (openFor 0 (under "" 33)) (isRefused 22)
     ∷ one "22 before 36: a component .." fresh (stat (under "/.." 33)) (isRefused 22)
     ∷ one "22 before 36: ends in /" fresh (stat (under (under "" 33) 0)) (isRefused 22)
+    ∷ one "22 before 36: 256 bytes that end in /" fresh (stat (under long 0)) (isRefused 22)
+    ∷ one "22 before 36: a byte 0" fresh (stat (under "/\0" 33)) (isRefused 22)
     -- 36 before the walk
     ∷ one "36 before 20" barred (stat (under "/f" 33)) (isRefused 36)
     ∷ one "36 before 13" barred (stat (under "/x" 33)) (isRefused 36)
     ∷ one "36 before 2" barred (stat (under "/none" 33)) (isRefused 36)
-    ∷ one "36 before 17" barred (create 7 (under (under "" 33) 1)) (isRefused 36)
+    ∷ one "36 before 20: create" barred (create 7 (under "/f" 33)) (isRefused 36)
+    ∷ one "36 before 13: create" barred (create 7 (under "/x" 33)) (isRefused 36)
+    ∷ one "36 before 2: create" barred (create 7 (under (under "" 33) 1)) (isRefused 36)
+    ∷ one "36 before 2: mkdir" barred (mkdir 7 (under (under "" 33) 1)) (isRefused 36)
+    -- and before 13 (parent bit 2); 28 stands in `Limits`; a path that is too long is never there, so 17 cannot hold
+    ∷ one "36 before 13: create without the parent's bit 2" barred (create 7 (under "/r" 33)) (isRefused 36)
+    ∷ one "36 before 13: mkdir without the parent's bit 2" barred (mkdir 7 (under "/r" 33)) (isRefused 36)
     ∷ []
 
 pub rows-hold : wrong rows ≡ []

@@ -28,6 +28,8 @@ rows =
     ∷ one "9: write, not open" w (write 5 (1 ∷ [])) (isRefused 9)
     ∷ one "9: truncate, not open" w (truncate 5 0) (isRefused 9)
     ∷ one "9: close by the descriptor" w (close 10) (isRefused 9)
+    ∷ one "9: handle 0" w (close 0) (isRefused 9)
+    ∷ one "9: the root's id" w (seek 1 0) (isRefused 9)
     -- a read needs the right 1 (SPECIFICATION 4.9)
     ∷ one "9: read without right 1" w (read 3 1) (isRefused 9)
     ∷ one "9: read of no bytes without right 1" w (read 3 0) (isRefused 9)
@@ -39,6 +41,10 @@ rows =
     ∷ one "9: truncate without right 2" w (truncate 2 1) (isRefused 9)
     ∷ one "9: truncate to the same size without right 2" w (truncate 2 3) (isRefused 9)
     ∷ one "truncate with right 2" w (truncate 3 0) (cutsTo 11 0)
+    -- rights 3 are both
+    ∷ row "read with rights 3" w (seek 4 0 ⇒ isDone 0 nothing then read 4 1 ⇒ fetches 12 0 then end)
+    ∷ one "write with rights 3" w (write 4 (1 ∷ [])) (fetches 12 0)
+    ∷ one "truncate with rights 3" w (truncate 4 0) (cutsTo 12 0)
     -- close and seek none
     ∷ row "close with right 1" w
     (close 2 ⇒ closes 10 then holds items opens then says 0 ⇒ isDone 0 nothing then holds items (opened 3 11 2 1 ∷ opened 4 12 3 3 ∷ []) then close 2 ⇒ isRefused 9 then end)
@@ -52,9 +58,11 @@ rows =
     -- 22 beyond the size; 9 comes first
     ∷ one "22: seek beyond the size" w (seek 2 4) (isRefused 22)
     ∷ one "22: seek, 8 bytes are read" w (seek 2 4294967297) (isRefused 22)
+    ∷ one "22: seek, the eighth byte" w (seek 2 72057594037927937) (isRefused 22)
     ∷ one "9 before 22: seek" w (seek 5 2) (isRefused 9)
     ∷ one "22: truncate beyond the size" w (truncate 4 4) (isRefused 22)
     ∷ one "22: truncate, 8 bytes are read" w (truncate 4 4294967297) (isRefused 22)
+    ∷ one "22: truncate, the eighth byte" w (truncate 4 72057594037927937) (isRefused 22)
     ∷ one "9 before 22: truncate" w (truncate 5 2) (isRefused 9)
     ∷ one "9 before 22: truncate without right 2" w (truncate 2 4) (isRefused 9)
     -- a read or write of no bytes and a truncation to the same size send nothing (SPECIFICATION 5.2); done with 0

@@ -6,6 +6,7 @@ pub mod Evaluation
 pub mod Fresh
 pub mod Forms
 pub mod CommonOrder
+pub mod Buffers
 pub mod Walk
 pub mod NewNodes
 pub mod Opening
@@ -18,4 +19,5 @@ pub mod Truncations
 pub mod Replies
 pub mod SaveLoad
 pub mod Soundness
+pub mod LargeNumbers
 pub mod Limits

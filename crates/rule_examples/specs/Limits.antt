@@ -5,9 +5,9 @@ use Prim.Native.Nat.{ℕ, _+_, _-_, _/_, _%_}
 use lib.ListN.{replicate}
 use mathlib.Core.Bool.{true, false}
 use Rattle.lists.specs.Cells.{tab}
-use Rattle.filesystem.specs.Tables.{Node}
+use Rattle.filesystem.specs.Tables.{ID-BYTES, Node}
 use Rattle.filesystem.specs.Image.{sound}
-use Rattle.rule_examples.specs.Bytes.{bytesOf, many, nothing}
+use Rattle.rule_examples.specs.Bytes.{bytesOf, many, nothing, under}
 use Rattle.rule_examples.specs.Given.{file, sized, rootOf, root, opened, Given, given, node}
 use Rattle.rule_examples.specs.Events.{create, mkdir, openFor, write}
 use Rattle.rule_examples.specs.Rows.{isDone, isRefused, fetches, stores, Row, one, passes}
@@ -29,6 +29,10 @@ holding n = given (root ∷ file 2 1 7 "first" nothing ∷ (tab 38 (λ i. file (
 abbrev stocked : (n size cursor : ℕ) → Given
 stocked n s c = given (root ∷ sized 2 1 7 "a" s ∷ tab n (λ i. sized (i + 3) 1 7 "f" 65536)) (opened 2 5 2 c ∷ [])
 
+-- the same, open for reading alone
+abbrev readOnly : (n size cursor : ℕ) → Given
+readOnly n s c = given (root ∷ sized 2 1 7 "a" s ∷ tab n (λ i. sized (i + 3) 1 7 "f" 65536)) (opened 2 5 1 c ∷ [])
+
 -- 1,023 pages, and an empty file that is open
 abbrev nearly : Given
 nearly = given (root ∷ sized 2 1 7 "a" 0 ∷ sized 20 1 7 "g" 64512 ∷ tab 15 (λ i. sized (i + 3) 1 7 "f" 65536)) (opened 2 5 2 0 ∷ [])
@@ -45,6 +49,10 @@ rows =
     ∷ one "28: mkdir with 256 nodes" (crowd 7 256) (mkdir 7 "/n") (isRefused 28)
     ∷ one "17 before 28" (crowd 7 256) (create 7 "/f") (isRefused 17)
     ∷ one "13 before 28" (crowd 5 256) (create 7 "/n") (isRefused 13)
+    ∷ passes "no 28: mkdir with 255 nodes" (crowd 7 255) (mkdir 7 "/n")
+    ∷ one "17 before 28: mkdir" (crowd 7 256) (mkdir 7 "/f") (isRefused 17)
+    ∷ one "13 before 28: mkdir" (crowd 5 256) (mkdir 7 "/n") (isRefused 13)
+    ∷ one "36 before 28" (crowd 7 256) (create 7 (under "" 33)) (isRefused 36)
     -- 24 with 32 open files; 16 comes first
     ∷ passes "no 24: open with 31 open" (holding 31) (openFor 1 "/last")
     ∷ one "24: open with 32 open" (holding 32) (openFor 1 "/last") (isRefused 24)
@@ -55,26 +63,30 @@ rows =
     ∷ one "27: at the end of a full file" (stocked 0 65536 65536) (write 2 (1 ∷ [])) (isRefused 27)
     ∷ one "no 27: no bytes at the end of a full file" (stocked 0 65536 65536) (write 2 nothing) (isDone 0 nothing)
     ∷ one "no 27: inside a full file" (stocked 0 65536 0) (write 2 (1 ∷ [])) (fetches 5 0)
-    ∷ one "9 before 27" (stocked 0 65536 65536) (write 3 (1 ∷ [])) (isRefused 9)
+    ∷ one "9 before 27" (readOnly 0 65536 65536) (write 2 (1 ∷ [])) (isRefused 9)
     ∷ one "27 before 28" (stocked 15 65536 65536) (write 2 (1 ∷ [])) (isRefused 27)
     -- 28 with over 1,024 pages, as they would be after the write; a write that adds no page passes
     ∷ one "no 28: a write to 1,024 pages" (stocked 15 64512 64512) (write 2 (1 ∷ [])) (stores 5 63 64513)
     ∷ one "28: a write to 1,025 pages" (stocked 16 0 0) (write 2 (1 ∷ [])) (isRefused 28)
+    ∷ one "9 before 28" (readOnly 16 0 0) (write 2 (1 ∷ [])) (isRefused 9)
+    ∷ one "9 before 28: not open" (given (stocked 16 0 0 .items) []) (write 2 (1 ∷ [])) (isRefused 9)
+    ∷ one "no 28: no bytes beside 1,024 pages" (stocked 16 0 0) (write 2 nothing) (isDone 0 nothing)
     ∷ one "no 28: a write inside 1,024 pages" (stocked 15 65536 0) (write 2 (1 ∷ [])) (fetches 5 0)
+    ∷ one "a store of the size 65,536" (stocked 0 64512 64512) (write 2 (many 1024 1)) (stores 5 63 65536)
     ∷ one "no 28: one page more, to 1,024" nearly (write 2 (many 1024 1)) (stores 5 0 1024)
     ∷ one "28: two pages more, to 1,025" nearly (write 2 (many 1025 1)) (isRefused 28)
     ∷ []
 
 -- the limits of an image: not 257 nodes (that 256 may be stands in `filesystem`, `LongestImage`); 1,024 pages, not 1,025
-pub image-nodes : sound 4 (named 257, []) ≡ false
+pub image-nodes : sound ID-BYTES (named 257, []) ≡ false
 unfolding wrong
 image-nodes = refl
 
-pub image-pages : sound 4 (filed 64512, replicate 1024 (many 32 7)) ≡ true
+pub image-pages : sound ID-BYTES (filed 64512, replicate 1024 (many 32 7)) ≡ true
 unfolding wrong
 image-pages = refl
 
-pub image-too-many-pages : sound 4 (filed 64513, replicate 1025 (many 32 7)) ≡ false
+pub image-too-many-pages : sound ID-BYTES (filed 64513, replicate 1025 (many 32 7)) ≡ false
 unfolding wrong
 image-too-many-pages = refl
 

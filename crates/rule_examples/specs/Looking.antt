@@ -50,6 +50,9 @@ rows =
     opens
     then read 8 1 ⇒ fetches 5 0 then end)
     ∷ row "chmod of a file without any bit" w (sendsItself (chmod 7 "/n") then says 0 ⇒ isDone 0 nothing then sendsItself (openFor 3 "/n") then end)
+    ∷ row "chmod of a folder without any bit" (given (root ∷ folder 2 1 0 "d" ∷ file 3 2 7 "a" nothing ∷ []) [])
+    (sendsItself (chmod 5 "/d") then says 0 ⇒ isDone 0 nothing
+    then holds (root ∷ folder 2 1 5 "d" ∷ file 3 2 7 "a" nothing ∷ []) [] then sendsItself (stat "/d/a") then end)
     ∷ row "chmod of the root" (given (root ∷ []) []) (sendsItself (chmod 0 "/") then says 0 ⇒ isDone 0 nothing then holds (rootOf 0 ∷ []) [] then stat "/a" ⇒ isRefused 13 then end)
     ∷ []
 

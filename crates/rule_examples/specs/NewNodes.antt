@@ -1,7 +1,8 @@
 -- Create and mkdir: their numbers in order (SPECIFICATION 7.7), and what they leave. The limit of 28 stands in `Limits`.
 use mathlib.Core.Path.{_≡_, refl}
 use mathlib.Core.List.{List, [], _∷_, _++_}
-use Rattle.rule_examples.specs.Bytes.{bytesOf, nothing}
+use Prim.Native.Nat.{ℕ}
+use Rattle.rule_examples.specs.Bytes.{bytesOf, nothing, high, slashed}
 use Rattle.rule_examples.specs.Given.{Item, folder, file, rootOf, root, Given, given}
 use Rattle.rule_examples.specs.Events.{create, mkdir, gives}
 use Rattle.rule_examples.specs.Rows.{isDone, isRefused, asks, _⇒_, holds, _then_, end, sendsItself, Row, row, one, passes}
@@ -13,6 +14,10 @@ items = root ∷ file 2 1 7 "a" (1 ∷ 2 ∷ 3 ∷ []) ∷ folder 3 1 5 "r" ∷ 
 
 abbrev w : Given
 w = given items []
+
+-- folders one in another, the innermost of this mode
+abbrev deep : (mode : ℕ) → List Item
+deep m = root ∷ folder 2 1 7 "d" ∷ folder 3 2 7 "e" ∷ folder 4 3 m "g" ∷ []
 
 abbrev pub rows : List Row
 rows =
@@ -31,12 +36,24 @@ rows =
     ∷ one "13: create in a root without bit 2" (given (rootOf 5 ∷ []) []) (create 7 "/a") (isRefused 13)
     ∷ passes "no 13: create with the bits 2 and 1" w (create 7 "/w/g")
     ∷ passes "no 13: mkdir with the bits 2 and 1" w (mkdir 7 "/w/g")
+    -- of the folder that holds it, not of one above
+    ∷ one "13: create three folders down without bit 2" (given (deep 5) []) (create 7 "/d/e/g/n") (isRefused 13)
+    ∷ one "17: mkdir two folders down" (given (deep 7) []) (mkdir 7 "/d/e/g") (isRefused 17)
     -- the call itself is sent; the new node is the last, empty, with the id of the reply, and the call is done with it (SPECIFICATION 5.2, 9.6)
     ∷ row "create is done" w
     (create 6 "/w/g" ⇒ asks (1 ∷ 6 ∷ bytesOf "/w/g") then gives 9 ⇒ isDone 9 nothing then holds (items ++ (file 9 5 6 "g" nothing ∷ [])) [] then end)
     ∷ row "mkdir is done" w
     (mkdir 1 "/w/g" ⇒ asks (2 ∷ 1 ∷ bytesOf "/w/g") then gives 300 ⇒ isDone 300 nothing then holds (items ++ (folder 300 5 1 "g" ∷ [])) [] then end)
     ∷ row "create in the root" w (sendsItself (create 0 "/b") then gives 6 ⇒ isDone 6 nothing then holds (items ++ (file 6 1 0 "b" nothing ∷ [])) [] then end)
+    ∷ row "create three folders down" (given (deep 7) [])
+    (sendsItself (create 6 "/d/e/g/n") then gives 9 ⇒ isDone 9 nothing
+    then holds (deep 7 ++ (file 9 4 6 "n" nothing ∷ [])) [] then end)
+    ∷ row "mkdir three folders down" (given (deep 7) [])
+    (sendsItself (mkdir 5 "/d/e/g/n") then gives 9 ⇒ isDone 9 nothing
+    then holds (deep 7 ++ (folder 9 4 5 "n" ∷ [])) [] then end)
+    ∷ row "create, bytes over 127 in the name" (given (root ∷ []) [])
+    (sendsItself (create 7 (slashed high)) then gives 2 ⇒ isDone 2 nothing
+    then holds (root ∷ file 2 1 7 high nothing ∷ []) [] then create 7 (slashed high) ⇒ isRefused 17 then end)
     -- the tables change when the reply is accepted (SPECIFICATION 5.9)
     ∷ row "create that waits" w (sendsItself (create 7 "/b") then holds items [] then end)
     -- the root has id 1

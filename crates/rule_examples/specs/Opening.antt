@@ -42,11 +42,17 @@ rows =
     -- the open file has its rights, the descriptor of the reply, cursor 0 (SPECIFICATION 9.6); done with the id
     ∷ row "open is done" w
     (openFor 2 "/b" ⇒ asks (3 ∷ 2 ∷ bytesOf "/b") then holds items opens then gives 900 ⇒ isDone 5 nothing then holds items (opens ++ (opened 5 900 2 0 ∷ [])) then end)
+    ∷ row "open for reading" (moded 7)
+    (sendsItself (openFor 1 "/a") then gives 0 ⇒ isDone 2 nothing
+    then holds (root ∷ file 2 1 7 "a" nothing ∷ []) (opened 2 0 1 0 ∷ []) then end)
+    ∷ row "open for writing" (moded 7)
+    (sendsItself (openFor 2 "/a") then gives 0 ⇒ isDone 2 nothing
+    then holds (root ∷ file 2 1 7 "a" nothing ∷ []) (opened 2 0 2 0 ∷ []) then end)
     ∷ row "open for both" (moded 7) (sendsItself (openFor 3 "/a") then gives 0 ⇒ isDone 2 nothing then holds (root ∷ file 2 1 7 "a" nothing ∷ []) (opened 2 0 3 0 ∷ []) then end)
-    -- a file that was closed may be opened again
+    -- a file that was closed may be opened again, and its descriptor given again
     ∷ row "open, close, open" (moded 7)
     (sendsItself (openFor 1 "/a") then gives 4 ⇒ isDone 2 nothing then openFor 1 "/a" ⇒ isRefused 16 then close 2 ⇒ closes 4 then says 0 ⇒ isDone 0 nothing
-    then sendsItself (openFor 1 "/a") then end)
+    then sendsItself (openFor 1 "/a") then gives 4 ⇒ isDone 2 nothing then end)
     -- the table of 24 entries (SPECIFICATION 4.8)
     ∷ (map (uncovered 1) (0 ∷ 1 ∷ 2 ∷ 3 ∷ []) ++ (map (covered 1) (4 ∷ 5 ∷ 6 ∷ 7 ∷ [])
     ++ (map (uncovered 2) (0 ∷ 1 ∷ 4 ∷ 5 ∷ []) ++ (map (covered 2) (2 ∷ 3 ∷ 6 ∷ 7 ∷ [])

@@ -2,11 +2,12 @@
 use mathlib.Core.Path.{_≡_, refl}
 use mathlib.Core.List.{List, [], _∷_, _++_}
 use Prim.Native.Nat.{ℕ}
-use Rattle.rule_examples.specs.Bytes.{many, nothing}
+use Rattle.machine.specs.Tree.{tree}
+use Rattle.rule_examples.specs.Bytes.{many, nothing, config}
 use Rattle.rule_examples.specs.Given.{Item, file, sparse, root, opened, Given, given}
 use Rattle.rule_examples.specs.Events.{replies, read, givesPage}
 use Rattle.rule_examples.specs.Rows.{isDone, isStopped, fetches, _⇒_, holds, Line, _then_, end, Row, row, one}
-use Rattle.rule_examples.specs.Evaluation.{wrong}
+use Rattle.rule_examples.specs.Evaluation.{guardSide, wrong, wrongOn}
 
 -- a file of 3 bytes, one of 1,030
 abbrev three : Item
@@ -23,6 +24,13 @@ reader i c = given (root ∷ i ∷ []) (opened 2 5 1 c ∷ [])
 abbrev left : Item → (cursor : ℕ) → Line
 left i c = holds (root ∷ i ∷ []) (opened 2 5 1 c ∷ [])
 
+-- two pages, the second of 2 bytes
+abbrev page₀ : List ℕ
+page₀ = many 1023 1 ++ (2 ∷ [])
+
+abbrev twoPages : Item
+twoPages = file 2 1 7 "a" (page₀ ++ (3 ∷ 4 ∷ []))
+
 abbrev pub rows : List Row
 rows =
     -- fetches (SPECIFICATION 5.1, 5.2): the page of the cursor is the first
@@ -32,6 +40,9 @@ rows =
     -- the smaller of count and what is left, from the cursor on, which moves (SPECIFICATION 4.3, 4.4); done with the count
     ∷ row "a read of less than remains" (reader three 1)
     (read 2 1 ⇒ fetches 5 0 then givesPage (1 ∷ 2 ∷ 3 ∷ []) ⇒ isDone 1 (2 ∷ []) then left three 2 then end)
+    -- up to a page's edge: the next page is not fetched
+    ∷ row "a read that ends on a page's edge" (reader long 700)
+    (read 2 324 ⇒ fetches 5 0 then givesPage (1 ∷ 2 ∷ 3 ∷ []) ⇒ isDone 324 (many 324 0) then left long 1024 then end)
     -- pages in rising order (SPECIFICATION 5.3)
     ∷ row "a read of all that remains, over a page's edge" (reader long 1022)
     (read 2 4096 ⇒ fetches 5 0 then givesPage (1 ∷ 2 ∷ 3 ∷ []) ⇒ fetches 5 1 then left long 1022
@@ -45,6 +56,29 @@ rows =
     ∷ row "stop 1 before 5: no byte" (reader three 0) (read 2 1 ⇒ fetches 5 0 then replies nothing ⇒ isStopped 1 then end)
     ∷ []
 
+-- on the guard alone, since on the tree whole pages take many seconds: which bytes, of which page
+abbrev pub guardRows : List Row
+guardRows =
+    row "a read over a page's edge" (reader twoPages 1022)
+    (read 2 4096 ⇒ fetches 5 0 then replies page₀ ⇒ fetches 5 1
+    then givesPage (3 ∷ 4 ∷ []) ⇒ isDone 4 (1 ∷ 2 ∷ 3 ∷ 4 ∷ []) then left twoPages 1026 then end)
+    ∷ row "stop 5: the first page of a read" (reader twoPages 0)
+    (read 2 1025 ⇒ fetches 5 0 then givesPage (2 ∷ []) ⇒ isStopped 5 then left twoPages 0 then end)
+    ∷ row "stop 5: the first page for the second" (reader twoPages 1023)
+    (read 2 2 ⇒ fetches 5 0 then replies page₀ ⇒ fetches 5 1 then replies page₀ ⇒ isStopped 5 then end)
+    ∷ row "stop 5: the first page for the last" (reader twoPages 1025)
+    (read 2 1 ⇒ fetches 5 1 then replies page₀ ⇒ isStopped 5 then left twoPages 1025 then end)
+    ∷ []
+
+-- and the bytes that the tree gives over a page's edge
+pub tree-reads : tree config .gathered (page₀ ++ (3 ∷ 4 ∷ [])) 1022 4 tt ≡ 1 ∷ 2 ∷ 3 ∷ 4 ∷ []
+unfolding wrong
+tree-reads = refl
+
 pub rows-hold : wrong rows ≡ []
 unfolding wrong
 rows-hold = refl
+
+pub guard-rows-hold : wrongOn guardSide guardRows ≡ []
+unfolding wrongOn
+guard-rows-hold = refl

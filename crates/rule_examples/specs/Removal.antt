@@ -21,6 +21,10 @@ opens = opened 3 5 1 0 ∷ opened 10 6 1 0 ∷ []
 abbrev w : Given
 w = given items opens
 
+-- `/d` holds one node, `/e` none
+abbrev lone : Item → Given
+lone i = given (root ∷ folder 2 1 7 "d" ∷ i ∷ folder 4 1 7 "e" ∷ []) []
+
 abbrev pub rows : List Row
 rows =
     -- 21 of a directory
@@ -30,6 +34,7 @@ rows =
     -- 13 (parent bit 2), never a bit of the node
     ∷ one "13: remove in a folder without bit 2" w (remove "/r/i") (isRefused 13)
     ∷ one "13 before 16: remove" w (remove "/r/f") (isRefused 13)
+    ∷ one "2 before 13: remove" w (remove "/r/none") (isRefused 2)
     ∷ passes "no 13: remove with the parent's bits 2 and 1" w (remove "/w/z")
     -- 16 of an open file
     ∷ one "16: remove an open file" w (remove "/o") (isRefused 16)
@@ -50,8 +55,14 @@ rows =
     -- 13 (parent bit 2)
     ∷ one "13: rmdir in a folder without bit 2" w (rmdir "/r/g") (isRefused 13)
     ∷ one "13 before 39: rmdir" w (rmdir "/r/h") (isRefused 13)
+    ∷ one "2 before 13: rmdir" w (rmdir "/r/none") (isRefused 2)
     -- 39 of a directory with children
     ∷ one "39: rmdir" w (rmdir "/w") (isRefused 39)
+    ∷ one "39: one file in it" (lone (file 3 2 7 "a" nothing)) (rmdir "/d") (isRefused 39)
+    ∷ one "39: one folder in it" (lone (folder 3 2 7 "a")) (rmdir "/d") (isRefused 39)
+    ∷ passes "no 39: a child of another folder" (lone (file 3 2 7 "a" nothing)) (rmdir "/e")
+    ∷ row "39 no more after the last remove" (lone (file 3 2 7 "a" nothing))
+    (sendsItself (remove "/d/a") then says 0 ⇒ isDone 0 nothing then sendsItself (rmdir "/d") then end)
     ∷ passes "no 39: an empty folder without any bit" w (rmdir "/w/y")
     ∷ row "rmdir is done" w
     (rmdir "/w/y" ⇒ asks (10 ∷ bytesOf "/w/y") then says 0 ⇒ isDone 0 nothing
@@ -63,7 +74,8 @@ rows =
     -- what is in the other files stays with them, and a removed id may be given again
     ∷ row "remove, and the id again" (given (root ∷ file 2 1 7 "a" nothing ∷ file 3 1 7 "b" (1 ∷ 2 ∷ []) ∷ []) [])
     (sendsItself (remove "/a") then says 0 ⇒ isDone 0 nothing then holds (root ∷ file 3 1 7 "b" (1 ∷ 2 ∷ []) ∷ []) []
-    then sendsItself (create 7 "/c") then gives 2 ⇒ isDone 2 nothing then end)
+    then sendsItself (create 7 "/c") then gives 2 ⇒ isDone 2 nothing
+    then holds (root ∷ file 3 1 7 "b" (1 ∷ 2 ∷ []) ∷ file 2 1 7 "c" nothing ∷ []) [] then end)
     ∷ []
 
 pub rows-hold : wrong rows ≡ []

@@ -26,6 +26,10 @@ fetches d i = asks (6 ∷ (four d ++ four i))
 abbrev pub stores : (descriptor page size : ℕ) → Expect
 stores d i s = begins (7 ∷ (four d ++ (four i ++ four s)))
 
+-- one whose page begins so
+abbrev pub storesFront : (descriptor page size : ℕ) → List ℕ → Expect
+storesFront d i s b = begins (7 ∷ (four d ++ (four i ++ (four s ++ b))))
+
 unfoldable pub placed : ℕ → List ℕ → List (ℕ × ℕ)
 placed i [] = []
 placed i (b ∷ s) = (i, b) ∷ placed (suc i) s
