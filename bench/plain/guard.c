@@ -380,7 +380,7 @@ static outcome call_by_handle(struct plain_guard *g, const uint8_t *call, size_t
 outcome plain_call(struct plain_guard *g, const uint8_t *call, size_t n, uint8_t *answer, size_t a, uint8_t *request, size_t q)
 {
     (void)answer;
-    if (g->stopped)
+    if (!g->running)
         return refused(5);
     if (g->pending.call != IDLE)
         return refused(114);
@@ -406,7 +406,7 @@ outcome plain_call(struct plain_guard *g, const uint8_t *call, size_t n, uint8_t
 
 static outcome stop(struct plain_guard *g, unsigned reason)
 {
-    g->stopped = 1;
+    g->running = 0;
     g->pending.call = IDLE;
     return (outcome){STOPPED, reason, 0};
 }
@@ -597,7 +597,7 @@ static outcome cut(struct plain_guard *g, const uint8_t *reply, size_t n)
 
 outcome plain_reply(struct plain_guard *g, const uint8_t *reply, size_t n, uint8_t *answer, size_t a, uint8_t *request, size_t q)
 {
-    if (g->stopped)
+    if (!g->running)
         return refused(5);
     if (g->pending.call == IDLE)
         return refused(61);
@@ -626,7 +626,7 @@ outcome plain_fresh(struct plain_guard *g)
 {
     g->nodes = 1;
     g->opens = g->pages = 0;
-    g->stopped = 0;
+    g->running = 1;
     g->pending.call = IDLE;
     g->node[0] = (struct node){.id = 1, .kind = IS_DIRECTORY, .mode = 7};
     return done(0, 0);
@@ -634,7 +634,7 @@ outcome plain_fresh(struct plain_guard *g)
 
 static unsigned early_fault(const struct plain_guard *g)
 {
-    if (g->stopped)
+    if (!g->running)
         return 5;
     if (g->pending.call != IDLE)
         return 114;

@@ -34,7 +34,7 @@ struct pending {
 
 struct plain_guard {
     uint32_t nodes, opens, pages;
-    uint8_t stopped;
+    uint8_t running; /* 0: stopped, as a guard of zeros is */
     struct pending pending;
     struct node node[NODES];
     struct open_file open[OPEN_FILES];

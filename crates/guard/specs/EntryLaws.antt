@@ -62,7 +62,8 @@ module _ (s : GuardState) where
   load-behind i d = record { first = load-first delivered s i d }
 
 -- with the number r that was found: it is refused, or the machine goes on with the move
-module _ (s : GuardState) {e : Event} {busy quiet : ℕ} {v : Move} (x : Behind s e busy quiet v) {r : ℕ} (t : r ≡ firstOf busy quiet (s .skeleton)) where
+module _ (s : GuardState) {e : Event} {busy quiet : ℕ} {v : Move} (x : Behind s e busy quiet v) {r : ℕ}
+    (t : r ≡ firstOf busy quiet (s .skeleton)) where
   turned-move : (r ≡ 0 → ⊥) → judge delivered (s .skeleton) e ≡ refuse r
   turned-move = turned-away s busy quiet r t e v (x .first)
 
@@ -71,30 +72,37 @@ module _ (s : GuardState) {e : Event} {busy quiet : ℕ} {v : Move} (x : Behind 
   move-stepped z = ap (apply delivered (digestStore delivered) s) (goes-on s busy quiet r t e v (x .first) z)
 
 -- A call or a reply, with the answer buffer a and the request buffer q; the outcome is settled where it leaves.
-module _ (m a q : List ℕ) {e : Event} {busy quiet : ℕ} {v : Move} (b : Behind (held m) e busy quiet v) {r : ℕ} (t : r ≡ firstOf busy quiet (held m .skeleton)) where
+module _ (m a q : List ℕ) {e : Event} {busy quiet : ℕ} {v : Move} (b : Behind (held m) e busy quiet v) {r : ℕ}
+    (t : r ≡ firstOf busy quiet (held m .skeleton)) where
   entered : (o : Outcome) (n a′ q′ : List ℕ) (s : GuardState) → s ≡ settled delivered o (held n)
-      → (Ready (held m) e → Leaves delivered (stepOf (held m) e) o n a a′ q q′) → Enters (held m) e o s (buffers a q) (buffers a′ q′)
+      → (Ready (held m) e → Leaves delivered (stepOf (held m) e) o n a a′ q q′)
+      → Enters (held m) e o s (buffers a q) (buffers a′ q′)
   unfolding settled stops
   entered o n a′ q′ s z f = record {
     steps = λ k. let l = f k in record { state = z ∙ l .state; answer = l .answer; length = l .length };
     buffers-after = λ k. let l = f k in leaves-buffers _ a a′ q q′ (l .filled) (l .request);
-    stops = λ i h. ap (λ (x : GuardState). x .skeleton .stopped) (z ∙ ap (λ (x : Outcome). settled delivered x (held n)) h);
+    stops = λ i h. ap (λ (x : GuardState). x .skeleton .stopped)
+        (z ∙ ap (λ (x : Outcome). settled delivered x (held n)) h);
   }
 
   -- 5, 114 or 61
   pub turned : (r ≡ 0 → ⊥) → Enters (held m) e (Refused r) (held m) (buffers a q) (buffers a q)
   unfolding step settled
   turned h = entered (Refused r) m a q (held m) refl
-      (λ k. sends-leaves delivered _ (Refused r) m q q (refusal-sends delivered (held m) _ r m q (turned-move (held m) b t h) refl) a)
+      (λ k. sends-leaves delivered _ (Refused r) m q q
+      (refusal-sends delivered (held m) _ r m q (turned-move (held m) b t h) refl) a)
 
   module _ (z : r ≡ 0) where
     -- what the move comes to
     pub taken-as : {y : Result (digestStore delivered)} → apply delivered (digestStore delivered) (held m) v ≡ y
         → (o x : Outcome) (n m′ a′ q′ : List ℕ) → x ≡ o → held m′ ≡ settled delivered o (held n)
-        → (Ready (held m) e → Leaves delivered y o n a a′ q q′) → Enters (held m) e x (held m′) (buffers a q) (buffers a′ q′)
-    taken-as w o x n m′ a′ q′ i c f = subst (λ (p : Outcome). Enters (held m) e p (held m′) (buffers a q) (buffers a′ q′)) (sym i)
+        → (Ready (held m) e → Leaves delivered y o n a a′ q q′)
+        → Enters (held m) e x (held m′) (buffers a q) (buffers a′ q′)
+    taken-as w o x n m′ a′ q′ i c f = subst (λ (p : Outcome). Enters (held m) e p (held m′) (buffers a q)
+        (buffers a′ q′)) (sym i)
         (entered o n a′ q′ (held m′) c
-        (λ k. subst (λ (y : Result (digestStore delivered)). Leaves delivered y o n a a′ q q′) (sym (move-stepped (held m) b t z ∙ w)) (f k)))
+        (λ k. subst (λ (y : Result (digestStore delivered)). Leaves delivered y o n a a′ q q′)
+        (sym (move-stepped (held m) b t z ∙ w)) (f k)))
 
     -- 34 of a buffer
     pub refused-as : (n : ℕ) → v ≡ refuse n → Enters (held m) e (Refused n) (held m) (buffers a q) (buffers a q)
@@ -103,7 +111,8 @@ module _ (m a q : List ℕ) {e : Event} {busy quiet : ℕ} {v : Move} (b : Behin
         (λ _. sends-leaves delivered _ (Refused n) m q q (refusal-sends delivered (held m) v n m q w refl) a)
 
 -- what a call or a reply that goes on asks of the state
-module _ (s : GuardState) (b : List ℕ) (a q : ℕ) (l : answerLength delivered ≤ a) (g : requestLength delivered ≤ q) where
+module _ (s : GuardState) (b : List ℕ) (a q : ℕ) (l : answerLength delivered ≤ a)
+    (g : requestLength delivered ≤ q) where
   pub call-ready : firstOf 114 0 (s .skeleton) ≡ 0 → Ready s (call b a q) → Consistent delivered s
   unfolding Ready
   call-ready z k = k z l g
@@ -114,19 +123,27 @@ module _ (s : GuardState) (b : List ℕ) (a q : ℕ) (l : answerLength delivered
 
 -- A save into the buffer i, its digest into d.
 module _ (m i d : List ℕ) {r : ℕ} (t : r ≡ firstOf 114 0 (held m .skeleton)) where
-  saving : (o : Outcome) (m′ i′ d′ : List ℕ) → Saves delivered (stepOf (held m) (save (length i))) o m′ i i′ d d′ → Saving (held m) o (held m′) i i′ d d′
-  saving o m′ i′ d′ h = record { steps = record { state = h .state; answer = h .answer; length = h .length }; image = h .image; digest = h .digest }
+  saving : (o : Outcome) (m′ i′ d′ : List ℕ) → Saves delivered (stepOf (held m) (save (length i))) o m′ i i′ d d′
+      → Saving (held m) o (held m′) i i′ d d′
+  saving o m′ i′ d′ h = record {
+    steps = record { state = h .state; answer = h .answer; length = h .length };
+    image = h .image;
+    digest = h .digest;
+  }
 
   pub save-turned : (r ≡ 0 → ⊥) → Saving (held m) (Refused r) (held m) i i d d
   unfolding step
-  save-turned h = saving (Refused r) m i d (refusal-saves delivered m i d _ r (turned-move (held m) (save-behind (held m) (length i)) t h))
+  save-turned h = saving (Refused r) m i d (refusal-saves delivered m i d _ r
+      (turned-move (held m) (save-behind (held m) (length i)) t h))
 
   pub save-taken : r ≡ 0 → (o : Outcome) (m′ i′ d′ : List ℕ)
-      → (pageTotal (held m .skeleton .tables .nodes) ≤ PAGES → Saves delivered (savedInto delivered (held m) (length i)) o m′ i i′ d d′)
+      → (pageTotal (held m .skeleton .tables .nodes) ≤ PAGES → Saves delivered
+      (savedInto delivered (held m) (length i)) o m′ i i′ d d′)
       → Ready (held m) (save (length i)) → Saving (held m) o (held m′) i i′ d d′
   unfolding savedInto Ready
   save-taken z o m′ i′ d′ f k = saving o m′ i′ d′
-      (subst (λ (y : Result (digestStore delivered)). Saves delivered y o m′ i i′ d d′) (sym (move-stepped (held m) (save-behind (held m) (length i)) t z))
+      (subst (λ (y : Result (digestStore delivered)). Saves delivered y o m′ i i′ d d′)
+      (sym (move-stepped (held m) (save-behind (held m) (length i)) t z))
       (f (k (sym t ∙ z))))
 
 -- A load of image i with digest d.
@@ -137,10 +154,12 @@ module _ (m i d : List ℕ) {r : ℕ} (t : r ≡ firstOf 114 0 (held m .skeleton
       let l = refusal-sends delivered (held m) _ r m [] (turned-move (held m) (load-behind (held m) i d) t h) refl in
       record { state = l .state; answer = l .answer []; length = l .length }
 
-  pub load-taken : r ≡ 0 → (o : Outcome) (m′ : List ℕ) → Loads delivered (loadedFrom delivered (held m) i d) o m′ → Steps (held m) (load i d) o (held m′) [] []
+  pub load-taken : r ≡ 0 → (o : Outcome) (m′ : List ℕ) → Loads delivered (loadedFrom delivered (held m) i d) o m′
+      → Steps (held m) (load i d) o (held m′) [] []
   unfolding loadedFrom
   load-taken z o m′ f =
-      let l = subst (λ (y : Result (digestStore delivered)). Loads delivered y o m′) (sym (move-stepped (held m) (load-behind (held m) i d) t z)) f in
+      let l = subst (λ (y : Result (digestStore delivered)). Loads delivered y o m′)
+      (sym (move-stepped (held m) (load-behind (held m) i d) t z)) f in
       record { state = l .state; answer = l .answer; length = l .length }
 
 -- a memory that is too short holds no guard
@@ -149,21 +168,46 @@ module _ (m : List ℕ) (less : length m < memorySize) where
   same = record { same-length = refl; behind = refl }
 
   pub call-short-memory : {e : Event} → EventBytes e → (b : Buffers) → Promise m e (Refused 34) m b b
-  call-short-memory x b = record { bytes = x; own = same; enters = λ h. absurd (omega arith); short = λ _. (refl, refl, refl) }
+  call-short-memory x b = record {
+    bytes = x;
+    own = same;
+    enters = λ h. absurd (omega arith);
+    short = λ _.
+        (refl, refl, refl);
+  }
 
   pub save-short-memory : (i d : List ℕ) → length d ≡ DIGEST-BYTES → SavePromise m (Refused 34) m i i d d
-  save-short-memory i d n = record { own = same; room = n; saves = λ h. absurd (omega arith); short = λ _. (refl, refl, refl, refl) }
+  save-short-memory i d n = record {
+    own = same;
+    room = n;
+    saves = λ h. absurd (omega arith);
+    short = λ _.
+        (refl, refl, refl, refl);
+  }
 
   pub load-short-memory : (i d : List ℕ) → Bytes i → Bytes d → LoadPromise m i d (Refused 34) m
   unfolding EventBytes
-  load-short-memory i d x y = record { bytes = (x, y); own = same; loads = λ h. absurd (omega arith); short = λ _. (refl, refl) }
+  load-short-memory i d x y = record {
+    bytes = (x, y);
+    own = same;
+    loads = λ h. absurd (omega arith);
+    short = λ _.
+        (refl, refl);
+  }
 
   pub fresh-short-memory : FreshPromise m (Refused 34) m
-  fresh-short-memory = record { own = same; done = λ h. absurd (omega arith); state = λ h. absurd (omega arith); short = λ _. (refl, refl) }
+  fresh-short-memory = record {
+    own = same;
+    done = λ h. absurd (omega arith);
+    state = λ h. absurd
+        (omega arith);
+    short = λ _. (refl, refl);
+  }
 
 -- the memory m, whose front became f
 module _ (m f : List ℕ) (long : memorySize ≤ length m) (same : length f ≡ length (take memorySize m)) where
-  pub call-promised : {e : Event} → EventBytes e → (r : Outcome) (b b′ : Buffers) → Enters (held (take memorySize m)) e r (held f) b b′
+  pub call-promised : {e : Event} → EventBytes e → (r : Outcome) (b b′ : Buffers)
+      → Enters (held (take memorySize m)) e r (held f) b b′
       → Promise m e r (f ++ drop memorySize m) b b′
   call-promised {e = e} x r b b′ h = record {
     bytes = x;
@@ -182,7 +226,8 @@ module _ (m f : List ℕ) (long : memorySize ≤ length m) (same : length f ≡ 
     short = λ l. absurd (omega arith);
   }
 
-  pub load-promised : (i d : List ℕ) → Bytes i → Bytes d → (r : Outcome) → Steps (held (take memorySize m)) (load i d) r (held f) [] []
+  pub load-promised : (i d : List ℕ) → Bytes i → Bytes d → (r : Outcome)
+      → Steps (held (take memorySize m)) (load i d) r (held f) [] []
       → LoadPromise m i d r (f ++ drop memorySize m)
   unfolding EventBytes
   load-promised i d x y r h = record {
@@ -192,7 +237,8 @@ module _ (m f : List ℕ) (long : memorySize ≤ length m) (same : length f ≡ 
     short = λ l. absurd (omega arith);
   }
 
-  pub fresh-promised : held f ≡ fresh delivered (digestStore delivered) → FreshPromise m (Done 0 0) (f ++ drop memorySize m)
+  pub fresh-promised : held f ≡ fresh delivered (digestStore delivered)
+      → FreshPromise m (Done 0 0) (f ++ drop memorySize m)
   fresh-promised h = record {
     own = front-own m f long same;
     done = λ _. refl;

@@ -23,7 +23,8 @@ inside l n b k h = let e : 0 + b ≡ b = omega arith in part-part 0 n b k l h �
 areas-front : (l : List ℕ) (n : ℕ) (ns : List ℕ) (a : ℕ) → a + total ns ≤ n → areas a ns (take n l) ≡ areas a ns l
 areas-front l n [] a h = refl
 areas-front l n (k ∷ ns) a h =
-    ap₂ {B = List (List ℕ)} {C = List (List ℕ)} (λ p q. p ∷ q) (inside l n a k (omega arith)) (areas-front l n ns (a + k) (omega arith))
+    ap₂ {B = List (List ℕ)} {C = List (List ℕ)} (λ p q. p ∷ q) (inside l n a k (omega arith))
+    (areas-front l n ns (a + k) (omega arith))
 
 held-front : (m : List ℕ) → held (take memorySize m) ≡ held m
 unfolding stateOf memOf
@@ -45,7 +46,8 @@ module _ (m f : List ℕ) (long : memorySize ≤ length m) (same : length f ≡ 
       ∙ ap held (ap (λ (n : ℕ). take n (f ++ drop memorySize m)) (sym size) ∙ take-append-seam f (drop memorySize m))
 
   -- what is said of the two fronts' states is said of the memories'
-  pub of-fronts : (P : GuardState → GuardState → Type 0) → P (held (take memorySize m)) (held f) → P (held m) (held (f ++ drop memorySize m))
+  pub of-fronts : (P : GuardState → GuardState → Type 0) → P (held (take memorySize m)) (held f)
+      → P (held m) (held (f ++ drop memorySize m))
   of-fronts P p = subst (P (held m)) (sym held-joined) (subst (λ (s : GuardState). P s (held f)) (held-front m) p)
 
   pub front-own : Own m (f ++ drop memorySize m)

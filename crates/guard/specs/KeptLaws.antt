@@ -24,7 +24,8 @@ pub kept-ready : (m : List ℕ) → Kept m → (e : Event) → Ready (held m) e
 unfolding Ready
 kept-ready m k (call b a q) = λ _ _ _. k .consistent
 kept-ready m k (reply b a q) = λ _ _ _. k .consistent
-kept-ready m k (save n) = λ _. to-sound (delivered .width) _ (k .consistent .holds .valid .tables .nodes-valid .sound) .pages
+kept-ready m k (save n) = λ _. to-sound (delivered .width) _
+    (k .consistent .holds .valid .tables .nodes-valid .sound) .pages
 kept-ready m k (load i d) = tt
 
 pub fresh-kept : (m : List ℕ) (r : Outcome) (m′ : List ℕ) → memorySize ≤ length m → FreshPromise m r m′ → Kept m′
@@ -35,19 +36,24 @@ fresh-kept m r m′ h p = record {
 }
 
 -- what a step leaves
-pub step-kept : (m m′ : List ℕ) (e : Event) → EventBytes e → Kept m → length m′ ≡ length m → held m′ ≡ stepped m e .state → Kept m′
+pub step-kept : (m m′ : List ℕ) (e : Event) → EventBytes e → Kept m → length m′ ≡ length m
+    → held m′ ≡ stepped m e .state → Kept m′
 step-kept m m′ e b k n s = record {
   long = omega (arith, n, k .long);
-  consistent = subst (Consistent delivered) (sym s) (step-consistent delivered digest-fits (held m) e b (k .consistent));
+  consistent = subst (Consistent delivered) (sym s)
+      (step-consistent delivered digest-fits (held m) e b (k .consistent));
 }
 
-pub promise-kept : (m : List ℕ) (e : Event) (r : Outcome) (m′ : List ℕ) (b b′ : Buffers) → Kept m → Promise m e r m′ b b′ → Kept m′
-promise-kept m e r m′ b b′ k p = step-kept m m′ e (p .bytes) k (p .own .same-length) (p .enters (k .long) .steps (kept-ready m k e) .state)
+pub promise-kept : (m : List ℕ) (e : Event) (r : Outcome) (m′ : List ℕ) (b b′ : Buffers) → Kept m
+    → Promise m e r m′ b b′ → Kept m′
+promise-kept m e r m′ b b′ k p = step-kept m m′ e (p .bytes) k (p .own .same-length)
+    (p .enters (k .long) .steps (kept-ready m k e) .state)
 
 pub save-kept : (m : List ℕ) (r : Outcome) (m′ i i′ d d′ : List ℕ) → Kept m → SavePromise m r m′ i i′ d d′ → Kept m′
 unfolding EventBytes
 save-kept m r m′ i i′ d d′ k p =
-    step-kept m m′ (save (length i)) tt k (p .own .same-length) (p .saves (k .long) (kept-ready m k (save (length i))) .steps .state)
+    step-kept m m′ (save (length i)) tt k (p .own .same-length)
+    (p .saves (k .long) (kept-ready m k (save (length i))) .steps .state)
 
 pub load-kept : (m i d : List ℕ) (r : Outcome) (m′ : List ℕ) → Kept m → LoadPromise m i d r m′ → Kept m′
 load-kept m i d r m′ k p = step-kept m m′ (load i d) (p .bytes) k (p .own .same-length) (p .loads (k .long) .state)

@@ -47,16 +47,19 @@ pub record Kept (m : List ℕ) : Type 0 where
 unfoldable pub firstOf : (busy quiet : ℕ) → Skeleton → ℕ
 firstOf busy quiet sk = pick (sk .stopped) 5 (pick (isIdle (sk .pending)) quiet busy)
 
--- Nothing is asked where one of the first numbers refuses the event (5; 114 or 61; then 34 of a call or a reply), and nothing of a load; of a save that
--- there are no more pages than the limit. A call or a reply that goes on asks that the state is consistent.
+-- Nothing is asked where one of the first numbers refuses the event (5; 114 or 61; then 34 of a call or a reply), and
+-- nothing of a load; of a save that there are no more pages than the limit. A call or a reply that goes on asks that the
+-- state is consistent.
 unfoldable pub Ready : GuardState → Event → Type 0
-Ready s (call b a q) = firstOf 114 0 (s .skeleton) ≡ 0 → answerLength delivered ≤ a → requestLength delivered ≤ q → Consistent delivered s
-Ready s (reply b a q) = firstOf 0 61 (s .skeleton) ≡ 0 → answerLength delivered ≤ a → requestLength delivered ≤ q → Consistent delivered s
+Ready s (call b a q) = firstOf 114 0 (s .skeleton) ≡ 0 → answerLength delivered ≤ a → requestLength delivered ≤ q
+    → Consistent delivered s
+Ready s (reply b a q) = firstOf 0 61 (s .skeleton) ≡ 0 → answerLength delivered ≤ a → requestLength delivered ≤ q
+    → Consistent delivered s
 Ready s (save n) = firstOf 114 0 (s .skeleton) ≡ 0 → pageTotal (s .skeleton .tables .nodes) ≤ PAGES
 Ready s (load i d) = Unit {0}
 
--- The outcome r and the state s′ are those of the step, with a and q where an answer's and a request's bytes stand. How many they are is said as a
--- number: bytes that fill a buffer do not say it.
+-- The outcome r and the state s′ are those of the step, with a and q where an answer's and a request's bytes stand. How
+-- many they are is said as a number: bytes that fill a buffer do not say it.
 pub record Steps (s : GuardState) (e : Event) (r : Outcome) (s′ : GuardState) (a q : List ℕ) : Type 0 where
   pub state : s′ ≡ stepOf s e .state
   pub answer : answerIn r a q ≡ stepOf s e .outcome .answer
@@ -70,7 +73,8 @@ pub record Own (m m′ : List ℕ) : Type 0 where
 abbrev pub buffers : (answer request : List ℕ) → Buffers
 buffers a q = record { answer = a; request = q }
 
--- Of a call or a reply, with the buffers b before and b′ afterwards. On a memory that is no guard's own a stop is for good too.
+-- Of a call or a reply, with the buffers b before and b′ afterwards. On a memory that is no guard's own a stop is for
+-- good too.
 pub record Enters (s : GuardState) (e : Event) (r : Outcome) (s′ : GuardState) (b b′ : Buffers) : Type 0 where
   pub steps : Ready s e → Steps s e r s′ (b′ .answer) (b′ .request)
   pub buffers-after : Ready s e → b′ ≡ buffersAfter (stepOf s e .outcome .answer) b
@@ -90,7 +94,8 @@ pub record FreshPromise (m : List ℕ) (r : Outcome) (m′ : List ℕ) : Type 0 
   pub state : memorySize ≤ length m → held m′ ≡ fresh delivered (digestStore delivered)
   pub short : length m < memorySize → (r ≡ Refused 34) × (m′ ≡ m)
 
--- Of a save: the image buffer and the digest's 32 bytes, before i and d, afterwards i′ and d′. A refused save leaves both alone.
+-- Of a save: the image buffer and the digest's 32 bytes, before i and d, afterwards i′ and d′. A refused save leaves
+-- both alone.
 pub record Saving (s : GuardState) (r : Outcome) (s′ : GuardState) (i i′ d d′ : List ℕ) : Type 0 where
   pub steps : Steps s (save (length i)) r s′ i′ []
   pub image : i′ ≡ imageAfter (stepOf s (save (length i)) .outcome .answer) i

@@ -31,11 +31,13 @@ module _ (busy quiet : ℕ) (m : List ℕ) (g : Guard) (e : g ≡ numbersOf (mem
 
     pub tested-busy : p ≡ true → busy ≡ firstOf busy quiet (held m .skeleton)
     unfolding firstOf
-    tested-busy t = sym (pick-false _ _ _ (stop-known ∙ running) ∙ pick-false _ _ _ (busy-number delivered m (sym number ∙ t)))
+    tested-busy t = sym (pick-false _ _ _ (stop-known ∙ running) ∙ pick-false _ _ _
+        (busy-number delivered m (sym number ∙ t)))
 
     pub tested-quiet : p ≡ false → quiet ≡ firstOf busy quiet (held m .skeleton)
     unfolding firstOf
-    tested-quiet t = sym (pick-false _ _ _ (stop-known ∙ running) ∙ pick-true _ _ _ (idle-number delivered m (sym number ∙ t)))
+    tested-quiet t = sym (pick-false _ _ _ (stop-known ∙ running) ∙ pick-true _ _ _
+        (idle-number delivered m (sym number ∙ t)))
 
 -- a reply that goes on: a call is pending, by its number
 module _ (m : List ℕ) (t : firstOf 0 61 (held m .skeleton) ≡ 0) where
@@ -54,4 +56,5 @@ module _ (m : List ℕ) (t : firstOf 0 61 (held m .skeleton) ≡ 0) where
     where
       go : Is (waits call) → (1 ≤ call) × (call ≤ 13)
       go (isT e) = waits-between _ e
-      go (isF e) = absurd (pick-ind (λ (n : ℕ). n ≡ 0 → ⊥) (here .stopped) (λ _ q. omega arith) (λ _ q. omega arith) (none-pending (idle-number delivered m e)))
+      go (isF e) = absurd (pick-ind (λ (n : ℕ). n ≡ 0 → ⊥) (here .stopped) (λ _ q. omega arith) (λ _ q. omega arith)
+          (none-pending (idle-number delivered m e)))

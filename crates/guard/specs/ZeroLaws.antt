@@ -1,4 +1,5 @@
--- A memory of zeros, in which no guard was made fresh: every event is refused 5 and changes nothing (SPECIFICATION 6.5).
+-- A memory of zeros, in which no guard was made fresh: every event is refused 5 and changes nothing (SPECIFICATION
+-- 6.5).
 -- Assumes nothing.
 use mathlib.Core.Path.{_≡_, ap, sym, _∙_}
 use mathlib.Core.Bool.{true}

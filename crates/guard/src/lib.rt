@@ -1,4 +1,5 @@
-// The guard: one memory that the caller lends, and its entries. No entry requires anything; what each promises stands in specs/Promise.antt.
+// The guard: one memory that the caller lends, and its entries. No entry requires anything; what each promises stands
+// in specs/Promise.antt.
 // Functions with `m` work on a memory of just the guard's size; the entries lend them the front of what they get.
 ghost use mathlib.Core.Path.{_≡_};
 ghost use mathlib.Core.Bool.{_||_};
@@ -21,7 +22,8 @@ pub const ANSWER_LENGTH: usize = outcomes::ANSWER_LENGTH;
 
 pub const REQUEST_LENGTH: usize = requests::STORE_LENGTH;
 
-// What C sees of an outcome: 0 done, 1 a request, 2 refused, 3 stopped; its number; how many bytes stand at the front of the answer or the request buffer.
+// What C sees of an outcome: 0 done, 1 a request, 2 refused, 3 stopped; its number; how many bytes stand at the front of
+// the answer or the request buffer.
 #[repr(C)]
 pub struct GuardOutcome {
     pub kind: i32,
@@ -41,7 +43,8 @@ fn is_pending(number: u64) -> bool
     number <= guard_state::calls::CUTTING
 }
 
-// Why an event is refused before what it hands in is looked at: 5, then `busy` where a call is pending and `quiet` where none is. 0: it goes on.
+// Why an event is refused before what it hands in is looked at: 5, then `busy` where a call is pending and `quiet` where
+// none is. 0: it goes on.
 fn first_number(m: &[u8], busy: u8, quiet: u8) -> u8
     requires { ⌜ memorySize ≤ length (now m) ⌝ }
     ensures { λ r. ⌜ r ≡ firstOf busy quiet (held (now (m .entry)) .skeleton) ⌝ }
@@ -83,8 +86,8 @@ fn settle(m: &mut [u8], o: outcomes::Outcome) -> outcomes::Outcome
 fn take_call(m: &mut [u8], bytes: &[u8], answer: &mut [u8], request: &mut [u8]) -> outcomes::Outcome
     requires { ⌜ memorySize ≤ length (now m) ⌝ }
     ensures { λ r. ⌜ Enters (held (now (m .entry)))
-        (call (now (bytes .entry)) (length (now (answer .entry))) (length (now (request .entry)))) r (held (now (m .exit)))
-        (buffers (now (answer .entry)) (now (request .entry))) (buffers (now (answer .exit)) (now (request .exit))) ⌝ }
+        (call (now (bytes .entry)) (length (now (answer .entry))) (length (now (request .entry)))) r
+        (held (now (m .exit))) (buffers (now (answer .entry)) (now (request .entry))) (buffers (now (answer .exit)) (now (request .exit))) ⌝ }
     ensures { λ _. ⌜ length (now (m .exit)) ≡ length (now (m .entry)) ⌝ }
 {
     let b = first_number(m, 114, 0);
@@ -107,8 +110,8 @@ fn take_reply(
 ) -> outcomes::Outcome
     requires { ⌜ memorySize ≤ length (now m) ⌝ }
     ensures { λ r. ⌜ Enters (held (now (m .entry)))
-        (reply (now (bytes .entry)) (length (now (answer .entry))) (length (now (request .entry)))) r (held (now (m .exit)))
-        (buffers (now (answer .entry)) (now (request .entry))) (buffers (now (answer .exit)) (now (request .exit))) ⌝ }
+        (reply (now (bytes .entry)) (length (now (answer .entry))) (length (now (request .entry)))) r
+        (held (now (m .exit))) (buffers (now (answer .entry)) (now (request .entry))) (buffers (now (answer .exit)) (now (request .exit))) ⌝ }
     ensures { λ _. ⌜ length (now (m .exit)) ≡ length (now (m .entry)) ⌝ }
 {
     let b = first_number(m, 0, 61);
@@ -126,8 +129,8 @@ fn take_reply(
 fn take_save(m: &mut [u8], image: &mut [u8], digest: &mut [u8]) -> outcomes::Outcome
     requires { ⌜ (length (now digest) ≡ DIGEST-BYTES) × (memorySize ≤ length (now m)) ⌝ }
     ensures { λ r. ⌜ (Ready (held (now (m .entry))) (save (length (now (image .entry))))
-        → Saving (held (now (m .entry))) r (held (now (m .exit))) (now (image .entry)) (now (image .exit)) (now (digest .entry))
-        (now (digest .exit))) ⌝ }
+        → Saving (held (now (m .entry))) r (held (now (m .exit))) (now (image .entry)) (now (image .exit))
+        (now (digest .entry)) (now (digest .exit))) ⌝ }
     ensures { λ _. ⌜ length (now (m .exit)) ≡ length (now (m .entry)) ⌝ }
 {
     let b = first_number(m, 114, 0);
@@ -140,7 +143,8 @@ fn take_save(m: &mut [u8], image: &mut [u8], digest: &mut [u8]) -> outcomes::Out
 // A load: 5, 114, then 16, 74, 84, or the image's tables.
 fn take_load(m: &mut [u8], image: &[u8], digest: &[u8]) -> outcomes::Outcome
     requires { ⌜ memorySize ≤ length (now m) ⌝ }
-    ensures { λ r. ⌜ Steps (held (now (m .entry))) (load (now (image .entry)) (now (digest .entry))) r (held (now (m .exit))) [] [] ⌝ }
+    ensures { λ r. ⌜ Steps (held (now (m .entry))) (load (now (image .entry)) (now (digest .entry))) r
+        (held (now (m .exit))) [] [] ⌝ }
     ensures { λ _. ⌜ length (now (m .exit)) ≡ length (now (m .entry)) ⌝ }
 {
     let b = first_number(m, 114, 0);

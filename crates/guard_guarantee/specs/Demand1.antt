@@ -1,4 +1,5 @@
--- Demand 1: the page digest is SHA-256, a part of its own. That the code is this function, for every message, is the contract of `digest::sha256`.
+-- Demand 1: the page digest is SHA-256, a part of its own. That the code is this function, for every message, is the
+-- contract of `digest::sha256`.
 -- Assumes nothing.
 use mathlib.Core.Path.{_≡_}
 use mathlib.Core.List.{List}

@@ -1,4 +1,5 @@
--- Demand 2: what each event comes to, of the guard as it is delivered. The entries' outcomes, memories and buffers are the machine's (crate guard,
+-- Demand 2: what each event comes to, of the guard as it is delivered. The entries' outcomes, memories and buffers
+-- are the machine's (crate guard,
 -- specs/Promise.antt); here is what the machine's are, each law by its name.
 -- Assumes nothing.
 use mathlib.Core.Path.{_≡_}
@@ -42,35 +43,47 @@ does s m = apply delivered (digestStore delivered) s m
 
 pub record Demand2 : Type 0 where
   -- refused n exactly where n is the first number whose condition holds, and then nothing changes
-  pub refused-exactly : (s : GuardState) (e : Event) (n : ℕ) → (answerOf s e ≡ refused n) ↔ First n (eventChecks delivered (s .skeleton) e)
+  pub refused-exactly : (s : GuardState) (e : Event) (n : ℕ)
+      → (answerOf s e ≡ refused n) ↔ First n (eventChecks delivered (s .skeleton) e)
   pub refused-same : (s : GuardState) (e : Event) (n : ℕ) → answerOf s e ≡ refused n → stepOf s e .state ≡ s
   -- stopped n exactly where n is the first reason that holds; afterwards every event is refused 5
   pub stops-exactly : (s : GuardState) (r : List ℕ) (a q n : ℕ)
-      → (answerOf s (reply r a q) ≡ stopped n) ↔ (Passed (eventChecks delivered (s .skeleton) (reply r a q)) × First n (stopChecks delivered (digestStore delivered) s r))
-  pub for-good : (s : GuardState) (e : Event) → s .skeleton .stopped ≡ true → stepOf s e ≡ record { outcome = plain (refused 5); state = s }
+      → (answerOf s (reply r a q) ≡ stopped n) ↔
+      (Passed (eventChecks delivered (s .skeleton) (reply r a q)) × First n
+      (stopChecks delivered (digestStore delivered) s r))
+  pub for-good : (s : GuardState) (e : Event) → s .skeleton .stopped ≡ true
+      → stepOf s e ≡ record { outcome = plain (refused 5); state = s }
   -- tables change only where the answer is done
-  pub done-changes : (s : GuardState) (e : Event) → isDoneAnswer (answerOf s e) ≡ false → Unchanged delivered (digestStore delivered) s (stepOf s e .state)
-  -- what a rule says is done is done, and nothing else: the tables are the rule's; a request goes out, and nothing is said to be done
+  pub done-changes : (s : GuardState) (e : Event) → isDoneAnswer (answerOf s e) ≡ false
+      → Unchanged delivered (digestStore delivered) s (stepOf s e .state)
+  -- what a rule says is done is done, and nothing else: the tables are the rule's; a request goes out, and nothing is
+  -- said to be done
   pub finishes : (s : GuardState) (t : Tables) (n : ℕ) (b : List ℕ)
       → (does s (finish t n b) .outcome ≡ plain (done n b)) × (does s (finish t n b) .state .skeleton .tables ≡ t)
   pub adds : (s : GuardState) (n : Node)
-      → (does s (add n) .outcome ≡ plain (done (n .id) [])) × (nodesOf (does s (add n)) ≡ s .skeleton .tables .nodes ++ (n ∷ []))
+      → (does s (add n) .outcome ≡ plain (done (n .id) [])) ×
+      (nodesOf (does s (add n)) ≡ s .skeleton .tables .nodes ++ (n ∷ []))
   pub deletes : (s : GuardState) (k : ℕ)
-      → (does s (delete k) .outcome ≡ plain (done 0 [])) × (nodesOf (does s (delete k)) ≡ without k (s .skeleton .tables .nodes))
+      → (does s (delete k) .outcome ≡ plain (done 0 [])) ×
+      (nodesOf (does s (delete k)) ≡ without k (s .skeleton .tables .nodes))
   pub asks : (s : GuardState) (p : Pending) (q : List ℕ)
       → (does s (send p q) .outcome ≡ plain (ask q)) × (does s (send p q) .state .skeleton .pending ≡ p)
   -- a count that is named was moved: the cursor stands behind it
-  pub reads-move : (s : GuardState) (k o p n i : ℕ) (r : List ℕ) → o < length (s .skeleton .tables .opens) → (m : ℕ) (b : List ℕ)
-      → does s (readPage k o p n i r) .outcome .answer ≡ done m b → (m ≡ n) × (cursorOf (does s (readPage k o p n i r)) o ≡ p + n)
+  pub reads-move : (s : GuardState) (k o p n i : ℕ) (r : List ℕ) → o < length (s .skeleton .tables .opens)
+      → (m : ℕ) (b : List ℕ)
+      → does s (readPage k o p n i r) .outcome .answer ≡ done m b
+      → (m ≡ n) × (cursorOf (does s (readPage k o p n i r)) o ≡ p + n)
   pub writes-move : (s : GuardState) (k o p : ℕ) (d : List ℕ) → o < length (s .skeleton .tables .opens)
       → (finishChange delivered (digestStore delivered) s k o (writing p d) .outcome .answer ≡ done (length d) [])
       × (cursorOf (finishChange delivered (digestStore delivered) s k o (writing p d)) o ≡ p + length d)
   -- 28 and 24 only where the tables are full
   pub create-full : (t : Tables) (m : ℕ) (p : Path) → First 28 (callChecks t (create m p)) → NODES ≤ length (t .nodes)
   pub mkdir-full : (t : Tables) (m : ℕ) (p : Path) → First 28 (callChecks t (mkdir m p)) → NODES ≤ length (t .nodes)
-  pub open-full : (t : Tables) (r : ℕ) (p : Path) → First 24 (callChecks t (openAs r p)) → OPEN-FILES ≤ length (t .opens)
+  pub open-full : (t : Tables) (r : ℕ) (p : Path) → First 24 (callChecks t (openAs r p))
+      → OPEN-FILES ≤ length (t .opens)
   -- an image is read exactly where sound tables print as it
-  pub images : (w : ℕ) (s : List ℕ) (i : Image) → Bytes s → (parse w s ≡ some i) ↔ ((sound w i ≡ true) × Shaped i × (print w i ≡ s))
+  pub images : (w : ℕ) (s : List ℕ) (i : Image) → Bytes s
+      → (parse w s ≡ some i) ↔ ((sound w i ≡ true) × Shaped i × (print w i ≡ s))
 
 pub demand-2 : Demand2
 demand-2 =

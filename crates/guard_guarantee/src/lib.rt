@@ -1,4 +1,5 @@
-// Where code and theorem meet: the guard's entries are the links of the chains that the claim speaks of (specs/Chains.antt). Each function is one entry;
+// Where code and theorem meet: the guard's entries are the links of the chains that the claim speaks of
+// (specs/Chains.antt). Each function is one entry;
 // its promise is the link, so that an entry which promised less would not be proved here.
 ghost use mathlib.Core.List.{[]};
 ghost use lib.ListN.{length};

@@ -13,7 +13,8 @@ use Rattle.guard.proofs.asked.Tie as tie
 
 returns : tie.Need-returns
 returns c = λ f. c .ended .ensures f
-    (λ l e. miss (0 ∷ 2 ∷ 3 ∷ []) 1 tt (subst (λ (x : Outcome). OneOf (0 ∷ 2 ∷ 3 ∷ []) (tagOf outcome.the-type x)) e (c .before .match .keys2)))
+    (λ l e. miss (0 ∷ 2 ∷ 3 ∷ []) 1 tt (subst (λ (x : Outcome). OneOf (0 ∷ 2 ∷ 3 ∷ []) (tagOf outcome.the-type x)) e
+    (c .before .match .keys2)))
 
 returns-2 : tie.Need-returns-2
 unfolding shownAs kindOf valueOf lengthOf

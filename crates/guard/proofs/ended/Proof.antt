@@ -26,7 +26,8 @@ stop (Stopped n) h f g = refl
 
 returns : tie.Need-returns
 returns c = λ f g.
-    ap (λ (n : ℕ). record { kind = pos 3; number = n; length = 0 }) (c .value .ensures) ∙ stop (c .before .before .args .o) (c .before .match .keys2) f g
+    ap (λ (n : ℕ). record { kind = pos 3; number = n; length = 0 }) (c .value .ensures) ∙ stop
+    (c .before .before .args .o) (c .before .match .keys2) f g
 
 returns-2 : tie.Need-returns-2
 unfolding shownAs kindOf valueOf lengthOf

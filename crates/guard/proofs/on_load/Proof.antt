@@ -17,10 +17,12 @@ returns c =
     (bytes-of (a .digest .now) (λ k. omega (arith, d .shared-slice-known2 .given k)))
 
 slice-aggregate : tie.Need-slice-aggregate-take-load
-slice-aggregate c = let j = c .before in sym (front-size (j .before .before .before .before .args .memory .now) (j .if1 .left))
+slice-aggregate c = let j = c .before in sym
+    (front-size (j .before .before .before .before .args .memory .now) (j .if1 .left))
 
 take-load-requires : tie.Need-take-load-requires
-take-load-requires c κs = let j = c .before in let f = front-size (j .before .before .before .before .args .memory .now) (j .if1 .left) in omega arith
+take-load-requires c κs = let j = c .before in let f = front-size
+    (j .before .before .before .before .args .memory .now) (j .if1 .left) in omega arith
 
 returns-2 : tie.Need-returns-2
 returns-2 c =
@@ -33,4 +35,5 @@ returns-2 c =
     (bytes-of (a .digest .now) (λ k. omega (arith, d .shared-slice-known2 .given k))) _ (t .take-load .ensures .0)
 
 pub on-load-spec : {M : Type 1} → statement M
-on-load-spec = tie.close (tie.spec returns (λ c. search needs) slice-aggregate take-load-requires (λ c. search needs) returns-2)
+on-load-spec = tie.close (tie.spec returns (λ c. search needs) slice-aggregate take-load-requires
+    (λ c. search needs) returns-2)

@@ -14,7 +14,8 @@ returns c =
     save-short-memory (a .memory .now) (c .if1 .taken) (a .image .now) (a .digest .now) (b .pre)
 
 slice-aggregate : tie.Need-slice-aggregate-take-save
-slice-aggregate c = let j = c .before in sym (front-size (j .before .before .before .before .args .memory .now) (j .if1 .left))
+slice-aggregate c = let j = c .before in sym
+    (front-size (j .before .before .before .before .args .memory .now) (j .if1 .left))
 
 take-save-requires : tie.Need-take-save-requires
 take-save-requires c κs =
@@ -29,9 +30,11 @@ returns-2 c =
     let j = t .before .before .before .before in
     let b = j .before .before .before .before in
     let a = b .args in
-    save-promised (a .memory .now) _ (j .if1 .left) (t .take-save .ensures .1) _ _ _ _ _ (b .pre) (t .take-save .ensures .0)
+    save-promised (a .memory .now) _ (j .if1 .left) (t .take-save .ensures .1) _ _ _ _ _ (b .pre)
+    (t .take-save .ensures .0)
 
 pub save-into-spec : {M : Type 1} → statement M
 save-into-spec =
     tie.close
-    (tie.spec returns (λ c. search needs) slice-aggregate take-save-requires (λ c. search needs) (λ c. search needs) (λ c. search needs) returns-2)
+    (tie.spec returns (λ c. search needs) slice-aggregate take-save-requires (λ c. search needs) (λ c. search needs)
+    (λ c. search needs) returns-2)

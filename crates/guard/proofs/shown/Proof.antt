@@ -14,7 +14,8 @@ use Rattle.guard.proofs.shown.Tie as tie
 returns : tie.Need-returns
 returns c =
     c .asked .ensures
-    (λ n l e. miss (1 ∷ 2 ∷ 3 ∷ []) 0 tt (subst (λ (x : Outcome). OneOf (1 ∷ 2 ∷ 3 ∷ []) (tagOf outcome.the-type x)) e (c .before .match .keys2)))
+    (λ n l e. miss (1 ∷ 2 ∷ 3 ∷ []) 0 tt (subst (λ (x : Outcome). OneOf (1 ∷ 2 ∷ 3 ∷ []) (tagOf outcome.the-type x)) e
+    (c .before .match .keys2)))
 
 returns-2 : tie.Need-returns-2
 unfolding shownAs kindOf valueOf lengthOf

@@ -25,4 +25,5 @@ returns-2 c =
     )
 
 pub take-load-spec : {M : Type 1} → statement M
-take-load-spec = tie.close (tie.spec (λ c κs. search needs) (λ c. search needs) returns (λ c κs. search needs) (λ c. search needs) returns-2)
+take-load-spec = tie.close (tie.spec (λ c κs. search needs) (λ c. search needs) returns (λ c κs. search needs)
+    (λ c. search needs) returns-2)

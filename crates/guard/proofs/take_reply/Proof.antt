@@ -14,15 +14,19 @@ use Rattle.guard.proofs.take_reply.Tie as tie
 returns : tie.Need-returns
 returns c =
     let f = c .before in
-    let a = f .before .before .before .before .before .before .args in
-    (turned (a .m .now) (a .answer .now) (a .request .now) (reply-behind (held (a .m .now)) (a .bytes .now) _ _) (f .first-number .ensures) (c .if1 .taken), refl)
+    let a = f .before .before .before .before .before .before .args in (
+      turned (a .m .now) (a .answer .now) (a .request .now) (reply-behind (held (a .m .now)) (a .bytes .now) _ _)
+          (f .first-number .ensures) (c .if1 .taken),
+      refl,
+    )
 
 returns-2 : tie.Need-returns-2
 returns-2 c =
     let x = c .before in
     let f = x .before .before in
     let a = f .before .before .before .before .before .before .args in (
-      refused-as (a .m .now) (a .answer .now) (a .request .now) (reply-behind (held (a .m .now)) (a .bytes .now) _ _) (f .first-number .ensures) (x .before .if1 .left) 34
+      refused-as (a .m .now) (a .answer .now) (a .request .now) (reply-behind (held (a .m .now)) (a .bytes .now) _ _)
+          (f .first-number .ensures) (x .before .if1 .left) 34
           (reply-short delivered (held (a .m .now)) (a .bytes .now) _ _ (sym (x .is-short .ensures) ∙ c .if2 .taken)),
       refl,
     )
@@ -32,7 +36,8 @@ accept-reply-requires c κs =
     let j = c .before .before .before in
     let x = j .before in
     let a = x .before .before .before .before .before .before .before .before .args in
-    let z = long-enough (length (a .answer .now)) (length (a .request .now)) (sym (x .is-short .ensures) ∙ j .if2 .left) in
+    let z = long-enough (length (a .answer .now)) (length (a .request .now))
+    (sym (x .is-short .ensures) ∙ j .if2 .left) in
     (omega arith, answer-room _ (z .0), store-room _ (z .1))
 
 returns-3 : tie.Need-returns-3
@@ -44,17 +49,22 @@ returns-3 c =
     let f = x .before .before in
     let a = f .before .before .before .before .before .before .args in
     let s = held (a .m .now) in
-    let z = long-enough (length (a .answer .now)) (length (a .request .now)) (sym (x .is-short .ensures) ∙ j .if2 .left) in
+    let z = long-enough (length (a .answer .now)) (length (a .request .now))
+    (sym (x .is-short .ensures) ∙ j .if2 .left) in
     let w = sym (f .first-number .ensures) ∙ x .before .if1 .left in
     let n = pending-number (a .m .now) w in (
-      taken-as (a .m .now) (a .answer .now) (a .request .now) (reply-behind s (a .bytes .now) _ _) (f .first-number .ensures) (x .before .if1 .left)
-          (reply-read delivered s (a .bytes .now) _ _ (sym (x .is-short .ensures) ∙ j .if2 .left)) _ _ _ _ _ _ (t .settle .ensures .0 .0) (t .settle .ensures .0 .1)
-          (λ k. v .accept-reply .ensures .0 delivered digest-delivered width-delivered (reply-ready s (a .bytes .now) _ _ (z .0) (z .1) w k) (n .0) (n .1) (z .0)),
+      taken-as (a .m .now) (a .answer .now) (a .request .now) (reply-behind s (a .bytes .now) _ _)
+          (f .first-number .ensures) (x .before .if1 .left)
+          (reply-read delivered s (a .bytes .now) _ _ (sym (x .is-short .ensures) ∙ j .if2 .left)) _ _ _ _ _ _
+          (t .settle .ensures .0 .0) (t .settle .ensures .0 .1)
+          (λ k. v .accept-reply .ensures .0 delivered digest-delivered width-delivered
+          (reply-ready s (a .bytes .now) _ _ (z .0) (z .1) w k) (n .0) (n .1) (z .0)),
       omega arith,
     )
 
 pub take-reply-spec : {M : Type 1} → statement M
 take-reply-spec =
     tie.close
-    (tie.spec (λ c κs. search needs) (λ c. search needs) returns (λ c κs. search needs) (λ c. search needs) returns-2 accept-reply-requires
+    (tie.spec (λ c κs. search needs) (λ c. search needs) returns (λ c κs. search needs)
+    (λ c. search needs) returns-2 accept-reply-requires
     (λ c κs. search needs) (λ c. search needs) (λ c. search needs) (λ c. search needs) returns-3)

@@ -14,7 +14,8 @@ returns c =
     (λ k. save-turned (a .m .now) (a .image .now) (a .digest .now) (f .first-number .ensures) (c .if1 .taken), refl)
 
 save-requires : tie.Need-save-requires
-save-requires c κs = let b = c .before .before .before .before .before .before .before .before .before in (omega (arith, b .pre .0), omega arith)
+save-requires c κs = let b = c .before .before .before .before .before .before .before .before .before in
+    (omega (arith, b .pre .0), omega arith)
 
 returns-2 : tie.Need-returns-2
 returns-2 c =
@@ -30,4 +31,5 @@ returns-2 c =
 pub take-save-spec : {M : Type 1} → statement M
 take-save-spec =
     tie.close
-    (tie.spec (λ c κs. search needs) (λ c. search needs) returns save-requires (λ c. search needs) (λ c. search needs) (λ c. search needs) returns-2)
+    (tie.spec (λ c κs. search needs) (λ c. search needs) returns save-requires (λ c. search needs) (λ c. search needs)
+    (λ c. search needs) returns-2)
