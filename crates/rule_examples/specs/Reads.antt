@@ -70,10 +70,14 @@ guardRows =
     (read 2 1 ⇒ fetches 5 1 then replies page₀ ⇒ isStopped 5 then left twoPages 1025 then end)
     ∷ []
 
--- and the bytes that the tree gives over a page's edge
+-- and the bytes that the tree gives, over a page's edge and behind it
 pub tree-reads : tree config .gathered (page₀ ++ (3 ∷ 4 ∷ [])) 1022 4 tt ≡ 1 ∷ 2 ∷ 3 ∷ 4 ∷ []
 unfolding wrong
 tree-reads = refl
+
+pub tree-reads-behind : tree config .gathered (page₀ ++ (3 ∷ 4 ∷ [])) 1025 1 tt ≡ 4 ∷ []
+unfolding wrong
+tree-reads-behind = refl
 
 pub rows-hold : wrong rows ≡ []
 unfolding wrong
