@@ -40,9 +40,6 @@ rows =
     -- the smaller of count and what is left, from the cursor on, which moves (SPECIFICATION 4.3, 4.4); done with the count
     ∷ row "a read of less than remains" (reader three 1)
     (read 2 1 ⇒ fetches 5 0 then givesPage (1 ∷ 2 ∷ 3 ∷ []) ⇒ isDone 1 (2 ∷ []) then left three 2 then end)
-    -- up to a page's edge: the next page is not fetched
-    ∷ row "a read that ends on a page's edge" (reader long 700)
-    (read 2 324 ⇒ fetches 5 0 then givesPage (1 ∷ 2 ∷ 3 ∷ []) ⇒ isDone 324 (many 324 0) then left long 1024 then end)
     -- pages in rising order (SPECIFICATION 5.3)
     ∷ row "a read of all that remains, over a page's edge" (reader long 1022)
     (read 2 4096 ⇒ fetches 5 0 then givesPage (1 ∷ 2 ∷ 3 ∷ []) ⇒ fetches 5 1 then left long 1022
@@ -62,6 +59,9 @@ guardRows =
     row "a read over a page's edge" (reader twoPages 1022)
     (read 2 4096 ⇒ fetches 5 0 then replies page₀ ⇒ fetches 5 1
     then givesPage (3 ∷ 4 ∷ []) ⇒ isDone 4 (1 ∷ 2 ∷ 3 ∷ 4 ∷ []) then left twoPages 1026 then end)
+    -- up to the edge: the next page is not fetched
+    ∷ row "a read that ends on a page's edge" (reader twoPages 700)
+    (read 2 324 ⇒ fetches 5 0 then replies page₀ ⇒ isDone 324 (many 323 1 ++ (2 ∷ [])) then left twoPages 1024 then end)
     ∷ row "stop 5: the first page of a read" (reader twoPages 0)
     (read 2 1025 ⇒ fetches 5 0 then givesPage (2 ∷ []) ⇒ isStopped 5 then left twoPages 0 then end)
     ∷ row "stop 5: the first page for the second" (reader twoPages 1023)
@@ -70,10 +70,14 @@ guardRows =
     (read 2 1 ⇒ fetches 5 1 then replies page₀ ⇒ isStopped 5 then left twoPages 1025 then end)
     ∷ []
 
--- and the bytes that the tree gives over a page's edge
+-- and the bytes that the tree gives, over a page's edge and behind it
 pub tree-reads : tree config .gathered (page₀ ++ (3 ∷ 4 ∷ [])) 1022 4 tt ≡ 1 ∷ 2 ∷ 3 ∷ 4 ∷ []
 unfolding wrong
 tree-reads = refl
+
+pub tree-reads-behind : tree config .gathered (page₀ ++ (3 ∷ 4 ∷ [])) 1025 1 tt ≡ 4 ∷ []
+unfolding wrong
+tree-reads-behind = refl
 
 pub rows-hold : wrong rows ≡ []
 unfolding wrong

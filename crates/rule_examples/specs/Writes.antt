@@ -47,8 +47,7 @@ rows =
     -- from the end on: the page of the end is fetched where a byte of it stands before the end, so not on a page's edge
     ∷ one "a write from the end on" (writer three 3) (write 2 (9 ∷ [])) (fetches 5 0)
     ∷ row "a write from the end on, on a page's edge" (writer onePage 1024)
-    (write 2 (9 ∷ []) ⇒ stores 5 1 1025 then leftSize 1024 1024
-    then says 1024 ⇒ isDone 1 nothing then left (file 2 1 7 "a" (4 ∷ many 1023 0 ++ (9 ∷ []))) 1025 then end)
+    (write 2 (9 ∷ []) ⇒ stores 5 1 1025 then leftSize 1024 1024 then says 1024 ⇒ isDone 1 nothing then leftSize 1025 1025 then end)
     -- the size sent with each page (SPECIFICATION 5.7); pages in rising order (5.3)
     ∷ row "a write of 1,025 bytes into an empty file" (writer empty 0)
     (write 2 (many 1025 9) ⇒ stores 5 0 1024 then says 1024 ⇒ stores 5 1 1025 then left empty 0 then says 1024 ⇒ isDone 1025 nothing then leftSize 1025 1025 then end)
@@ -92,9 +91,12 @@ guardRows =
     then givesPage (1 ∷ 2 ∷ 3 ∷ []) ⇒ storesFront 5 0 5 (1 ∷ 7 ∷ 8 ∷ 9 ∷ 10 ∷ 0 ∷ [])
     then says 1024 ⇒ isDone 4 nothing then left (file 2 1 7 "a" (1 ∷ 7 ∷ 8 ∷ 9 ∷ 10 ∷ [])) 5 then end)
     ∷ row "a write over a page's edge" (writer pageAndTwo 1023)
-    (write 2 (7 ∷ 8 ∷ []) ⇒ fetches 5 0 then givesPage (5 ∷ []) ⇒ storesFront 5 0 1026 (5 ∷ 0 ∷ [])
-    then says 1024 ⇒ fetches 5 1 then givesPage nothing ⇒ storesFront 5 1 1026 (8 ∷ 0 ∷ [])
-    then says 1024 ⇒ isDone 2 nothing then left (sparse 2 1 7 "a" 1026 (5 ∷ many 1022 0 ++ (7 ∷ 8 ∷ []))) 1025 then end)
+    (write 2 (7 ∷ 8 ∷ 9 ∷ []) ⇒ fetches 5 0 then givesPage (5 ∷ []) ⇒ storesFront 5 0 1026 (5 ∷ 0 ∷ [])
+    then says 1024 ⇒ storesFront 5 1 1026 (8 ∷ 9 ∷ 0 ∷ [])
+    then says 1024 ⇒ isDone 3 nothing then left (file 2 1 7 "a" (5 ∷ many 1022 0 ++ (7 ∷ 8 ∷ 9 ∷ []))) 1026 then end)
+    ∷ row "a write on a page's edge" (writer onePage 1024)
+    (write 2 (9 ∷ []) ⇒ storesFront 5 1 1025 (9 ∷ 0 ∷ [])
+    then says 1024 ⇒ isDone 1 nothing then left (file 2 1 7 "a" (4 ∷ many 1023 0 ++ (9 ∷ []))) 1025 then end)
     ∷ []
 
 pub guard-rows-hold : wrongOn guardSide guardRows ≡ []
