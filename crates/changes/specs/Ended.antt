@@ -61,6 +61,6 @@ module _ (c : Config) (m : List ℕ) (q : Change) (k o size cursor from count nu
             ∙ (λ i. restingState c (cursorAt o cursor (withChange (zeroDigest c) k size from (stagedDigests count (memOf m .staged)) (viewOf (e i) (f i) (memOf m)))))
             ∙ change-rests;
         answer = λ a. ap (λ (x : ℕ). done x []) (h .says);
-        length = refl;
+        count = refl;
         request = refl;
       }

@@ -79,7 +79,7 @@ module _ (m a q : List ℕ) {e : Event} {busy quiet : ℕ} {v : Move} (b : Behin
       → Enters (held m) e o s (buffers a q) (buffers a′ q′)
   unfolding settled stops
   entered o n a′ q′ s z f = record {
-    steps = λ k. let l = f k in record { state = z ∙ l .state; answer = l .answer; length = l .length };
+    steps = λ k. let l = f k in record { state = z ∙ l .state; answer = l .answer; count = l .count };
     buffers-after = λ k. let l = f k in leaves-buffers _ a a′ q q′ (l .filled) (l .request);
     stops = λ i h. ap (λ (x : GuardState). x .skeleton .stopped)
         (z ∙ ap (λ (x : Outcome). settled delivered x (held n)) h);
@@ -126,7 +126,7 @@ module _ (m i d : List ℕ) {r : ℕ} (t : r ≡ firstOf 114 0 (held m .skeleton
   saving : (o : Outcome) (m′ i′ d′ : List ℕ) → Saves delivered (stepOf (held m) (save (length i))) o m′ i i′ d d′
       → Saving (held m) o (held m′) i i′ d d′
   saving o m′ i′ d′ h = record {
-    steps = record { state = h .state; answer = h .answer; length = h .length };
+    steps = record { state = h .state; answer = h .answer; count = h .count };
     image = h .image;
     digest = h .digest;
   }
@@ -152,7 +152,7 @@ module _ (m i d : List ℕ) {r : ℕ} (t : r ≡ firstOf 114 0 (held m .skeleton
   unfolding step settled
   load-turned h =
       let l = refusal-sends delivered (held m) _ r m [] (turned-move (held m) (load-behind (held m) i d) t h) refl in
-      record { state = l .state; answer = l .answer []; length = l .length }
+      record { state = l .state; answer = l .answer []; count = l .count }
 
   pub load-taken : r ≡ 0 → (o : Outcome) (m′ : List ℕ) → Loads delivered (loadedFrom delivered (held m) i d) o m′
       → Steps (held m) (load i d) o (held m′) [] []
@@ -160,7 +160,7 @@ module _ (m i d : List ℕ) {r : ℕ} (t : r ≡ firstOf 114 0 (held m .skeleton
   load-taken z o m′ f =
       let l = subst (λ (y : Result (digestStore delivered)). Loads delivered y o m′)
       (sym (move-stepped (held m) (load-behind (held m) i d) t z)) f in
-      record { state = l .state; answer = l .answer; length = l .length }
+      record { state = l .state; answer = l .answer; count = l .count }
 
 -- a memory that is too short holds no guard
 module _ (m : List ℕ) (less : length m < memorySize) where

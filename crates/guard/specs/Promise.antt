@@ -63,7 +63,7 @@ Ready s (load i d) = Unit {0}
 pub record Steps (s : GuardState) (e : Event) (r : Outcome) (s′ : GuardState) (a q : List ℕ) : Type 0 where
   pub state : s′ ≡ stepOf s e .state
   pub answer : answerIn r a q ≡ stepOf s e .outcome .answer
-  pub length : lengthOf r ≡ bytesIn (stepOf s e .outcome .answer)
+  pub count : lengthOf r ≡ bytesIn (stepOf s e .outcome .answer)
 
 -- only the guard's own bytes change
 pub record Own (m m′ : List ℕ) : Type 0 where

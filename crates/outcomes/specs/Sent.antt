@@ -29,21 +29,21 @@ settled c (Stopped n) s = stops c s
 pub record Sends (c : Config) (x : Result (digestStore c)) (r : Outcome) (m q q′ : List ℕ) : Type 0 where
   pub state : settled c r (stateOf c m) ≡ x .state
   pub answer : (a : List ℕ) → answerIn r a q′ ≡ x .outcome .answer
-  pub length : lengthOf r ≡ bytesIn (x .outcome .answer)
+  pub count : lengthOf r ≡ bytesIn (x .outcome .answer)
   pub request : q′ ≡ atFront (requestBytes (x .outcome .answer)) q
 
 -- and where bytes go to the front of the answer buffer, before a and now a′; the request buffer is not touched
 pub record Fills (c : Config) (x : Result (digestStore c)) (r : Outcome) (m a a′ : List ℕ) : Type 0 where
   pub state : settled c r (stateOf c m) ≡ x .state
   pub answer : (q : List ℕ) → answerIn r a′ q ≡ x .outcome .answer
-  pub length : lengthOf r ≡ bytesIn (x .outcome .answer)
+  pub count : lengthOf r ≡ bytesIn (x .outcome .answer)
   pub filled : a′ ≡ atFront (answerBytes (x .outcome .answer)) a
 
 -- and where both are lent
 pub record Leaves (c : Config) (x : Result (digestStore c)) (r : Outcome) (m a a′ q q′ : List ℕ) : Type 0 where
   pub state : settled c r (stateOf c m) ≡ x .state
   pub answer : answerIn r a′ q′ ≡ x .outcome .answer
-  pub length : lengthOf r ≡ bytesIn (x .outcome .answer)
+  pub count : lengthOf r ≡ bytesIn (x .outcome .answer)
   pub filled : a′ ≡ atFront (answerBytes (x .outcome .answer)) a
   pub request : q′ ≡ atFront (requestBytes (x .outcome .answer)) q
 
@@ -71,7 +71,7 @@ module _ (c : Config) (x : Result (digestStore c)) (r : Outcome) where
   sends-leaves m q q′ h a = record {
     state = h .state;
     answer = h .answer a;
-    length = h .length;
+    count = h .count;
     filled = sym (ap (λ (b : List ℕ). atFront b a) (no-answer-bytes r q′ (x .outcome .answer) (h .answer [])) ∙ overwrite-none 0 a 0);
     request = h .request;
   }
@@ -80,7 +80,7 @@ module _ (c : Config) (x : Result (digestStore c)) (r : Outcome) where
   fills-leaves m a a′ h q = record {
     state = h .state;
     answer = h .answer q;
-    length = h .length;
+    count = h .count;
     filled = h .filled;
     request = sym (ap (λ (b : List ℕ). atFront b q) (no-request-bytes r a′ (x .outcome .answer) (h .answer [])) ∙ overwrite-none 0 q 0);
   }
@@ -95,7 +95,7 @@ asking-sends c s y p x a m q q′ o z g u e h = record {
       ap (λ (n : Outcome). answerIn n b q′) e
       ∙ ap ask (ap (take (length x)) u ∙ take-overwrite q 0 x (length x) (omega arith) (omega arith))
       ∙ ap (λ d. d .outcome .answer) (sym z);
-  length = ap lengthOf e ∙ ap (λ d. bytesIn (d .outcome .answer)) (sym z);
+  count = ap lengthOf e ∙ ap (λ d. bytesIn (d .outcome .answer)) (sym z);
   request = u ∙ ap (λ d. atFront (requestBytes (d .outcome .answer)) q) (sym z);
 }
 
@@ -106,7 +106,7 @@ module _ (c : Config) (s : State (digestStore c)) (v : Move) where
   refusal-sends n m q z g = record {
     state = g ∙ ap (λ d. apply c (digestStore c) s d .state) (sym z);
     answer = λ a. ap (λ d. apply c (digestStore c) s d .outcome .answer) (sym z);
-    length = ap (λ d. bytesIn (apply c (digestStore c) s d .outcome .answer)) (sym z);
+    count = ap (λ d. bytesIn (apply c (digestStore c) s d .outcome .answer)) (sym z);
     request = ap (λ d. atFront (requestBytes (apply c (digestStore c) s d .outcome .answer)) q) (sym z);
   }
 
@@ -115,7 +115,7 @@ module _ (c : Config) (s : State (digestStore c)) (v : Move) where
   stop-sends n m q z g = record {
     state = ap (stops c) g ∙ ap (λ d. apply c (digestStore c) s d .state) (sym z);
     answer = λ a. ap (λ d. apply c (digestStore c) s d .outcome .answer) (sym z);
-    length = ap (λ d. bytesIn (apply c (digestStore c) s d .outcome .answer)) (sym z);
+    count = ap (λ d. bytesIn (apply c (digestStore c) s d .outcome .answer)) (sym z);
     request = ap (λ d. atFront (requestBytes (apply c (digestStore c) s d .outcome .answer)) q) (sym z);
   }
 
@@ -126,7 +126,7 @@ module _ (c : Config) (s : State (digestStore c)) (v : Move) where
   done-sends t x n m q z g = record {
     state = g ∙ ap (λ d. d .state) (sym z);
     answer = λ a. ap (λ d. d .outcome .answer) (sym z);
-    length = ap (λ d. bytesIn (d .outcome .answer)) (sym z);
+    count = ap (λ d. bytesIn (d .outcome .answer)) (sym z);
     request = ap (λ d. atFront (requestBytes (d .outcome .answer)) q) (sym z);
   }
 

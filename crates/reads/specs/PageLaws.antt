@@ -68,7 +68,7 @@ last-fills c s k o p n i l b x y m a a′ h f g w z e =
       answer = λ q.
           ap (done n) (ap (λ (j : ℕ). take j a′) e ∙ ap (take (length (b ++ y))) z ∙ take-overwrite a 0 (b ++ y) (length (b ++ y)) (omega arith) (omega arith))
           ∙ ap (λ (d : Result (digestStore c)). d .outcome .answer) (sym t);
-      length = e ∙ ap (λ (d : Result (digestStore c)). bytesIn (d .outcome .answer)) (sym t);
+      count = e ∙ ap (λ (d : Result (digestStore c)). bytesIn (d .outcome .answer)) (sym t);
       filled = z ∙ ap (λ (d : Result (digestStore c)). atFront (answerBytes (d .outcome .answer)) a) (sym t);
     }
 

@@ -147,7 +147,7 @@ module _ (c : Config) (wide : c .width ≡ ID-BYTES) (s : State (digestStore c))
       record {
         state = z [] .state;
         answer = λ q. z q .answer a;
-        length = z [] .length;
+        count = z [] .count;
         filled = sends-leaves c (answered c s r) (Stopped b) x [] [] (z []) a .filled;
       }
 
@@ -162,6 +162,6 @@ module _ (c : Config) (wide : c .width ≡ ID-BYTES) (s : State (digestStore c))
         answer = λ q.
             ap (done n) (ap (λ (j : ℕ). take j a′) h ∙ ap (take (length y)) w ∙ take-overwrite a 0 y (length y) (omega arith) (omega arith))
             ∙ ap (λ (d : Move). apply c (digestStore c) s d .outcome .answer) (sym z);
-        length = h ∙ ap (λ (d : Move). bytesIn (apply c (digestStore c) s d .outcome .answer)) (sym z);
+        count = h ∙ ap (λ (d : Move). bytesIn (apply c (digestStore c) s d .outcome .answer)) (sym z);
         filled = w ∙ ap (λ (d : Move). atFront (answerBytes (apply c (digestStore c) s d .outcome .answer)) a) (sym z);
       }

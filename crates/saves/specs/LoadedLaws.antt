@@ -70,7 +70,7 @@ module _ (c : Config) (m : List ℕ) (g : Guard) (e : g ≡ numbersOf (memOf m .
 
   pub load-refused : (n : ℕ) → loadMove c here i d ≡ refuse n → Loads c (loadedFrom c here i d) (Refused n) m
   unfolding loadedFrom settled
-  load-refused n z = let l = refusal-sends c here _ n m [] z refl in record { state = l .state; answer = l .answer []; length = l .length }
+  load-refused n z = let l = refusal-sends c here _ n m [] z refl in record { state = l .state; answer = l .answer []; count = l .count }
 
   -- the open files stay: there are none
   no-opens : g .opens ≤ 0 → here .skeleton .tables .opens ≡ []
@@ -106,4 +106,4 @@ module _ (c : Config) (m : List ℕ) (g : Guard) (e : g ≡ numbersOf (memOf m .
     unfolding loadedFrom settled
     load-done m′ z s =
         let l = done-sends c here _ tables contents 0 m′ [] (move-loads z) (s ∙ rests-loaded) in
-        record { state = l .state; answer = l .answer []; length = l .length }
+        record { state = l .state; answer = l .answer []; count = l .count }

@@ -36,12 +36,12 @@ module _ (c : Config) (s : State (digestStore c)) where
 pub record Loads (c : Config) (x : Result (digestStore c)) (r : Outcome) (m : List ℕ) : Type 0 where
   pub state : stateOf c m ≡ x .state
   pub answer : answerIn r [] [] ≡ x .outcome .answer
-  pub length : lengthOf r ≡ bytesIn (x .outcome .answer)
+  pub count : lengthOf r ≡ bytesIn (x .outcome .answer)
 
 -- What a save leaves: the outcome r, the memory m, the image buffer, before i and now i′, and the digest, before d and now d′, are those of x.
 pub record Saves (c : Config) (x : Result (digestStore c)) (r : Outcome) (m i i′ d d′ : List ℕ) : Type 0 where
   pub state : stateOf c m ≡ x .state
   pub answer : answerIn r i′ [] ≡ x .outcome .answer
-  pub length : lengthOf r ≡ bytesIn (x .outcome .answer)
+  pub count : lengthOf r ≡ bytesIn (x .outcome .answer)
   pub image : i′ ≡ imageAfter (x .outcome .answer) i
   pub digest : d′ ≡ atFront (x .outcome .digest) d

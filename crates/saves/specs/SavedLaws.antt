@@ -107,7 +107,7 @@ unfolding apply answerIn lengthOf bytesIn imageAfter answerBytes overwrite
 refusal-saves c m i d v n z = record {
   state = ap (λ w. apply c (digestStore c) (stateOf c m) w .state) (sym z);
   answer = ap (λ w. apply c (digestStore c) (stateOf c m) w .outcome .answer) (sym z);
-  length = ap (λ w. bytesIn (apply c (digestStore c) (stateOf c m) w .outcome .answer)) (sym z);
+  count = ap (λ w. bytesIn (apply c (digestStore c) (stateOf c m) w .outcome .answer)) (sym z);
   image = ap (λ w. imageAfter (apply c (digestStore c) (stateOf c m) w .outcome .answer) i) (sym z);
   digest = ap (λ w. atFront (apply c (digestStore c) (stateOf c m) w .outcome .digest) d) (sym z);
 }
@@ -130,7 +130,7 @@ save-done c m i d m′ i′ d′ x l hash z y s f g k =
     record {
       state = s ∙ ap (λ (r : Result S). r .state) (sym q);
       answer = ap₂ done k (ap₂ take k f ∙ take-overwrite i 0 x (length x) (omega arith) (omega arith)) ∙ ap (λ (r : Result S). r .outcome .answer) (sym q);
-      length = k ∙ ap (λ (r : Result S). bytesIn (r .outcome .answer)) (sym q);
+      count = k ∙ ap (λ (r : Result S). bytesIn (r .outcome .answer)) (sym q);
       image = f ∙ ap (λ (r : Result S). imageAfter (r .outcome .answer) i) (sym q);
       digest = g ∙ ap (λ (h : List ℕ → List ℕ). atFront (h x) d) (sym hash) ∙ ap (λ (r : Result S). atFront (r .outcome .digest) d) (sym q);
     }
