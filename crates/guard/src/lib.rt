@@ -200,7 +200,11 @@ fn save_into(memory: &mut [u8], image: &mut [u8], digest: &mut [u8]) -> outcomes
     take_save(&mut memory[..memory::SIZE], image, digest)
 }
 
-pub fn on_save(memory: &mut [u8], image: &mut [u8], digest: &mut [u8; 32]) -> outcomes::Outcome
+pub fn on_save(
+    memory: &mut [u8],
+    image: &mut [u8],
+    digest: &mut [u8; Guard::DIGEST_BYTES],
+) -> outcomes::Outcome
     ensures { λ r. ⌜ SavePromise (now (memory .entry)) r (now (memory .exit)) (now (image .entry)) (now (image .exit))
         (now (digest .entry)) (now (digest .exit)) ⌝ }
 {
@@ -328,7 +332,7 @@ pub extern "C" fn guard_entry_reply(
 pub extern "C" fn guard_entry_save(
     memory: &mut [u8],
     image: &mut [u8],
-    digest: &mut [u8; 32],
+    digest: &mut [u8; Guard::DIGEST_BYTES],
 ) -> GuardOutcome
     ensures { λ r. ⌜ Shown (λ o. SavePromise (now (memory .entry)) o (now (memory .exit)) (now (image .entry)) (now (image .exit))
         (now (digest .entry)) (now (digest .exit))) r ⌝ }
