@@ -29,6 +29,8 @@ slice-aggregate-on-call-2 c =
 pub event-spec : {M : Type 1} → statement M
 event-spec =
     tie.close
-    (tie.spec (λ c κs. search needs) (λ c κs. search needs) (λ c. search needs) slice-aggregate-on-reply (λ c. search needs) slice-aggregate-on-reply-2 (λ c κs. search needs)
-    (λ c. search needs) (λ c. search needs) (λ c. search needs) (λ c. search needs) (λ c. search needs) slice-aggregate-on-call (λ c. search needs) slice-aggregate-on-call-2
-    (λ c κs. search needs) (λ c. search needs) (λ c. search needs) (λ c. search needs) (λ c. search needs))
+    (tie.spec (λ c κs. search needs) (λ c κs. search needs) (λ c. omega arith) slice-aggregate-on-reply
+    (λ c. omega arith) slice-aggregate-on-reply-2 (λ c κs. search needs) (λ c. omega arith) (λ c. omega arith)
+    (λ c. omega arith) (λ c. omega arith) (λ c. omega arith) slice-aggregate-on-call (λ c. omega arith)
+    slice-aggregate-on-call-2 (λ c κs. search needs) (λ c. omega arith) (λ c. omega arith) (λ c. omega arith)
+    (λ c. omega arith))

@@ -14,4 +14,5 @@ slice-aggregate-on-save c =
 pub save-spec : {M : Type 1} → statement M
 save-spec =
     tie.close
-    (tie.spec (λ c κs. search needs) (λ c. search needs) slice-aggregate-on-save (λ c κs. search needs) (λ c. search needs) (λ c. search needs) (λ c. search needs))
+    (tie.spec (λ c κs. search needs) (λ c. omega arith) slice-aggregate-on-save (λ c κs. search needs)
+    (λ c. omega arith) (λ c. omega arith) (λ c. omega arith))
