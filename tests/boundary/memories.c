@@ -380,12 +380,12 @@ static void find_live(void)
             }
 }
 
-/* A few bytes that stand together, or now and then a whole block. */
+/* A few bytes that stand together, now and then a whole block or all from there on. */
 static void overwrite(void)
 {
     static const uint8_t edges[] = {0, 1, 0x7f, 0x80, 0xff};
     size_t at = below(4) ? live[below(live_count)] : below(GUARD_MEMORY_LENGTH);
-    size_t n = below(20) ? (size_t)1 << below(4) : below(BLOCK);
+    size_t n = below(20) ? (size_t)1 << below(4) : below(2) ? below(BLOCK) : GUARD_MEMORY_LENGTH;
     int is_random = (int)below(2);
     uint8_t edge = edges[below(sizeof edges)];
     for (size_t i = 0; i < n && at + i < GUARD_MEMORY_LENGTH; i++)
