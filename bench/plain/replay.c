@@ -9,7 +9,7 @@
 enum { UNTOUCHED = 0xa5, LONGEST = 2 * 50000 };
 
 static struct plain_guard plain;
-static uint8_t answer[ANSWER], request[REQUEST], image[IMAGE + 1000], digest[DIGEST], given[LONGEST];
+static uint8_t answer[2 * ANSWER], request[2 * REQUEST], image[60000], digest[DIGEST], given[LONGEST];
 static size_t answer_length, request_length;
 static char text[2 * LONGEST];
 
@@ -118,6 +118,8 @@ int main(void)
             answer_length = ANSWER, request_length = REQUEST;
         } else if (line[0] == 'b') {
             sscanf(line, "b %zu %zu", &answer_length, &request_length);
+            if (answer_length > sizeof answer || request_length > sizeof request)
+                return 2;
         } else if (line[0] == '=') {
             answers++;
             if (strcmp(text, line + 2)) {

@@ -79,6 +79,24 @@ static void to_buffers(guard_outcome o, uint8_t *answer, size_t a, uint8_t *requ
         change("behind the request buffer", request + q);
 }
 
+/* The last byte of a longer buffer, which no answer or request reaches. */
+static void to_longer(uint8_t *answer, size_t a, uint8_t *request, size_t q)
+{
+    if (a > GUARD_ANSWER_LENGTH)
+        change("a longer answer buffer is written", answer + a - 1);
+    if (q > GUARD_REQUEST_LENGTH)
+        change("a longer request buffer is written", request + q - 1);
+}
+
+static const guard_outcome short_buffer = {GUARD_REFUSED, GUARD_SHORT_BUFFER, 0};
+
+/* A guard that needs the exact lengths. */
+static int refuses_longer(size_t a, size_t q)
+{
+    return (a > GUARD_ANSWER_LENGTH && change_is("a longer answer buffer is refused")) ||
+           (q > GUARD_REQUEST_LENGTH && change_is("a longer request buffer is refused"));
+}
+
 static guard_outcome shown(guard_outcome o, const uint8_t *memory, size_t n)
 {
     static int pending;
@@ -104,15 +122,20 @@ guard_outcome __wrap_guard_entry_fresh(uint8_t *memory, size_t n)
 
 guard_outcome __wrap_guard_entry_call(uint8_t *memory, size_t n, const uint8_t *call, size_t l, uint8_t *answer, size_t a, uint8_t *request, size_t q)
 {
+    if (refuses_longer(a, q))
+        return short_buffer;
     guard_outcome o = __real_guard_entry_call(memory, n, call, l, answer, a, request, q);
     to_memory(memory, n);
     to_input(call, l);
     to_buffers(o, answer, a, request, q);
+    to_longer(answer, a, request, q);
     return shown(o, memory, n);
 }
 
 guard_outcome __wrap_guard_entry_reply(uint8_t *memory, size_t n, const uint8_t *reply, size_t l, uint8_t *answer, size_t a, uint8_t *request, size_t q)
 {
+    if (refuses_longer(a, q))
+        return short_buffer;
     guard_outcome o = __real_guard_entry_reply(memory, n, reply, l, answer, a, request, q);
     if (o.kind == GUARD_DONE && !o.length && change_is("a stop at a right reply"))
         o = (guard_outcome){GUARD_STOPPED, GUARD_STOP_STATUS, 0};
@@ -124,6 +147,8 @@ guard_outcome __wrap_guard_entry_reply(uint8_t *memory, size_t n, const uint8_t 
 
 guard_outcome __wrap_guard_entry_save(uint8_t *memory, size_t n, uint8_t *image, size_t l, uint8_t *digest)
 {
+    if (l > GUARD_IMAGE_LENGTH && change_is("a longer image buffer is refused"))
+        return short_buffer;
     guard_outcome o = __real_guard_entry_save(memory, n, image, l, digest);
     if (o.kind == GUARD_DONE) {
         change("the image", image + o.length / 2);
@@ -135,6 +160,8 @@ guard_outcome __wrap_guard_entry_save(uint8_t *memory, size_t n, uint8_t *image,
     }
     if (o.kind == GUARD_DONE && o.length < l)
         change("behind the image", image + o.length);
+    if (l > GUARD_IMAGE_LENGTH)
+        change("a longer image buffer is written", image + l - 1);
     change("behind the digest", digest + GUARD_DIGEST_LENGTH);
     return o;
 }

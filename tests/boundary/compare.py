@@ -22,7 +22,7 @@ from . import lengths, lists
 AT_ONCE = 20  # pairs of lists that one driver gets
 ENDS = "low", "high"
 
-# the numbers that docs/SPECIFICATION.md has for each event (7), in its order, and the stop reasons (5.10)
+# the numbers that each event may be refused with, in their order, and the stop reasons (SPECIFICATION 7, 5.10)
 EVENTS = Call, Reply, Save, Load
 NUMBERS = {
     Call: [5, 114, 34, 22, 36, 20, 13, 2, 17, 21, 16, 39, 24, 9, 27, 28],

@@ -3,13 +3,13 @@
 A turn is the number of a guard, an event and its outcome.
 """
 
-from dataclasses import replace
 from random import Random
 
 from model import calls
 from model.events import Call, Reply, Save
 from model.generate import generate
 from model.image import LONGEST
+from model.longer import longer
 from model.rules import ANSWER, REQUEST
 from model.transcripts import event_line
 from model.tree import guard
@@ -26,12 +26,15 @@ def pair(seed):
 
 
 def generated(seed):
-    """A list from a seed, with its outcomes."""
+    """A list from a seed, with its outcomes; now and then buffers are longer."""
     recording = generate(seed)
     if not recording.guard.stopped:
         settle(recording)
     random = Random(seed)
-    return [(lent_longer(random, event), outcome) for event, outcome in recording.steps]
+    return [
+        (longer(random, event, outcome) if random.random() < 0.2 else event, outcome)
+        for event, outcome in recording.steps
+    ]
 
 
 def settle(recording):
@@ -40,13 +43,6 @@ def settle(recording):
     for handle in list(recording.guard.open_files):
         recording.do(calls.close(handle))
     recording.send(Save(LONGEST))
-
-
-def lent_longer(random, event):
-    """Buffers that are long enough may as well be longer: the answer is the same."""
-    if not isinstance(event, (Call, Reply)) or lent(event) != (ANSWER, REQUEST) or random.random() < 0.8:
-        return event
-    return replace(event, answer_len=ANSWER + random.randrange(100), request_len=REQUEST + random.randrange(100))
 
 
 def lent(event):

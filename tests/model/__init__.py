@@ -1,4 +1,7 @@
-"""An executable model of the file guard, written from SPECIFICATION and apart from the definitions and the code.
+"""An executable model of the file guard: the rules once more, apart from the definitions and the code.
+
+It is written from the requirements alone, and where they are open from the readings that docs/DECISIONS.md gives. A
+paragraph that is cited, as in SPECIFICATION 5, is where docs/SPECIFICATION.md has the same rule.
 
     rules, image            the rules that need no tables: limits, forms, paths, requests, listings; the saved image
     events                  events and outcomes, with their text
@@ -6,7 +9,8 @@
     host, lies              an honest host with a tree of its own, and the wrong replies that a host may give
     calls, edges            the bytes of calls; images at the edge of soundness
     recording, generate     a list of events in the making; lists from a seed
-    script                  lists written by hand with the answers that SPECIFICATION asks for:
+    longer                  the same lists in longer buffers
+    script                  lists written by hand with the answers that the requirements ask for:
     trials, numbers           its trials; each number, each two that stand beside each other
     pages, dishonest          the page rules, byte by byte; every dishonest reply
     transcripts             all of these with their answers as a file

@@ -1,7 +1,7 @@
 """Lists of events from a seed.
 
 A list starts fresh, with a few open files or in a tree that stands at a limit, then goes on with calls that mostly fit
-what the guard holds, with numbers near the edges that SPECIFICATION names. How often something goes wrong (a form, a
+what the guard holds, with numbers near the edges that the requirements name. How often something goes wrong (a form, a
 buffer, a reply, an image, an event at the wrong time) is drawn once for each list, and so is the request about which
 the host lies: some lists are long and honest, others end soon. A stop is followed by a few more events.
 """
@@ -13,6 +13,7 @@ from .edges import EDGES, FULL, ZEROS, deep, files, image
 from .events import Call, Done, Load, Reply, Save
 from .image import LONGEST, write_image
 from .lies import WRONG
+from .longer import longer_steps
 from .recording import Recording
 from .rules import (
     ANSWER, CHMOD, CLOSE, CREATE, DIRECTORY, FILE, MAX_COUNT, MAX_NAME, MAX_NODES, MAX_OPEN, MAX_PATH, MAX_SIZE,
@@ -36,6 +37,13 @@ WORLDS = [
 def generate(seed, length=50):
     """A recording of at least this many events, unless a stop ends it."""
     return Generator(Random(seed)).run(length)
+
+
+def generate_longer(seed, length=50):
+    """The same list in longer buffers."""
+    recording = generate(seed, length)
+    recording.steps = longer_steps(Random(seed), recording.steps)
+    return recording
 
 
 def generate_for_desk(seed, length=50):

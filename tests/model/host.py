@@ -1,7 +1,7 @@
 """An honest host: it holds the reference tree itself, obeys every request, never fails and replies truly.
 
-It is written apart from the machine, over directories of named entries and the bytes of files. What SPECIFICATION leaves
-to a host, it chooses by the random numbers it is given: a new id, a descriptor, the order of a listing.
+It is written apart from the machine, over directories of named entries and the bytes of files. What the requirements
+leave to a host, it chooses by the random numbers it is given: a new id, a descriptor, the order of a listing.
 """
 
 from copy import deepcopy

@@ -1,4 +1,4 @@
-"""Hosts that lie: wrong replies of every sort, those of SPECIFICATION 11.2 among them.
+"""Hosts that lie: wrong replies of every sort, the traps (SPECIFICATION 11.2) among them.
 
 A lying host is an honest one that remembers: the pages that were overwritten and the replies it gave. `lies` gives
 every wrong reply that it knows to the pending request, each under a name. Each is wrong for certain: a guard must stop.

@@ -14,7 +14,7 @@ import tempfile
 from pathlib import Path
 
 from . import events
-from .generate import generate
+from .generate import generate, generate_longer
 
 PACKAGE = Path(__file__).parent
 COPIED = ["__init__", "events", "rules", "image", "tree", "desk"]
@@ -52,6 +52,17 @@ def added(place, text, line):
     return place, change
 
 
+def asks_parent(place, bit):
+    """Once a path is walked, a bit of the parent is asked as well."""
+    walk = "_, node = self.walk(call.names)\n"
+    return replaced(place, walk, f"parent{walk[1:]}        refuse(13, parent and not parent.mode & {bit})\n")
+
+
+def modulo_256(place):
+    """A request with the low byte of its descriptor."""
+    return replaced(place, "put(descriptor, 4)", "put(descriptor % 256, 4)")
+
+
 def once(source, text):
     assert source.count(text) == 1, f"{text!r} stands {source.count(text)} times"
     return text
@@ -83,6 +94,31 @@ MUTATIONS = {
         "tree.on_reply",
         "event.answer_len < ANSWER",
         "event.answer_len < ANSWER - 1",
+    ),
+    "a call's answer buffer needs the exact length": replaced(
+        "tree.on_call",
+        "event.answer_len < ANSWER",
+        "event.answer_len != ANSWER",
+    ),
+    "a call's longer request buffer is refused": added(
+        "tree.on_call",
+        "refuse(22",
+        "refuse(34, event.request_len > REQUEST)",
+    ),
+    "a reply's longer answer buffer is refused": added(
+        "tree.on_reply",
+        "return",
+        "refuse(34, event.answer_len > ANSWER)",
+    ),
+    "a reply's request buffer needs the exact length": replaced(
+        "tree.on_reply",
+        "event.request_len < REQUEST",
+        "event.request_len != REQUEST",
+    ),
+    "an answer buffer of twice the length is refused": replaced(
+        "tree.on_reply",
+        "event.answer_len < ANSWER",
+        "not ANSWER <= event.answer_len < 2 * ANSWER",
     ),
     "a reply refused 34 drops the request": added(
         "tree.on_reply",
@@ -149,6 +185,18 @@ MUTATIONS = {
         "OpenFile(descriptor, call.rights, node.size)",
     ),
     "open gives every right": replaced("tree.open", "OpenFile(descriptor, call.rights)", "OpenFile(descriptor, 3)"),
+    "open for reading gives both rights": replaced(
+        "tree.open",
+        "OpenFile(descriptor, call.rights)",
+        "OpenFile(descriptor, 3 if call.rights == 1 else call.rights)",
+    ),
+    "open for writing gives both rights": replaced(
+        "tree.open",
+        "OpenFile(descriptor, call.rights)",
+        "OpenFile(descriptor, 3 if call.rights == 2 else call.rights)",
+    ),
+    "open asks the parent's bit 4": asks_parent("tree.open", "READ_BIT"),
+    "open asks the parent's bit 2": asks_parent("tree.open", "WRITE_BIT"),
     "remove of an empty directory": replaced(
         "tree.remove",
         "node.kind == DIRECTORY",
@@ -184,6 +232,8 @@ MUTATIONS = {
         "vars(self.open_files.get(node.id, OpenFile(0, 0)))['rights'] = call.mode >> 1 & 3",
     ),
     "chmod asks bit 2": added("tree.chmod", "yield", "refuse(13, not node.mode & WRITE_BIT)"),
+    "chmod asks the parent's bit 4": asks_parent("tree.chmod", "READ_BIT"),
+    "chmod asks the parent's bit 2": asks_parent("tree.chmod", "WRITE_BIT"),
     "chmod of the root is refused": replaced(
         "tree.chmod",
         "yield from",
@@ -194,8 +244,11 @@ MUTATIONS = {
     "readdir of a file": dropped("tree.readdir", "refuse(20"),
     "13 before 20 at readdir": delayed("tree.readdir", "refuse(20", "refuse(13"),
     "readdir asks no bit": dropped("tree.readdir", "refuse(13"),
+    "readdir asks the parent's bit 4 too": asks_parent("tree.readdir", "READ_BIT"),
+    "readdir asks the parent's bit 2 too": asks_parent("tree.readdir", "WRITE_BIT"),
     "readdir is done with the length": replaced("tree.readdir", "len(entries), reply", "len(reply), reply"),
     "stat asks bit 4": added("tree.stat", "reply = yield", "refuse(13, not node.mode & READ_BIT)"),
+    "stat asks the parent's bit 4": asks_parent("tree.stat", "READ_BIT"),
     "stat is done with 0": replaced("tree.stat", "Done(node.size, reply)", "Done(0, reply)"),
     "stat gives no bytes": replaced("tree.stat", "Done(node.size, reply)", "Done(node.size)"),
     # calls by handle
@@ -253,6 +306,15 @@ MUTATIONS = {
     "a store sends the size at the end": replaced("tree.write", "max(node.size, written_so_far)", "size"),
     "a store sends the end of the bytes": replaced("tree.write", "max(node.size, written_so_far)", "written_so_far"),
     "a store sends the old size": replaced("tree.write", "max(node.size, written_so_far)", "node.size"),
+    "a store sends a size of at most 65,535": replaced(
+        "rules.store_request",
+        "put(size, 4)",
+        "put(min(size, 65_535), 4)",
+    ),
+    "a close sends a descriptor modulo 256": modulo_256("rules.close_request"),
+    "a fetch sends a descriptor modulo 256": modulo_256("rules.fetch_request"),
+    "a store sends a descriptor modulo 256": modulo_256("rules.store_request"),
+    "a cut sends a descriptor modulo 256": modulo_256("rules.cut_request"),
     "a store with its fields exchanged": replaced(
         "rules.store_request",
         "put(page, 4) + put(size, 4)",
@@ -361,6 +423,12 @@ MUTATIONS = {
         "len(image) > event.buffer_len",
         "event.buffer_len < 44_776",
     ),
+    "save needs the exact length": replaced("tree.on_save", "> event.buffer_len", "!= event.buffer_len"),
+    "save into more than the longest image needs": added(
+        "tree.on_save",
+        "refuse(34",
+        "refuse(34, event.buffer_len > 44_776)",
+    ),
     "save with open files": dropped("tree.on_save", "refuse(16"),
     "34 before 16": delayed("tree.on_save", "refuse(16", "refuse(34"),
     "load with open files": dropped("tree.on_load", "refuse(16"),
@@ -463,6 +531,11 @@ def differs(make_guard, recording):
     return not answered or guard.tables() != recording.guard.tables()
 
 
+def lists():
+    """The lists that must tell every mutation, by seed; every fifth in longer buffers."""
+    return [(seed, generate(seed) if seed % 5 else generate_longer(seed)) for seed in SEEDS]
+
+
 def caught_by(name, recordings):
     """The seed of a recording that tells a mutation from the clean model, or None; that one is then tried first."""
     with tempfile.TemporaryDirectory() as directory:
@@ -475,7 +548,7 @@ def caught_by(name, recordings):
 
 
 def main():
-    recordings = [(seed, generate(seed)) for seed in SEEDS]
+    recordings = lists()
     for name in MUTATIONS:
         print(f"{name}: {caught_by(name, recordings)}")
 

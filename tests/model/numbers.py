@@ -1,4 +1,4 @@
-"""Every number of SPECIFICATION 7.1: in its condition, and in the nearest case where it does not come.
+"""Every number (SPECIFICATION 7.1): in its condition, and in the nearest case where it does not come.
 
 `NUMBERS` has one script for each number, `NEIGHBOURS` one for each two that stand beside each other in an order, with
 an event for which both conditions hold: the first comes. Where two conditions cannot both hold, the next is taken:
@@ -6,7 +6,7 @@ a stop ends the request, so 5 meets 61 and no 114; the root is a directory, so 1
 """
 
 from . import calls
-from .edges import EDGES, FULL, files, image
+from .edges import EDGES, FULL, crowd, files, image
 from .events import Call, Load, Reply, Save
 from .rules import ANSWER, MAX_SIZE, PAGE, REQUEST, put
 from .script import load_of
@@ -52,6 +52,27 @@ def n34_short(s):
     s.expect("done 0", Reply(put(0, 4), ANSWER, REQUEST))
     s.expect("refused 34", Save(22))
     s.expect("done 23", Save(23))
+
+
+def n34_longer(s):
+    """Every outcome in longer buffers; the longest listing, a store and the longest image are among them."""
+    s.load(crowd(*FULL))
+    for lengths in ((ANSWER + 1, REQUEST), (ANSWER, REQUEST + 1), (2 * ANSWER, 2 * REQUEST)):
+        s.expect("refused 22", Call(b"", *lengths))
+        s.expect("refused 61", Reply(b"", *lengths))
+        s.expect("ask 0c2f", Call(calls.readdir(b"/"), *lengths))
+        s.expect(f"done 255 {s.truth.hex()}", Reply(s.truth, *lengths))
+        s.do(calls.open_(3, b"/%032d" % 2))
+        s.expect("done 1", Call(calls.seek(2, 1), *lengths))
+        s.expect("ask", Call(calls.write(2, b"x"), *lengths))
+        s.expect("ask", Reply(s.truth, *lengths))
+        s.expect("done 1", Reply(s.truth, *lengths))
+        s.do(calls.close(2))
+    s.expect("refused 34", Save(44_775))
+    s.expect("done 44776", Save(44_777))
+    s.expect("ask", Call(calls.chmod(7, b"/"), 2 * ANSWER, 2 * REQUEST))
+    s.expect("stopped 1", Reply(b"", 2 * ANSWER, 2 * REQUEST))
+    s.expect("refused 5", Call(b"", 2 * ANSWER, 2 * REQUEST))
 
 
 def n22_malformed_fields(s):

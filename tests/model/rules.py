@@ -1,6 +1,6 @@
 """The rules that need no tables: limits, nodes, the forms of calls and paths, the bytes of requests and replies.
 
-In the order of SPECIFICATION 2 to 5.
+They stand in the order of SPECIFICATION 2 to 5.
 """
 
 from dataclasses import dataclass, field

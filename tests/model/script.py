@@ -1,4 +1,4 @@
-"""Scripted lists: events written by hand, each with the answer that SPECIFICATION asks for.
+"""Scripted lists: events written by hand, each with the answer that the requirements ask for.
 
 A script is a function over a `Script`. It is a test by itself, and its list goes into the transcripts.
 """

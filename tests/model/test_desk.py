@@ -1,4 +1,4 @@
-"""The line protocol: the session of SPECIFICATION 12.6, and lines of every kind."""
+"""The line protocol: the session of the requirements (SPECIFICATION 12.6), and lines of every kind."""
 
 import io
 import sys

@@ -2,16 +2,19 @@
 
 import unittest
 
-from .generate import generate
-from .mutations import MUTATIONS, SEEDS, caught_by, differs
+from .mutations import MUTATIONS, caught_by, differs, lists
 from .tree import guard
 
 
 class Mutations(unittest.TestCase):
+    @classmethod
+    def setUpClass(cls):
+        cls.lists = lists()
+
     def test_every_mutation_is_caught(self):
-        recordings = [(seed, generate(seed)) for seed in SEEDS]
-        survivors = [name for name in MUTATIONS if caught_by(name, recordings) is None]
+        survivors = [name for name in MUTATIONS if caught_by(name, self.lists) is None]
         self.assertEqual(survivors, [])
 
     def test_the_clean_model_is_not(self):
-        self.assertFalse(any(differs(guard, generate(seed)) for seed in SEEDS[:50]))
+        """Buffers that are longer change no answer either."""
+        self.assertFalse(any(differs(guard, recording) for _, recording in self.lists))

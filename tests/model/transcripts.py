@@ -23,12 +23,13 @@ import sys
 
 from . import dishonest, numbers, pages, trials
 from .events import Call, Load, Reply, Save
-from .generate import generate
+from .generate import generate, generate_longer
 from .rules import ANSWER, REQUEST
 from .script import Script
 
 SCRIPTS = [*trials.TRIALS, *numbers.NUMBERS, *numbers.NEIGHBOURS, *pages.PAGES]
 SEEDS = range(100)
+LONGER_SEEDS = range(100, 120)
 
 
 def recordings():
@@ -40,6 +41,8 @@ def recordings():
     yield from dishonest.dishonest_lists()
     for seed in SEEDS:
         yield f"seed {seed}", generate(seed)
+    for seed in LONGER_SEEDS:
+        yield f"seed {seed}, longer buffers", generate_longer(seed)
 
 
 def write_list(name, steps, shown={}):

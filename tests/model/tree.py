@@ -79,11 +79,11 @@ class OpenFile:
 
 
 class Refusal(Exception):
-    """A number of SPECIFICATION 7.1."""
+    """A number of the table (SPECIFICATION 7.1)."""
 
 
 class Stop(Exception):
-    """A reason of SPECIFICATION 5.10."""
+    """A reason to stop (SPECIFICATION 5.10)."""
 
 
 def refuse(number, condition):
