@@ -85,10 +85,15 @@ fn latter(text: &[u8]) -> &[u8] {
     &text[end + 1..]
 }
 
+// The longest buffers that are lent: a longer one than the least is lent as such.
+const ANSWER_ROOM: usize = 2 * guard::ANSWER_LENGTH;
+
+const REQUEST_ROOM: usize = 2 * guard::REQUEST_LENGTH;
+
 fn lengths(text: &[u8]) -> Settings {
     Settings {
-        answer: number(former(text), guard::ANSWER_LENGTH),
-        request: number(latter(text), guard::REQUEST_LENGTH),
+        answer: number(former(text), ANSWER_ROOM),
+        request: number(latter(text), REQUEST_ROOM),
         said: 0,
     }
 }
@@ -125,8 +130,8 @@ fn answer_event(
     let Decoded::Bytes(n) = text::hex::decode(digits, &mut bytes) else {
         return desk_lines::write_bad(said);
     };
-    let mut answer = [0u8; guard::ANSWER_LENGTH];
-    let mut request = [0u8; guard::REQUEST_LENGTH];
+    let mut answer = [0u8; ANSWER_ROOM];
+    let mut request = [0u8; REQUEST_ROOM];
     let o = event(
         memory,
         desk_lines::first(&bytes, n),
