@@ -32,6 +32,8 @@
 extern "C" {
 #endif
 
+#define GUARD_VERSION "1.1"
+
 enum {
     GUARD_MEMORY_LENGTH = 52672,
     GUARD_ANSWER_LENGTH = 9690,  /* the least length of an answer buffer: the longest listing */
