@@ -1,2 +1,2 @@
 pub mod Meaning
-pub mod FieldLaws
+pub mod laws

@@ -1,2 +1,2 @@
 pub mod Called
-pub mod CalledLaws
+pub mod laws

@@ -9,18 +9,19 @@ use Rattle.lists.specs.LittleEndian.{encode, length-encode}
 use Rattle.lists.specs.Parts.{part, overwrite}
 use Rattle.lists.specs.PartLaws.{length-overwrite}
 use Rattle.filesystem.specs.Tables.{PAGE-BYTES, nodeAt, openAt}
-use Rattle.tables.specs.ChangeLaws.{over-all}
+use Rattle.tables.specs.laws.ChangeLaws.{over-all}
 use Rattle.rules.specs.Pages.{Change, fill, sizeSent}
 use Rattle.rules.specs.Requests.{storing, fetchRequest, storeRequest, storeLength}
 use Rattle.rules.specs.Lengths.{store-length, page-long}
 use Rattle.rules.specs.Skeleton.{Config, atFront}
-use Rattle.requests.specs.Heads.{behind-store}
+use Rattle.requests.specs.laws.Heads.{behind-store}
 use Rattle.machine.specs.Machine.{State, asking, askStore, guard as digestStore}
 use Rattle.guard_state.specs.State.{stateOf}
 use Rattle.guard_state.specs.Waits.{waits}
 use Rattle.outcomes.specs.declared.Outcome.{Outcome}
 use Rattle.outcomes.specs.declared.Outcome.the-variants.{Ask}
-use Rattle.outcomes.specs.Sent.{Sends, asking-sends}
+use Rattle.outcomes.specs.Sent.{Sends}
+use Rattle.outcomes.specs.laws.SentLaws.{asking-sends}
 
 -- the numbers of a pending change (guard_state, src/calls.rt)
 abbrev pub Changing : ℕ → Type 0

@@ -8,7 +8,7 @@ use Rattle.lists.specs.Parts.{overwrite}
 use Rattle.filesystem.specs.Tables.{nodeAt, openAt}
 use Rattle.memory.specs.Layout.{Mem, memOf, withOpens}
 use Rattle.tables.specs.View.{View, viewOf, withChange, cursorAt, stagedDigests, Changeable}
-use Rattle.tables.specs.ViewLaws.{view-cursor}
+use Rattle.tables.specs.laws.ViewLaws.{view-cursor}
 use Rattle.filesystem.specs.Tables.{setCursor}
 use Rattle.rules.specs.Pages.{Change, first, sizeAfter, cursorAfter, numberOf}
 use Rattle.rules.specs.Skeleton.{Config, done, requestBytes}

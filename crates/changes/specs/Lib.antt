@@ -1,5 +1,4 @@
 pub mod Asked
 pub mod Ended
 pub mod Sending
-pub mod FetchedLaws
-pub mod BegunLaws
+pub mod laws

@@ -19,9 +19,9 @@ use Rattle.machine.specs.Machine.{Gathered}
 use Rattle.machine.specs.Consistent.{Consistent, Counts}
 use Rattle.guard_state.specs.declared.Guard.{Guard}
 use Rattle.guard_state.specs.State.{numbersOf, stateIn, stateOf, gatheredDigests}
-use Rattle.guard_state.specs.Changes.{change-changeable}
-use Rattle.guard_state.specs.LoadedLaws.{nodes-count, opens-count}
-use Rattle.guard_state.specs.OnwardLaws.{gathered-change}
+use Rattle.guard_state.specs.laws.Changes.{change-changeable}
+use Rattle.guard_state.specs.laws.LoadedLaws.{nodes-count, opens-count}
+use Rattle.guard_state.specs.laws.OnwardLaws.{gathered-change}
 use Rattle.changes.specs.Asked.{Changing}
 use Rattle.changes.specs.Ended.{Ended}
 

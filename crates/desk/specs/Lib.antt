@@ -1,4 +1,3 @@
 pub mod Answered
-pub mod AnsweredLaws
 pub mod Session
-pub mod SessionLaws
+pub mod laws

@@ -1,5 +1,2 @@
 pub mod Lines
-pub mod LineLaws
-pub mod Spelled
-pub mod Printing
-pub mod Examples
+pub mod laws

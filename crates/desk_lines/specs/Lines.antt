@@ -35,7 +35,7 @@ decodedAs kind s TooLong = badLine
 unfoldable pub hexLine : (List ℕ → DeskLine) → List ℕ → DeskLine
 hexLine kind s = decodedAs kind s (decodeOf s mostBytes)
 
--- `c ` and a call, or `r ` and a reply, without the line feed; specs/Spelled.antt says that a line is read exactly where it is written so
+-- `c ` and a call, or `r ` and a reply, without the line feed; specs/laws/Spelled.antt says that a line is read exactly where it is written so
 unfoldable pub lineOf : List ℕ → DeskLine
 lineOf s =
     pick (begins s (ascii "c ")) (hexLine callLine (drop 2 s))

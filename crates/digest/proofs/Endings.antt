@@ -14,7 +14,7 @@ use Rattle.lists.specs.BigEndian.{bigEndian, length-bigEndian}
 use Rattle.compression.specs.Compression.{block, compress}
 use Rattle.compression.specs.declared.State.{State}
 use Rattle.digest.specs.Sha256.{hash, bytes}
-use Rattle.digest.specs.Blocks.{block-agrees, hash-agrees}
+use Rattle.digest.specs.laws.Blocks.{block-agrees, hash-agrees}
 use Rattle.digest.specs.Streaming.{ending, absorbed, finished}
 use Rattle.digest.specs.Padding.{withZeros, lastBlocks}
 

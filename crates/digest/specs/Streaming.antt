@@ -9,7 +9,7 @@ use Rattle.lists.specs.All.{All, none, both}
 use Rattle.lists.specs.BigEndian.{bigEndian}
 use Rattle.compression.specs.declared.State.{State}
 use Rattle.digest.specs.Sha256.{pad, H0, hash, bytes, sha256}
-use Rattle.digest.specs.Blocks.{hash-append}
+use Rattle.digest.specs.laws.Blocks.{hash-append}
 
 -- the padded end of a message of n bytes, of which m are the last
 unfoldable pub ending : List ℕ → ℕ → List ℕ

@@ -2,7 +2,7 @@
 -- Assumes nothing.
 use native.Mathlib.Omega.{arith}
 use Rattle.configuration.specs.Delivered.{delivered}
-use Rattle.digest.specs.Laws.{length-sha256, bytes-sha256}
+use Rattle.digest.specs.laws.Laws.{length-sha256, bytes-sha256}
 use Rattle.machine.specs.Claim.{Fit, FirstHalf, SecondHalf}
 use Rattle.machine.specs.Run.{first-half}
 use Rattle.machine.specs.HonestRun.{second-half}

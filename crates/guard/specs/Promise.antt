@@ -1,6 +1,6 @@
 -- What the guard's entries promise: each one's outcome, memory and buffers are those of the machine's step.
 --   held m         the machine's state that a memory holds; `GuardState` is the type of such states
---   Kept m         the memory of a guard: a fresh one's, and what any entry leaves of it (specs/KeptLaws.antt)
+--   Kept m         the memory of a guard: a fresh one's, and what any entry leaves of it (specs/laws/KeptLaws.antt)
 --   Ready s e      what a promise asks of the state s before the event e
 --   Steps          outcome and state are those of the machine's step
 --   Own m m′       m′ is m but for the guard's own bytes

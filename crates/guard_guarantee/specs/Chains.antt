@@ -1,6 +1,6 @@
 -- Where code and theorem meet. The guard's entries promise something of one event each (crate guard, specs/Promise.antt). Here is what follows for a
 -- whole run, as types: a memory that was made fresh, then any entries in any order, whatever the host replies. The claims speak of what C hands in, of
--- what it gets back and finds in its buffers, and of the last memory; the history is made of these too. Proofs stand in specs/ChainLaws.antt.
+-- what it gets back and finds in its buffers, and of the last memory; the history is made of these too. Proofs stand in specs/laws/ChainLaws.antt.
 -- Assumes nothing.
 use mathlib.Core.Path.{_≡_}
 use mathlib.Core.Logic.{_⊎_}

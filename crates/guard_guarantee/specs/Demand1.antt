@@ -8,7 +8,7 @@ use lib.ListN.{length}
 use Rattle.lists.specs.All.{All, Bytes}
 use Rattle.digest.specs.Sha256.{sha256, H0}
 use Rattle.digest.specs.Streaming.{finished, absorbedAll, joined, streamed}
-use Rattle.digest.specs.Laws.{length-sha256, bytes-sha256}
+use Rattle.digest.specs.laws.Laws.{length-sha256, bytes-sha256}
 
 pub record Demand1 : Type 0 where
   pub long : (m : List ℕ) → length (sha256 m) ≡ 32

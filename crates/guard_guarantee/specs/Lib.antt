@@ -1,4 +1,4 @@
 pub mod Demand1
 pub mod Demand2
 pub mod Chains
-pub mod ChainLaws
+pub mod laws

@@ -1,11 +1,4 @@
 pub mod State
-pub mod StageLaws
 pub mod Waits
 pub mod Onward
-pub mod WaitLaws
-pub mod OnwardLaws
-pub mod Changes
-pub mod LoadedLaws
-pub mod Ranges
-pub mod PendingLaws
-pub mod Zeros
+pub mod laws

@@ -1,3 +1,3 @@
 pub mod Judged
-pub mod HandledLaws
 pub mod MoveLaws
+pub mod laws

@@ -1,2 +1,2 @@
 pub mod Moved
-pub mod StartedLaws
+pub mod laws

@@ -1,9 +1,5 @@
 pub mod Records
-pub mod RecordLaws
 pub mod Admission
-pub mod TestLaws
-pub mod AdmissionLaws
-pub mod StepLaws
-pub mod SoundAdmitted
 pub mod ParseLaws
 pub mod Loaded
+pub mod laws

@@ -23,10 +23,10 @@ use Rattle.lists.specs.Formats.{bytes, counted}
 use Rattle.filesystem.specs.Tables.{NODES, PAGES, Node, nodeAt, pageTotal}
 use Rattle.filesystem.specs.Image.{nodeForm, Image, imageForm, isRoot, inLimits, soundNodes, sound, parse}
 use Rattle.image_writer.specs.Width.{frontLength, recordLength, middle}
-use Rattle.image_writer.specs.Written.{record-parts, length-record}
+use Rattle.image_writer.specs.laws.Written.{record-parts, length-record}
 use Rattle.image_reader.specs.Records.{recordAt, recordEnd, nodesFrom, endFrom, nodeCount, recordsEnd, digestCount, imageNodes, imageDigests, formed, isSome}
-use Rattle.image_reader.specs.RecordLaws.{end-least, nodes-next, length-from, formed-yes}
-use Rattle.image_reader.specs.SoundAdmitted.{unsound, sound-admitted}
+use Rattle.image_reader.specs.laws.RecordLaws.{end-least, nodes-next, length-from, formed-yes}
+use Rattle.image_reader.specs.laws.SoundAdmitted.{unsound, sound-admitted}
 use Rattle.image_reader.specs.Admission.{admitted}
 
 -- one byte

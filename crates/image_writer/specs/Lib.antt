@@ -1,2 +1,2 @@
 pub mod Width
-pub mod Written
+pub mod laws

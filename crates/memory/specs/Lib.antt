@@ -1,5 +1,3 @@
 pub mod Records
-pub mod RecordLaws
 pub mod Layout
-pub mod MemLaws
-pub mod FlatLaws
+pub mod laws

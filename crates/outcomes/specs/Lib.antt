@@ -2,3 +2,4 @@ pub mod Values
 pub mod Sent
 pub mod Started
 pub mod Answered
+pub mod laws

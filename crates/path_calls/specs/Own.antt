@@ -19,7 +19,7 @@ use Rattle.rules.specs.Rules.{callChecks, isOpen}
 use Rattle.paths.specs.Parts.{componentsOf, Some, some}
 use Rattle.paths.specs.PathForms.{formOf}
 use Rattle.paths.specs.Walks.{placed, placedIn, placedFrom}
-use Rattle.paths.specs.WalkAnswers.{Holds, placed-none, placed-in, placed-stops, placed-goes}
+use Rattle.paths.specs.laws.WalkAnswers.{Holds, placed-none, placed-in, placed-stops, placed-goes}
 use Rattle.paths.specs.declared.PathForm.the-variants.{Malformed, Long, Good}
 use Rattle.paths.specs.declared.Walked.{Walked}
 use Rattle.paths.specs.declared.Walked.the-variants.{Node as node, Refused as refusedNode}

@@ -16,9 +16,9 @@ use Rattle.rules.specs.Calls.{stat}
 use Rattle.rules.specs.Rules.{callChecks, isNone, reach}
 use Rattle.paths.specs.Parts.{componentsOf, some}
 use Rattle.paths.specs.PathForms.{formOf}
-use Rattle.paths.specs.FormAnswers.{read-components, form-malformed, form-long, form-good}
+use Rattle.paths.specs.laws.FormAnswers.{read-components, form-malformed, form-long, form-good}
 use Rattle.paths.specs.Walks.{walked, placed, childStep}
-use Rattle.paths.specs.WalkAnswers.{lastStep, walked-placed, Holds, placed-none, placed-walked}
+use Rattle.paths.specs.laws.WalkAnswers.{lastStep, walked-placed, Holds, placed-none, placed-walked}
 use Rattle.paths.specs.declared.PathForm.the-variants.{Malformed, Long, Good}
 use Rattle.paths.specs.declared.Walked.{Walked}
 use Rattle.paths.specs.declared.Walked.the-variants.{Node as node, Refused as refusedNode}

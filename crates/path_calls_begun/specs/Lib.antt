@@ -1,4 +1,3 @@
 pub mod Begun
 pub mod KindLaws
-pub mod BegunLaws
-pub mod NewLaws
+pub mod laws

@@ -1,4 +1,3 @@
 pub mod Begun
-pub mod ReadLaws
-pub mod PageLaws
 pub mod Taken
+pub mod laws

@@ -17,9 +17,9 @@ use Rattle.filesystem.specs.Tables.{NODES, PAGES, PAGE-BYTES, FILE-BYTES, DATA-
 use Rattle.filesystem.specs.Image.{inLimits, divide}
 use Rattle.filesystem.specs.Sound.{to-sound, to-limits, by-kind}
 use Rattle.memory.specs.Layout.{memOf, memorySize, openRows}
-use Rattle.memory.specs.MemLaws.{length-staged}
+use Rattle.memory.specs.laws.MemLaws.{length-staged}
 use Rattle.tables.specs.View.{tablesIn, viewOf}
-use Rattle.tables.specs.RowsInUse.{count-opens}
+use Rattle.tables.specs.laws.RowsInUse.{count-opens}
 use Rattle.rules.specs.Pages.{pageAt, pagePart}
 use Rattle.rules.specs.Requests.{Pending, reading}
 use Rattle.rules.specs.Skeleton.{Config}
@@ -30,14 +30,15 @@ use Rattle.machine.specs.Machine.{State, Result, Gathered, readOn, apply, guard
 use Rattle.machine.specs.Consistent.{Consistent}
 use Rattle.guard_state.specs.declared.Guard.{Guard}
 use Rattle.guard_state.specs.State.{numbersOf, stagedBytes, pendings, gatheredNone, gatheredRead, gatheredDigests, gatheredIn, stateIn, stateOf, filePages}
-use Rattle.guard_state.specs.WaitLaws.{pending-at}
-use Rattle.guard_state.specs.LoadedLaws.{counts-fit, tables-loaded, nodes-loaded, node-there}
+use Rattle.guard_state.specs.laws.WaitLaws.{pending-at}
+use Rattle.guard_state.specs.laws.LoadedLaws.{counts-fit, tables-loaded, nodes-loaded, node-there}
 use Rattle.replies.specs.Judged.{pageReason}
 use Rattle.outcomes.specs.declared.Outcome.{Outcome}
 use Rattle.outcomes.specs.declared.Outcome.the-variants.{Stopped}
-use Rattle.outcomes.specs.Sent.{Sends, Leaves, sends-leaves, stop-sends}
+use Rattle.outcomes.specs.Sent.{Sends, Leaves}
+use Rattle.outcomes.specs.laws.SentLaws.{sends-leaves, stop-sends}
 use Rattle.outcomes.specs.Answered.{taken, answered}
-use Rattle.reads.specs.PageLaws.{staged-more}
+use Rattle.reads.specs.laws.PageLaws.{staged-more}
 
 -- page i lies in n bytes from a position on, and they in a file
 pub record InRead (p n i : ℕ) : Type 0 where

@@ -1,5 +1,3 @@
 pub mod Judged
-pub mod JudgedLaws
 pub mod Listing
-pub mod ListingLaws
-pub mod TakenLaws
+pub mod laws

@@ -14,7 +14,7 @@ ghost use Rattle.replies.specs.Judged.{reasonFor, statusOf, pageReason};
 ghost use Rattle.replies.specs.Listing.{entryAt, entryEnd, endWithin, entryPlace};
 use guard_state::Guard;
 
-// A status: 1 of another length, 2 where it is not the expected one (specs/JudgedLaws.antt: of which requests).
+// A status: 1 of another length, 2 where it is not the expected one (specs/laws/JudgedLaws.antt: of which requests).
 pub fn judge_status(reply: &[u8], expected: i32) -> u8
     ensures { λ r. ⌜ r ≡ statusOf (now (reply .entry)) expected ⌝ }
 {

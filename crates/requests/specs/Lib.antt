@@ -1,3 +1,3 @@
 pub mod StoredPages
-pub mod Heads
 pub mod PathRequests
+pub mod laws

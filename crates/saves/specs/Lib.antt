@@ -1,3 +1,2 @@
 pub mod Saved
-pub mod SavedLaws
-pub mod LoadedLaws
+pub mod laws

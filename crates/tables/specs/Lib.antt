@@ -1,6 +1,2 @@
 pub mod View
-pub mod SearchLaws
-pub mod ContentLaws
-pub mod ViewLaws
-pub mod ChangeLaws
-pub mod RowsInUse
+pub mod laws

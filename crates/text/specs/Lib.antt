@@ -1,6 +1,6 @@
 pub mod Hex
 pub mod Decimal
 pub mod Line
-pub mod HexLaws
 pub mod Ascii
 pub mod Digits
+pub mod laws

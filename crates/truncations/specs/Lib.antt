@@ -1,4 +1,2 @@
 pub mod Shrinking
-pub mod CutLaws
-pub mod RepliedLaws
-pub mod TruncateLaws
+pub mod laws

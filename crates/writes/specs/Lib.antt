@@ -1,6 +1,2 @@
 pub mod Writing
-pub mod FetchLaws
-pub mod StoreLaws
-pub mod PageLaws
-pub mod RepliedLaws
-pub mod WriteLaws
+pub mod laws

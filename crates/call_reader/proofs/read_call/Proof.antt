@@ -5,7 +5,7 @@ use lib.ListN.{getD, drop}
 use Rattle.lists.specs.EqualLaws.{bytes-of}
 use Rattle.filesystem.specs.Tables.{ID-BYTES}
 use Rattle.call_reader.specs.Meaning.{meant}
-use Rattle.call_reader.specs.FieldLaws.{kind-missing, kind-read, kind-none}
+use Rattle.call_reader.specs.laws.FieldLaws.{kind-missing, kind-read, kind-none}
 use borrow.Author.Needs.{needs}
 use Rattle.call_reader.proofs.read_call.Statement.{statement}
 use Rattle.call_reader.proofs.read_call.Tie as tie

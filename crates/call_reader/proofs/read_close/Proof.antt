@@ -3,7 +3,7 @@ use native.Mathlib.Omega.{arith}
 use Rattle.filesystem.specs.Tables.{ID-BYTES}
 use Rattle.rules.specs.Calls.{close}
 use Rattle.call_reader.specs.Meaning.{meant}
-use Rattle.call_reader.specs.FieldLaws.{number-below, handle-wrong, handle-got}
+use Rattle.call_reader.specs.laws.FieldLaws.{number-below, handle-wrong, handle-got}
 use borrow.Author.Needs.{needs}
 use Rattle.call_reader.proofs.read_close.Statement.{statement}
 use Rattle.call_reader.proofs.read_close.Tie as tie

@@ -1,7 +1,7 @@
 -- `call_reader::read_numbered` meets its contract. Assumes nothing.
 use native.Mathlib.Omega.{arith}
 use Rattle.call_reader.specs.Meaning.{madeBy, meant}
-use Rattle.call_reader.specs.FieldLaws.{number-missing, number-low, number-high, number-within}
+use Rattle.call_reader.specs.laws.FieldLaws.{number-missing, number-low, number-high, number-within}
 use borrow.Author.Needs.{needs}
 use Rattle.call_reader.proofs.read_numbered.Statement.{statement}
 use Rattle.call_reader.proofs.read_numbered.Tie as tie

@@ -5,7 +5,7 @@ use Rattle.lists.specs.Pick.{pick}
 use Rattle.filesystem.specs.Tables.{ID-BYTES}
 use Rattle.rules.specs.Calls.{readFields}
 use Rattle.call_reader.specs.Meaning.{madeBy}
-use Rattle.call_reader.specs.FieldLaws.{of-kind}
+use Rattle.call_reader.specs.laws.FieldLaws.{of-kind}
 use borrow.Author.Needs.{needs}
 use Rattle.call_reader.proofs.read_opening.Statement.{statement}
 use Rattle.call_reader.proofs.read_opening.Tie as tie

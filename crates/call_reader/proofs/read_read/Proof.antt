@@ -5,7 +5,7 @@ use borrow.Author.Tests.{le-leb, lt-leb}
 use Rattle.filesystem.specs.Tables.{ID-BYTES, DATA-BYTES}
 use Rattle.rules.specs.Calls.{read}
 use Rattle.call_reader.specs.Meaning.{meant}
-use Rattle.call_reader.specs.FieldLaws.{number-below, pair-wrong, pair-allowed, pair-refused}
+use Rattle.call_reader.specs.laws.FieldLaws.{number-below, pair-wrong, pair-allowed, pair-refused}
 use borrow.Author.Needs.{needs}
 use Rattle.call_reader.proofs.read_read.Statement.{statement}
 use Rattle.call_reader.proofs.read_read.Tie as tie

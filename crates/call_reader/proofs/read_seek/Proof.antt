@@ -6,7 +6,7 @@ use native.Mathlib.Omega.{arith}
 use Rattle.filesystem.specs.Tables.{ID-BYTES}
 use Rattle.rules.specs.Calls.{seek}
 use Rattle.call_reader.specs.Meaning.{meant}
-use Rattle.call_reader.specs.FieldLaws.{number-below, pair-wrong, pair-allowed}
+use Rattle.call_reader.specs.laws.FieldLaws.{number-below, pair-wrong, pair-allowed}
 use borrow.Author.Needs.{needs}
 use Rattle.call_reader.proofs.read_seek.Statement.{statement}
 use Rattle.call_reader.proofs.read_seek.Tie as tie

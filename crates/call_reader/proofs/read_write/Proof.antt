@@ -3,7 +3,7 @@ use native.Mathlib.Omega.{arith}
 use Rattle.filesystem.specs.Tables.{ID-BYTES}
 use Rattle.rules.specs.Calls.{write}
 use Rattle.call_reader.specs.Meaning.{meant}
-use Rattle.call_reader.specs.FieldLaws.{number-below, data-short, data-long, data-got}
+use Rattle.call_reader.specs.laws.FieldLaws.{number-below, data-short, data-long, data-got}
 use borrow.Author.Needs.{needs}
 use Rattle.call_reader.proofs.read_write.Statement.{statement}
 use Rattle.call_reader.proofs.read_write.Tie as tie

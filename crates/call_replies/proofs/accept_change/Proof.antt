@@ -1,7 +1,7 @@
 -- `call_replies::accept_change` meets its contract. Assumes nothing.
 use native.Mathlib.Omega.{arith}
 use mathlib.Core.Path.{_≡_, sym, _∙_}
-use Rattle.call_replies.specs.Premises.{create-premises, open-premises, close-premises, remove-premises, chmod-premises, last-of-five}
+use Rattle.call_replies.specs.laws.Premises.{create-premises, open-premises, close-premises, remove-premises, chmod-premises, last-of-five}
 use borrow.Author.Needs.{needs}
 use Rattle.call_replies.proofs.accept_change.Statement.{statement}
 use Rattle.call_replies.proofs.accept_change.Tie as tie

@@ -2,8 +2,8 @@
 use native.Mathlib.Omega.{arith}
 use mathlib.Core.Path.{refl, ap, sym, _∙_}
 use Rattle.guard_state.specs.declared.Guard.{Guard}
-use Rattle.outcomes.specs.Sent.{sends-leaves, fills-leaves}
-use Rattle.call_replies.specs.Premises.{listing-premises, stat-premises, above-three}
+use Rattle.outcomes.specs.laws.SentLaws.{sends-leaves, fills-leaves}
+use Rattle.call_replies.specs.laws.Premises.{listing-premises, stat-premises, above-three}
 use borrow.Author.Needs.{needs}
 use Rattle.call_replies.proofs.accept_reply.Statement.{statement}
 use Rattle.call_replies.proofs.accept_reply.Tie as tie

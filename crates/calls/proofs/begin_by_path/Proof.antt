@@ -1,7 +1,7 @@
 -- `calls::begin_by_path` meets its contract. Assumes nothing.
 use native.Mathlib.Omega.{arith}
 use Rattle.guard_state.specs.State.{stateOf}
-use Rattle.calls.specs.CalledLaws.{some-node}
+use Rattle.calls.specs.laws.CalledLaws.{some-node}
 use borrow.Author.Needs.{needs}
 use Rattle.calls.proofs.begin_by_path.Statement.{statement}
 use Rattle.calls.proofs.begin_by_path.Tie as tie

@@ -6,7 +6,7 @@ use Rattle.filesystem.specs.Tables.{DATA-BYTES}
 use Rattle.guard_state.specs.State.{stateOf}
 use Rattle.call_reader.specs.declared.ParsedCall.{ParsedCall}
 use Rattle.call_reader.specs.Meaning.{meant, Ranges}
-use Rattle.calls.specs.CalledLaws.{call-as, path-as, none-as, rest-length, write-as}
+use Rattle.calls.specs.laws.CalledLaws.{call-as, path-as, none-as, rest-length, write-as}
 use borrow.Author.Needs.{needs}
 use Rattle.calls.proofs.begin_call.Statement.{statement}
 use Rattle.calls.proofs.begin_call.Tie as tie

@@ -8,10 +8,10 @@ use Rattle.machine.specs.Machine.{asking, guard as digestStore}
 use Rattle.guard_state.specs.declared.Guard.{Guard}
 use Rattle.guard_state.specs.State.{numbersOf, pendingIn, stateOf}
 use Rattle.guard_state.specs.Onward.{goesOn}
-use Rattle.guard_state.specs.LoadedLaws.{open-loaded}
-use Rattle.guard_state.specs.Ranges.{in-range}
+use Rattle.guard_state.specs.laws.LoadedLaws.{open-loaded}
+use Rattle.guard_state.specs.laws.Ranges.{in-range}
 use Rattle.outcomes.specs.declared.Outcome.the-variants.{Ask}
-use Rattle.outcomes.specs.Sent.{asking-sends}
+use Rattle.outcomes.specs.laws.SentLaws.{asking-sends}
 use Rattle.changes.specs.Asked.{fetch-most}
 use borrow.Author.Needs.{needs}
 use Rattle.changes.proofs.ask_page.Statement.{statement}

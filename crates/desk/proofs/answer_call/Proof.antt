@@ -1,6 +1,6 @@
 -- `desk::answer_call` meets its contract. Assumes nothing.
 use native.Mathlib.Omega.{arith}
-use Rattle.desk.specs.AnsweredLaws.{call-answers}
+use Rattle.desk.specs.laws.AnsweredLaws.{call-answers}
 use borrow.Author.Needs.{needs}
 use Rattle.desk.proofs.answer_call.Statement.{statement}
 use Rattle.desk.proofs.answer_call.Tie as tie

@@ -1,5 +1,5 @@
 -- `desk::answer_line` meets its contract. Assumes nothing.
-use Rattle.desk.specs.AnsweredLaws.{bad-answers, call-line, reply-line, bad-line}
+use Rattle.desk.specs.laws.AnsweredLaws.{bad-answers, call-line, reply-line, bad-line}
 use borrow.Author.Needs.{needs}
 use Rattle.desk.proofs.answer_line.Statement.{statement}
 use Rattle.desk.proofs.answer_line.Tie as tie

@@ -5,7 +5,7 @@ use mathlib.Core.Path.{_≡_, refl}
 use mathlib.Core.Logic.{inl, inr}
 use lib.ListN.{length}
 use Rattle.desk.specs.Session.{Through}
-use Rattle.desk.specs.SessionLaws.{through-none, through-more, unended}
+use Rattle.desk.specs.laws.SessionLaws.{through-none, through-more, unended}
 use borrow.Author.Needs.{needs}
 use Rattle.desk.proofs.answer_lines.Statement.{statement}
 use Rattle.desk.proofs.answer_lines.Tie as tie

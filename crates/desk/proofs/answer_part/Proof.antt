@@ -2,7 +2,7 @@
 use native.Mathlib.Omega.{arith}
 use mathlib.Core.Path.{refl}
 use Rattle.lists.specs.Parts.{part}
-use Rattle.desk.specs.SessionLaws.{answers-at}
+use Rattle.desk.specs.laws.SessionLaws.{answers-at}
 use borrow.Author.Needs.{needs}
 use Rattle.desk.proofs.answer_part.Statement.{statement}
 use Rattle.desk.proofs.answer_part.Tie as tie

@@ -1,6 +1,6 @@
 -- `desk::answer_reply` meets its contract. Assumes nothing.
 use native.Mathlib.Omega.{arith}
-use Rattle.desk.specs.AnsweredLaws.{reply-answers}
+use Rattle.desk.specs.laws.AnsweredLaws.{reply-answers}
 use borrow.Author.Needs.{needs}
 use Rattle.desk.proofs.answer_reply.Statement.{statement}
 use Rattle.desk.proofs.answer_reply.Tie as tie

@@ -3,7 +3,7 @@ use mathlib.Core.Path.{sym, ap, _∙_}
 use lib.Seq.{length-take-le}
 use Rattle.text.specs.Hex.{decodeOf}
 use Rattle.desk_lines.specs.Lines.{mostBytes}
-use Rattle.desk_lines.specs.LineLaws.{decoded-front}
+use Rattle.desk_lines.specs.laws.LineLaws.{decoded-front}
 use borrow.Author.Needs.{needs}
 use Rattle.desk_lines.proofs.decode.Statement.{statement}
 use Rattle.desk_lines.proofs.decode.Tie as tie

@@ -2,7 +2,7 @@
 use native.Mathlib.Omega.{arith}
 use Rattle.text.specs.Ascii.{ascii}
 use Rattle.text.specs.Hex.{hexOf}
-use Rattle.desk_lines.specs.Printing.{puts-none, puts-more, any-some}
+use Rattle.desk_lines.specs.laws.Printing.{puts-none, puts-more, any-some}
 use borrow.Author.Needs.{needs}
 use Rattle.desk_lines.proofs.put_any.Statement.{statement}
 use Rattle.desk_lines.proofs.put_any.Tie as tie

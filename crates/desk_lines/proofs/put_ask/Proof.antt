@@ -2,7 +2,7 @@
 use native.Mathlib.Omega.{arith}
 use Rattle.text.specs.Ascii.{ascii}
 use Rattle.text.specs.Hex.{hexOf, length-hexOf}
-use Rattle.desk_lines.specs.Printing.{prints-first, prints-more, prints-as, ask-pieces}
+use Rattle.desk_lines.specs.laws.Printing.{prints-first, prints-more, prints-as, ask-pieces}
 use borrow.Author.Needs.{needs}
 use Rattle.desk_lines.proofs.put_ask.Statement.{statement}
 use Rattle.desk_lines.proofs.put_ask.Tie as tie

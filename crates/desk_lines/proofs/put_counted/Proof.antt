@@ -3,7 +3,7 @@ use native.Mathlib.Omega.{arith}
 use mathlib.Core.List.{append-assoc}
 use Rattle.text.specs.Ascii.{ascii}
 use Rattle.text.specs.Digits.{decimalOf}
-use Rattle.desk_lines.specs.Printing.{prints-first, prints-more, prints-as}
+use Rattle.desk_lines.specs.laws.Printing.{prints-first, prints-more, prints-as}
 use borrow.Author.Needs.{needs}
 use Rattle.desk_lines.proofs.put_counted.Statement.{statement}
 use Rattle.desk_lines.proofs.put_counted.Tie as tie

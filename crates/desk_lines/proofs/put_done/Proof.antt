@@ -1,7 +1,7 @@
 -- `desk_lines::put_done` meets its contract. Assumes nothing.
 use native.Mathlib.Omega.{arith}
 use Rattle.text.specs.Ascii.{ascii}
-use Rattle.desk_lines.specs.Printing.{prints-first, prints-more, prints-as, length-any, done-pieces}
+use Rattle.desk_lines.specs.laws.Printing.{prints-first, prints-more, prints-as, length-any, done-pieces}
 use borrow.Author.Needs.{needs}
 use Rattle.desk_lines.proofs.put_done.Statement.{statement}
 use Rattle.desk_lines.proofs.put_done.Tie as tie

@@ -2,7 +2,7 @@
 use native.Mathlib.Omega.{arith}
 use mathlib.Core.Path.{refl}
 use Rattle.text.specs.Hex.{hexOf, length-hexOf}
-use Rattle.desk_lines.specs.Printing.{overwrite-behind}
+use Rattle.desk_lines.specs.laws.Printing.{overwrite-behind}
 use borrow.Author.Needs.{needs}
 use Rattle.desk_lines.proofs.put_hex.Statement.{statement}
 use Rattle.desk_lines.proofs.put_hex.Tie as tie

@@ -1,7 +1,7 @@
 -- `desk_lines::put_number` meets its contract. Assumes nothing.
 use native.Mathlib.Omega.{arith}
 use mathlib.Core.Path.{_∙_}
-use Rattle.desk_lines.specs.Printing.{all-behind, digits-behind, length-number}
+use Rattle.desk_lines.specs.laws.Printing.{all-behind, digits-behind, length-number}
 use borrow.Author.Needs.{needs}
 use Rattle.desk_lines.proofs.put_number.Statement.{statement}
 use Rattle.desk_lines.proofs.put_number.Tie as tie

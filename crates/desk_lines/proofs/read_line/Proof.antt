@@ -11,8 +11,8 @@ use Rattle.text.specs.declared.hex.Decoded.{Decoded}
 use Rattle.text.specs.declared.hex.Decoded.the-variants.{Bytes}
 use Rattle.text.proofs.hex.Decoded as decoded
 use Rattle.desk_lines.specs.Lines.{callLine, replyLine}
-use Rattle.desk_lines.specs.LineLaws.{reads-call, reads-reply, reads-other, reads-bad, line-call, line-reply, line-bad}
-use Rattle.desk_lines.specs.Printing.{all-behind}
+use Rattle.desk_lines.specs.laws.LineLaws.{reads-call, reads-reply, reads-other, reads-bad, line-call, line-reply, line-bad}
+use Rattle.desk_lines.specs.laws.Printing.{all-behind}
 use borrow.Author.Needs.{needs}
 use Rattle.desk_lines.proofs.read_line.Statement.{statement}
 use Rattle.desk_lines.proofs.read_line.Tie as tie

@@ -1,7 +1,7 @@
 -- `desk_lines::write_bad` meets its contract. Assumes nothing.
 use Rattle.text.specs.Ascii.{ascii}
 use Rattle.desk_lines.specs.Lines.{printedBad}
-use Rattle.desk_lines.specs.Printing.{prints-first}
+use Rattle.desk_lines.specs.laws.Printing.{prints-first}
 use borrow.Author.Needs.{needs}
 use Rattle.desk_lines.proofs.write_bad.Statement.{statement}
 use Rattle.desk_lines.proofs.write_bad.Tie as tie

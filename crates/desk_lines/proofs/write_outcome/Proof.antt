@@ -4,7 +4,7 @@ use Rattle.text.specs.Ascii.{ascii}
 use Rattle.outcomes.specs.declared.Outcome.{Outcome}
 use Rattle.outcomes.specs.Values.{answerIn}
 use Rattle.desk_lines.specs.Lines.{printed}
-use Rattle.desk_lines.specs.Printing.{prints-as, prints-done, prints-ask}
+use Rattle.desk_lines.specs.laws.Printing.{prints-as, prints-done, prints-ask}
 use borrow.Author.Needs.{needs}
 use Rattle.desk_lines.proofs.write_outcome.Statement.{statement}
 use Rattle.desk_lines.proofs.write_outcome.Tie as tie

@@ -1,5 +1,5 @@
 -- `guard::first_number` meets its contract. Assumes nothing.
-use Rattle.guard.specs.Tested.{tested-stopped, tested-busy, tested-quiet}
+use Rattle.guard.specs.laws.Tested.{tested-stopped, tested-busy, tested-quiet}
 use borrow.Author.Needs.{needs}
 use Rattle.guard.proofs.first_number.Statement.{statement}
 use Rattle.guard.proofs.first_number.Tie as tie

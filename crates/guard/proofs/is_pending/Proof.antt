@@ -1,5 +1,5 @@
 -- `guard::is_pending` meets its contract. Assumes nothing.
-use Rattle.guard.specs.Numbers.{waits-idle, waits-some}
+use Rattle.guard.specs.laws.NumberLaws.{waits-idle, waits-some}
 use Rattle.guard.proofs.is_pending.Statement.{statement}
 use Rattle.guard.proofs.is_pending.Tie as tie
 

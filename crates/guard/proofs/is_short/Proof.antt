@@ -1,6 +1,6 @@
 -- `guard::is_short` meets its contract. Assumes nothing.
 use native.Mathlib.Omega.{arith}
-use Rattle.guard.specs.EventLaws.{answer-short, answer-long}
+use Rattle.guard.specs.laws.EventLaws.{answer-short, answer-long}
 use Rattle.guard.proofs.is_short.Statement.{statement}
 use Rattle.guard.proofs.is_short.Tie as tie
 

@@ -3,8 +3,8 @@ use native.Mathlib.Omega.{arith}
 use mathlib.Core.Path.{sym}
 use Rattle.lists.specs.EqualLaws.{bytes-of}
 use Rattle.rules.specs.Skeleton.{EventBytes}
-use Rattle.guard.specs.FrontLaws.{front-size}
-use Rattle.guard.specs.EntryLaws.{call-short-memory, call-promised}
+use Rattle.guard.specs.laws.FrontLaws.{front-size}
+use Rattle.guard.specs.laws.EntryLaws.{call-short-memory, call-promised}
 use borrow.Author.Needs.{needs}
 use Rattle.guard.proofs.on_call.Statement.{statement}
 use Rattle.guard.proofs.on_call.Tie as tie

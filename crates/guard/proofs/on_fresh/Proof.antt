@@ -1,8 +1,8 @@
 -- `guard::on_fresh` meets its contract. Assumes nothing.
 use native.Mathlib.Omega.{arith}
 use mathlib.Core.Path.{sym}
-use Rattle.guard.specs.FrontLaws.{front-size}
-use Rattle.guard.specs.EntryLaws.{fresh-short-memory, fresh-promised}
+use Rattle.guard.specs.laws.FrontLaws.{front-size}
+use Rattle.guard.specs.laws.EntryLaws.{fresh-short-memory, fresh-promised}
 use borrow.Author.Needs.{needs}
 use Rattle.guard.proofs.on_fresh.Statement.{statement}
 use Rattle.guard.proofs.on_fresh.Tie as tie

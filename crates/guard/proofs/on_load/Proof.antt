@@ -2,8 +2,8 @@
 use native.Mathlib.Omega.{arith}
 use mathlib.Core.Path.{sym}
 use Rattle.lists.specs.EqualLaws.{bytes-of}
-use Rattle.guard.specs.FrontLaws.{front-size}
-use Rattle.guard.specs.EntryLaws.{load-short-memory, load-promised}
+use Rattle.guard.specs.laws.FrontLaws.{front-size}
+use Rattle.guard.specs.laws.EntryLaws.{load-short-memory, load-promised}
 use borrow.Author.Needs.{needs}
 use Rattle.guard.proofs.on_load.Statement.{statement}
 use Rattle.guard.proofs.on_load.Tie as tie

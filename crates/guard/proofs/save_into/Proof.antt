@@ -1,8 +1,8 @@
 -- `guard::save_into` meets its contract. Assumes nothing.
 use native.Mathlib.Omega.{arith}
 use mathlib.Core.Path.{sym}
-use Rattle.guard.specs.FrontLaws.{front-size}
-use Rattle.guard.specs.EntryLaws.{save-short-memory, save-promised}
+use Rattle.guard.specs.laws.FrontLaws.{front-size}
+use Rattle.guard.specs.laws.EntryLaws.{save-short-memory, save-promised}
 use borrow.Author.Needs.{needs}
 use Rattle.guard.proofs.save_into.Statement.{statement}
 use Rattle.guard.proofs.save_into.Tie as tie

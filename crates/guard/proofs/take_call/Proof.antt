@@ -3,10 +3,10 @@ use native.Mathlib.Omega.{arith}
 use mathlib.Core.Path.{refl, sym, _∙_}
 use lib.ListN.{length}
 use Rattle.configuration.specs.Delivered.{delivered}
-use Rattle.outcomes.specs.Sent.{sends-leaves}
+use Rattle.outcomes.specs.laws.SentLaws.{sends-leaves}
 use Rattle.guard.specs.Promise.{held}
-use Rattle.guard.specs.EventLaws.{long-enough, store-room, call-short, call-read}
-use Rattle.guard.specs.EntryLaws.{digest-delivered, width-delivered, call-behind, turned, refused-as, taken-as, call-ready}
+use Rattle.guard.specs.laws.EventLaws.{long-enough, store-room, call-short, call-read}
+use Rattle.guard.specs.laws.EntryLaws.{digest-delivered, width-delivered, call-behind, turned, refused-as, taken-as, call-ready}
 use borrow.Author.Needs.{needs}
 use Rattle.guard.proofs.take_call.Statement.{statement}
 use Rattle.guard.proofs.take_call.Tie as tie

@@ -2,7 +2,7 @@
 use native.Mathlib.Omega.{arith}
 use mathlib.Core.Path.{refl}
 use Rattle.configuration.specs.Delivered.{delivered}
-use Rattle.guard.specs.EntryLaws.{digest-delivered, width-delivered, load-turned, load-taken}
+use Rattle.guard.specs.laws.EntryLaws.{digest-delivered, width-delivered, load-turned, load-taken}
 use borrow.Author.Needs.{needs}
 use Rattle.guard.proofs.take_load.Statement.{statement}
 use Rattle.guard.proofs.take_load.Tie as tie

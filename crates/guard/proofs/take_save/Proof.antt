@@ -2,7 +2,7 @@
 use native.Mathlib.Omega.{arith}
 use mathlib.Core.Path.{refl}
 use Rattle.configuration.specs.Delivered.{delivered}
-use Rattle.guard.specs.EntryLaws.{digest-delivered, width-delivered, save-turned, save-taken}
+use Rattle.guard.specs.laws.EntryLaws.{digest-delivered, width-delivered, save-turned, save-taken}
 use borrow.Author.Needs.{needs}
 use Rattle.guard.proofs.take_save.Statement.{statement}
 use Rattle.guard.proofs.take_save.Tie as tie

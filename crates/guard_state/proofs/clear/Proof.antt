@@ -4,8 +4,8 @@ use mathlib.Core.Path.{ap, _∙_}
 use mathlib.Core.List.{List}
 use Prim.Native.Nat.{ℕ}
 use Rattle.memory.specs.Layout.{memOf, withHead}
-use Rattle.memory.specs.MemLaws.{length-head}
-use Rattle.guard_state.specs.WaitLaws.{head-cleared}
+use Rattle.memory.specs.laws.MemLaws.{length-head}
+use Rattle.guard_state.specs.laws.WaitLaws.{head-cleared}
 use borrow.Author.Needs.{needs}
 use Rattle.guard_state.proofs.clear.Statement.{statement}
 use Rattle.guard_state.proofs.clear.Tie as tie

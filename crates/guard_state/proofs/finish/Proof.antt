@@ -1,6 +1,6 @@
 -- `guard_state::finish` meets its contract. Assumes nothing.
 use native.Mathlib.Omega.{arith}
-use Rattle.guard_state.specs.WaitLaws.{ends-as}
+use Rattle.guard_state.specs.laws.WaitLaws.{ends-as}
 use borrow.Author.Needs.{needs}
 use Rattle.guard_state.proofs.finish.Statement.{statement}
 use Rattle.guard_state.proofs.finish.Tie as tie

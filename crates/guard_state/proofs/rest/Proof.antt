@@ -4,7 +4,7 @@ use mathlib.Core.Path.{_≡_, _∙_}
 use lib.ListN.{set}
 use Rattle.memory.specs.Layout.{memOf, withHead}
 use Rattle.guard_state.specs.State.{clearedHead}
-use Rattle.guard_state.specs.WaitLaws.{rests-as}
+use Rattle.guard_state.specs.laws.WaitLaws.{rests-as}
 use borrow.Author.Needs.{needs}
 use Rattle.guard_state.proofs.rest.Statement.{statement}
 use Rattle.guard_state.proofs.rest.Tie as tie

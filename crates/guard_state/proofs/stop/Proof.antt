@@ -4,7 +4,7 @@ use mathlib.Core.Path.{_≡_, _∙_}
 use lib.ListN.{set}
 use Rattle.memory.specs.Layout.{memOf, withHead}
 use Rattle.guard_state.specs.State.{clearedHead}
-use Rattle.guard_state.specs.WaitLaws.{stops-as}
+use Rattle.guard_state.specs.laws.WaitLaws.{stops-as}
 use borrow.Author.Needs.{needs}
 use Rattle.guard_state.proofs.stop.Statement.{statement}
 use Rattle.guard_state.proofs.stop.Tie as tie

@@ -7,7 +7,7 @@ use Prim.Native.Nat.{ℕ}
 use Rattle.memory.specs.Layout.{memOf, openRows, withHead}
 use Rattle.rules.specs.Requests.{asked, closing}
 use Rattle.guard_state.specs.State.{numbersOf, clearedHead, pendings, pendingIn, gatheredIn, gatheredNone}
-use Rattle.guard_state.specs.WaitLaws.{kept, waits-as}
+use Rattle.guard_state.specs.laws.WaitLaws.{kept, waits-as}
 use borrow.Author.Needs.{needs}
 use Rattle.guard_state.proofs.wait_close.Statement.{statement}
 use Rattle.guard_state.proofs.wait_close.Tie as tie

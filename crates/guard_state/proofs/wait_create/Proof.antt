@@ -11,7 +11,7 @@ use Rattle.filesystem.specs.Tables.{DATA-BYTES}
 use Rattle.memory.specs.Layout.{memOf, withHead, withStaged}
 use Rattle.rules.specs.Requests.{asked, creating}
 use Rattle.guard_state.specs.State.{numbersOf, clearedHead, pendings, pendingIn, gatheredIn, gatheredNone, stagedBytes}
-use Rattle.guard_state.specs.WaitLaws.{kept, staged-waits}
+use Rattle.guard_state.specs.laws.WaitLaws.{kept, staged-waits}
 use borrow.Author.Needs.{needs}
 use Rattle.guard_state.proofs.wait_create.Statement.{statement}
 use Rattle.guard_state.proofs.wait_create.Tie as tie

@@ -4,7 +4,7 @@ use native.Mathlib.Omega.{arith}
 use mathlib.Core.Path.{_≡_, _∙_}
 use lib.ListN.{set}
 use Rattle.memory.specs.Layout.{memOf, withHead}
-use Rattle.guard_state.specs.OnwardLaws.{goes-on}
+use Rattle.guard_state.specs.laws.OnwardLaws.{goes-on}
 use borrow.Author.Needs.{needs}
 use Rattle.guard_state.proofs.wait_further.Statement.{statement}
 use Rattle.guard_state.proofs.wait_further.Tie as tie

@@ -8,7 +8,7 @@ use Rattle.filesystem.specs.Tables.{NODES}
 use Rattle.memory.specs.Layout.{memOf, withHead}
 use Rattle.rules.specs.Requests.{asked, opening}
 use Rattle.guard_state.specs.State.{numbersOf, clearedHead, pendings, pendingIn, gatheredIn, gatheredNone}
-use Rattle.guard_state.specs.WaitLaws.{kept, waits-as}
+use Rattle.guard_state.specs.laws.WaitLaws.{kept, waits-as}
 use borrow.Author.Needs.{needs}
 use Rattle.guard_state.proofs.wait_open.Statement.{statement}
 use Rattle.guard_state.proofs.wait_open.Tie as tie

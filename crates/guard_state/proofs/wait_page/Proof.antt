@@ -8,11 +8,11 @@ use Prim.Native.Nat.{ℕ, _+_, _%_}
 use Rattle.lists.specs.Parts.{overwrite}
 use Rattle.filesystem.specs.Tables.{NODES, FILE-BYTES, DATA-BYTES}
 use Rattle.memory.specs.Layout.{memOf, openRows, withHead, withStaged}
-use Rattle.memory.specs.MemLaws.{length-staged}
+use Rattle.memory.specs.laws.MemLaws.{length-staged}
 use Rattle.rules.specs.Requests.{reading}
 use Rattle.guard_state.specs.State.{numbersOf, clearedHead, pendings, pendingIn, gatheredIn, gatheredRead, stagedBytes, filePages}
-use Rattle.guard_state.specs.StageLaws.{bytes-more}
-use Rattle.guard_state.specs.WaitLaws.{kept, staged-waits}
+use Rattle.guard_state.specs.laws.StageLaws.{bytes-more}
+use Rattle.guard_state.specs.laws.WaitLaws.{kept, staged-waits}
 use borrow.Author.Needs.{needs}
 use Rattle.guard_state.proofs.wait_page.Statement.{statement}
 use Rattle.guard_state.proofs.wait_page.Tie as tie

@@ -7,7 +7,7 @@ use Rattle.filesystem.specs.Tables.{NODES, FILE-BYTES, DATA-BYTES}
 use Rattle.memory.specs.Layout.{openRows}
 use Rattle.rules.specs.Requests.{reading}
 use Rattle.guard_state.specs.State.{numbersOf, clearedHead, pendings, pendingIn, gatheredIn, gatheredNone, stagedBytes, filePages}
-use Rattle.guard_state.specs.WaitLaws.{kept, waits-as}
+use Rattle.guard_state.specs.laws.WaitLaws.{kept, waits-as}
 use borrow.Author.Needs.{needs}
 use Rattle.guard_state.proofs.wait_read.Statement.{statement}
 use Rattle.guard_state.proofs.wait_read.Tie as tie

@@ -6,7 +6,7 @@ use Prim.Native.Nat.{_+_}
 use lib.ListN.{set}
 use Rattle.memory.specs.Layout.{Mem, withHead}
 use Rattle.guard_state.specs.State.{numbersOf}
-use Rattle.guard_state.specs.OnwardLaws.{call-sent, goes-on-sent}
+use Rattle.guard_state.specs.laws.OnwardLaws.{call-sent, goes-on-sent}
 use borrow.Author.Needs.{needs}
 use Rattle.guard_state.proofs.wait_sent.Statement.{statement}
 use Rattle.guard_state.proofs.wait_sent.Tie as tie

@@ -11,8 +11,8 @@ use Rattle.tables.specs.View.{stagedDigests}
 use Rattle.guard_state.specs.declared.Guard.{Guard}
 use Rattle.guard_state.specs.State.{numbersOf, clearedHead, pendings, pendingIn, gatheredIn, gatheredNone}
 use Rattle.guard_state.specs.Onward.{shrinkNumbers}
-use Rattle.guard_state.specs.OnwardLaws.{shrink-numbers}
-use Rattle.guard_state.specs.WaitLaws.{waits-as}
+use Rattle.guard_state.specs.laws.OnwardLaws.{shrink-numbers}
+use Rattle.guard_state.specs.laws.WaitLaws.{waits-as}
 use borrow.Author.Needs.{needs}
 use Rattle.guard_state.proofs.wait_shrink.Statement.{statement}
 use Rattle.guard_state.proofs.wait_shrink.Tie as tie

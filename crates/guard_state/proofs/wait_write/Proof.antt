@@ -15,8 +15,8 @@ use Rattle.tables.specs.View.{stagedDigests}
 use Rattle.guard_state.specs.declared.Guard.{Guard}
 use Rattle.guard_state.specs.State.{numbersOf, clearedHead, pendings, pendingIn, gatheredIn, gatheredNone, stagedBytes}
 use Rattle.guard_state.specs.Onward.{writeNumbers}
-use Rattle.guard_state.specs.OnwardLaws.{write-numbers}
-use Rattle.guard_state.specs.WaitLaws.{staged-waits}
+use Rattle.guard_state.specs.laws.OnwardLaws.{write-numbers}
+use Rattle.guard_state.specs.laws.WaitLaws.{staged-waits}
 use borrow.Author.Needs.{needs}
 use Rattle.guard_state.proofs.wait_write.Statement.{statement}
 use Rattle.guard_state.proofs.wait_write.Tie as tie

@@ -6,8 +6,8 @@ use Rattle.filesystem.specs.Tables.{pagesFor}
 use Rattle.memory.specs.Layout.{memOf}
 use Rattle.tables.specs.View.{tablesIn}
 use Rattle.rules.specs.Rules.{noRoom}
-use Rattle.handle_calls.specs.HandledLaws.{room-past, room-left, size-front}
-use Rattle.tables.specs.RowsInUse.{count-nodes}
+use Rattle.handle_calls.specs.laws.HandledLaws.{room-past, room-left, size-front}
+use Rattle.tables.specs.laws.RowsInUse.{count-nodes}
 use borrow.Author.Needs.{needs}
 use Rattle.handle_calls.proofs.is_full.Statement.{statement}
 use Rattle.handle_calls.proofs.is_full.Tie as tie

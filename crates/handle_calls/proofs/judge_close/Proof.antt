@@ -4,8 +4,8 @@ use mathlib.Core.Path.{_≡_}
 use lib.ListN.{length, take}
 use Rattle.memory.specs.Layout.{memOf}
 use Rattle.tables.specs.View.{tablesIn}
-use Rattle.handle_calls.specs.HandledLaws.{judged-refused, judged-open, close-refused, close-handled}
-use Rattle.tables.specs.RowsInUse.{count-opens}
+use Rattle.handle_calls.specs.laws.HandledLaws.{judged-refused, judged-open, close-refused, close-handled}
+use Rattle.tables.specs.laws.RowsInUse.{count-opens}
 use borrow.Author.Needs.{needs}
 use Rattle.handle_calls.proofs.judge_close.Statement.{statement}
 use Rattle.handle_calls.proofs.judge_close.Tie as tie

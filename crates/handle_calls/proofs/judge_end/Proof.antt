@@ -4,7 +4,7 @@ use mathlib.Core.Path.{_≡_, sym}
 use Prim.Native.Nat.{ℕ}
 use lib.ListN.{take}
 use Rattle.memory.specs.Layout.{memOf}
-use Rattle.handle_calls.specs.HandledLaws.{end-past, end-within}
+use Rattle.handle_calls.specs.laws.HandledLaws.{end-past, end-within}
 use borrow.Author.Needs.{needs}
 use Rattle.handle_calls.proofs.judge_end.Statement.{statement}
 use Rattle.handle_calls.proofs.judge_end.Tie as tie

@@ -3,7 +3,7 @@ use native.Mathlib.Omega.{arith}
 use mathlib.Core.Path.{sym, _∙_}
 use Rattle.memory.specs.Layout.{memOf}
 use Rattle.tables.specs.View.{tablesIn}
-use Rattle.handle_calls.specs.HandledLaws.{judged-refused, judged-open, has-place, read-refused, read-handled}
+use Rattle.handle_calls.specs.laws.HandledLaws.{judged-refused, judged-open, has-place, read-refused, read-handled}
 use borrow.Author.Needs.{needs}
 use Rattle.handle_calls.proofs.judge_read.Statement.{statement}
 use Rattle.handle_calls.proofs.judge_read.Tie as tie

@@ -5,8 +5,8 @@ use Prim.Native.Nat.{ℕ}
 use lib.ListN.{length, take}
 use Rattle.memory.specs.Layout.{memOf}
 use Rattle.tables.specs.View.{tablesIn}
-use Rattle.handle_calls.specs.HandledLaws.{judged-refused, seek-refused, seek-handled}
-use Rattle.tables.specs.RowsInUse.{count-opens}
+use Rattle.handle_calls.specs.laws.HandledLaws.{judged-refused, seek-refused, seek-handled}
+use Rattle.tables.specs.laws.RowsInUse.{count-opens}
 use borrow.Author.Needs.{needs}
 use Rattle.handle_calls.proofs.judge_seek.Statement.{statement}
 use Rattle.handle_calls.proofs.judge_seek.Tie as tie

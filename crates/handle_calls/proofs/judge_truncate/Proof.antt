@@ -3,7 +3,7 @@ use native.Mathlib.Omega.{arith}
 use mathlib.Core.Path.{sym, _∙_}
 use Rattle.memory.specs.Layout.{memOf}
 use Rattle.tables.specs.View.{tablesIn}
-use Rattle.handle_calls.specs.HandledLaws.{judged-refused, has-place, truncate-refused, truncate-handled}
+use Rattle.handle_calls.specs.laws.HandledLaws.{judged-refused, has-place, truncate-refused, truncate-handled}
 use borrow.Author.Needs.{needs}
 use Rattle.handle_calls.proofs.judge_truncate.Statement.{statement}
 use Rattle.handle_calls.proofs.judge_truncate.Tie as tie

@@ -5,7 +5,7 @@ use mathlib.Core.Path.{refl, sym, ap, _∙_}
 use lib.ListN.{length}
 use Rattle.memory.specs.Layout.{memOf}
 use Rattle.tables.specs.View.{tablesIn}
-use Rattle.handle_calls.specs.HandledLaws.{judged-refused, judged-open, has-place, has-cursor, write-refused, write-long, write-full, write-handled}
+use Rattle.handle_calls.specs.laws.HandledLaws.{judged-refused, judged-open, has-place, has-cursor, write-refused, write-long, write-full, write-handled}
 use borrow.Author.Needs.{needs}
 use Rattle.handle_calls.proofs.judge_write.Statement.{statement}
 use Rattle.handle_calls.proofs.judge_write.Tie as tie

@@ -7,8 +7,8 @@ use lib.Dec.{eqb}
 use lib.ListN.{length, take}
 use Rattle.memory.specs.Layout.{memOf}
 use Rattle.filesystem.specs.Tables.{OpenFile}
-use Rattle.handle_calls.specs.HandledLaws.{lacks-absent, lacks-there}
-use Rattle.tables.specs.RowsInUse.{count-opens, open-front}
+use Rattle.handle_calls.specs.laws.HandledLaws.{lacks-absent, lacks-there}
+use Rattle.tables.specs.laws.RowsInUse.{count-opens, open-front}
 use borrow.Author.Needs.{needs}
 use Rattle.handle_calls.proofs.lacks_right.Statement.{statement}
 use Rattle.handle_calls.proofs.lacks_right.Tie as tie

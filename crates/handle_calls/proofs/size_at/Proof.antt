@@ -3,8 +3,8 @@ use native.Mathlib.Omega.{arith}
 use mathlib.Core.Path.{_≡_, sym, _∙_}
 use lib.ListN.{length, take}
 use Rattle.memory.specs.Layout.{memOf}
-use Rattle.handle_calls.specs.HandledLaws.{size-front, size-past}
-use Rattle.tables.specs.RowsInUse.{count-nodes}
+use Rattle.handle_calls.specs.laws.HandledLaws.{size-front, size-past}
+use Rattle.tables.specs.laws.RowsInUse.{count-nodes}
 use borrow.Author.Needs.{needs}
 use Rattle.handle_calls.proofs.size_at.Statement.{statement}
 use Rattle.handle_calls.proofs.size_at.Tie as tie

@@ -4,12 +4,12 @@ use mathlib.Core.Path.{refl, ap, sym, _∙_}
 use Rattle.filesystem.specs.Tables.{Tables, OpenFile, openAt}
 use Rattle.memory.specs.Layout.{memOf}
 use Rattle.tables.specs.View.{tablesIn}
-use Rattle.tables.specs.RowsInUse.{count-opens, open-front}
+use Rattle.tables.specs.laws.RowsInUse.{count-opens, open-front}
 use Rattle.rules.specs.Calls.{close}
-use Rattle.handle_calls.specs.HandledLaws.{judged-at}
+use Rattle.handle_calls.specs.laws.HandledLaws.{judged-at}
 use Rattle.guard_state.specs.State.{stateOf}
-use Rattle.guard_state.specs.LoadedLaws.{counts-fit, tables-loaded}
-use Rattle.handle_calls_begun.specs.StartedLaws.{handle-refused, close-sends}
+use Rattle.guard_state.specs.laws.LoadedLaws.{counts-fit, tables-loaded}
+use Rattle.handle_calls_begun.specs.laws.StartedLaws.{handle-refused, close-sends}
 use borrow.Author.Needs.{needs}
 use Rattle.handle_calls_begun.proofs.begin_close.Statement.{statement}
 use Rattle.handle_calls_begun.proofs.begin_close.Tie as tie

@@ -1,6 +1,6 @@
 -- `handle_calls_begun::end_at` meets its contract. Assumes nothing.
 use native.Mathlib.Omega.{arith}
-use Rattle.handle_calls_begun.specs.StartedLaws.{cursor-ends}
+use Rattle.handle_calls_begun.specs.laws.StartedLaws.{cursor-ends}
 use borrow.Author.Needs.{needs}
 use Rattle.handle_calls_begun.proofs.end_at.Statement.{statement}
 use Rattle.handle_calls_begun.proofs.end_at.Tie as tie

@@ -3,11 +3,11 @@ use native.Mathlib.Omega.{arith}
 use mathlib.Core.Path.{refl, ap}
 use Rattle.tables.specs.View.{tablesIn}
 use Rattle.rules.specs.Calls.{seek}
-use Rattle.handle_calls.specs.HandledLaws.{judged-at}
+use Rattle.handle_calls.specs.laws.HandledLaws.{judged-at}
 use Rattle.guard_state.specs.declared.Guard.{Guard}
 use Rattle.guard_state.specs.State.{stateOf}
-use Rattle.guard_state.specs.LoadedLaws.{counts-fit, tables-loaded}
-use Rattle.handle_calls_begun.specs.StartedLaws.{handle-refused, seek-sends}
+use Rattle.guard_state.specs.laws.LoadedLaws.{counts-fit, tables-loaded}
+use Rattle.handle_calls_begun.specs.laws.StartedLaws.{handle-refused, seek-sends}
 use borrow.Author.Needs.{needs}
 use Rattle.handle_calls_begun.proofs.finish_seek.Statement.{statement}
 use Rattle.handle_calls_begun.proofs.finish_seek.Tie as tie

@@ -8,13 +8,13 @@ use borrow.Author.Tests.{leb-true, not-true, not-false}
 use mathlib.Core.List.{List}
 use Prim.Native.Nat.{ℕ, _-_, _≤_}
 use lib.ListN.{length}
-use Rattle.image_reader.specs.RecordLaws.{record-least, length-from}
+use Rattle.image_reader.specs.laws.RecordLaws.{record-least, length-from}
 use lib.ListN.{getD}
 use Rattle.lists.specs.Equal.{and-snd}
 use Rattle.filesystem.specs.Tables.{ID-BYTES, NAME-BYTES}
 use Rattle.filesystem.specs.Paths.{componentForm}
 use Rattle.filesystem.specs.Image.{isNamed}
-use Rattle.image_reader.specs.AdmissionLaws.{admit-limits, admit-name, admit-clash, admit-orphan, admit-yes}
+use Rattle.image_reader.specs.laws.AdmissionLaws.{admit-limits, admit-name, admit-clash, admit-orphan, admit-yes}
 use borrow.Author.Needs.{needs}
 use Rattle.image_reader.proofs.admission.Statement.{statement}
 use Rattle.image_reader.proofs.admission.Tie as tie

@@ -6,8 +6,8 @@ use Rattle.image_reader.specs.Records.{recordAt, recordEnd, nodesFrom, e
 use mathlib.Core.List.{[], _∷_}
 use Prim.Native.Nat.{ℕ, _+_, _-_, _≤_, _<_}
 use lib.ListN.{length, take, length-set}
-use Rattle.image_reader.specs.RecordLaws.{record-least, record-in, end-next, end-rises}
-use Rattle.image_reader.specs.StepLaws.{first-end, first-admitted, next-end, admitted-stop, admitted-step, admitted-end}
+use Rattle.image_reader.specs.laws.RecordLaws.{record-least, record-in, end-next, end-rises}
+use Rattle.image_reader.specs.laws.StepLaws.{first-end, first-admitted, next-end, admitted-stop, admitted-step, admitted-end}
 use Rattle.image_reader.specs.Admission.{admitted}
 use borrow.Author.Needs.{needs}
 use Rattle.image_reader.proofs.all_admitted.Statement.{statement}

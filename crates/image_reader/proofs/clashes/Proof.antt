@@ -5,7 +5,7 @@ use Rattle.filesystem.specs.Tables.{ID-BYTES}
 use Rattle.image_reader.specs.Records.{recordAt, nodesFrom, endFrom}
 use Prim.Native.Nat.{ℕ, _+_, _-_, _≤_}
 use Rattle.image_reader.specs.Admission.{clash}
-use Rattle.image_reader.specs.RecordLaws.{record-least, record-in, end-next, any-hit, any-miss, any-end}
+use Rattle.image_reader.specs.laws.RecordLaws.{record-least, record-in, end-next, any-hit, any-miss, any-end}
 use Rattle.lists.specs.Search.{any}
 use borrow.Author.Needs.{needs}
 use Rattle.image_reader.proofs.clashes.Statement.{statement}

@@ -6,7 +6,7 @@ use Rattle.image_reader.specs.Records.{endFrom, nodeCount, recordsEnd, d
 use lib.Dec.{leb}
 use Prim.Native.Nat.{ℕ, _+_, _-_, _*_}
 use lib.ListN.{length}
-use Rattle.image_reader.specs.RecordLaws.{end-least, end-none, end-some, no-form, a-form, formed-short, formed-many, formed-cut, formed-other, formed-yes}
+use Rattle.image_reader.specs.laws.RecordLaws.{end-least, end-none, end-some, no-form, a-form, formed-short, formed-many, formed-cut, formed-other, formed-yes}
 use Rattle.lists.specs.Pick.{pick}
 use Rattle.lists.specs.LittleEndian.{decode}
 use Rattle.lists.specs.Parts.{part}

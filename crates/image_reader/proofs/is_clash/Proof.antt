@@ -8,7 +8,7 @@ use lib.Dec.{eqb}
 use borrow.Author.Tests.{eq-eqb, ne-eqb}
 use mathlib.Core.List.{List}
 use Prim.Native.Nat.{ℕ, _-_}
-use Rattle.image_reader.specs.RecordLaws.{record-least}
+use Rattle.image_reader.specs.laws.RecordLaws.{record-least}
 use Rattle.lists.specs.Equal.{equal}
 use borrow.Author.Needs.{needs}
 use Rattle.image_reader.proofs.is_clash.Statement.{statement}

@@ -12,7 +12,7 @@ use Rattle.lists.specs.All.{Bytes}
 use Rattle.lists.specs.EqualLaws.{bytes-of}
 use Rattle.filesystem.specs.Image.{inLimits}
 use Rattle.lists.specs.Equal.{and-false}
-use Rattle.image_reader.specs.TestLaws.{id-below}
+use Rattle.image_reader.specs.laws.TestLaws.{id-below}
 use borrow.Author.Needs.{needs}
 use Rattle.image_reader.proofs.is_in_limits.Statement.{statement}
 use Rattle.image_reader.proofs.is_in_limits.Tie as tie

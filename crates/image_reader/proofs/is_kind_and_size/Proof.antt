@@ -1,5 +1,5 @@
 -- `image_reader::is_kind_and_size` meets its contract. Assumes nothing.
-use Rattle.image_reader.specs.TestLaws.{file-case, folder-case, neither-case}
+use Rattle.image_reader.specs.laws.TestLaws.{file-case, folder-case, neither-case}
 use Rattle.image_reader.proofs.is_kind_and_size.Statement.{statement}
 use Rattle.image_reader.proofs.is_kind_and_size.Tie as tie
 

@@ -9,7 +9,7 @@ use lib.ListN.{length}
 use Rattle.lists.specs.Search.{every}
 use Rattle.filesystem.specs.Paths.{componentForm}
 use Rattle.lists.specs.Equal.{and-false, and-true}
-use Rattle.image_reader.specs.TestLaws.{component-name}
+use Rattle.image_reader.specs.laws.TestLaws.{component-name}
 use borrow.Author.Needs.{needs}
 use Rattle.image_reader.proofs.is_named.Statement.{statement}
 use Rattle.image_reader.proofs.is_named.Tie as tie

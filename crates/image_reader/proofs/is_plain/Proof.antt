@@ -5,7 +5,7 @@ use Rattle.image_reader.specs.Records.{plainByte}
 use Prim.Native.Nat.{_≤_, _-_}
 use lib.ListN.{length, drop}
 use Rattle.lists.specs.Search.{every}
-use Rattle.image_reader.specs.TestLaws.{plain-zero, plain-slash, plain-next, plain-end}
+use Rattle.image_reader.specs.laws.TestLaws.{plain-zero, plain-slash, plain-next, plain-end}
 use borrow.Author.Needs.{needs}
 use Rattle.image_reader.proofs.is_plain.Statement.{statement}
 use Rattle.image_reader.proofs.is_plain.Tie as tie

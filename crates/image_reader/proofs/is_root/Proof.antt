@@ -6,11 +6,11 @@ use Rattle.image_reader.specs.Records.{recordAt}
 use mathlib.Core.Bool.{true, false}
 use lib.Dec.{eqb}
 use borrow.Author.Tests.{eq-eqb, ne-eqb}
-use Rattle.image_reader.specs.RecordLaws.{record-least}
+use Rattle.image_reader.specs.laws.RecordLaws.{record-least}
 use mathlib.Core.List.{List}
 use Prim.Native.Nat.{ℕ}
 use lib.ListN.{length}
-use Rattle.image_reader.specs.TestLaws.{no-bytes}
+use Rattle.image_reader.specs.laws.TestLaws.{no-bytes}
 use borrow.Author.Needs.{needs}
 use Rattle.image_reader.proofs.is_root.Statement.{statement}
 use Rattle.image_reader.proofs.is_root.Tie as tie

@@ -4,7 +4,7 @@ use mathlib.Core.Path.{ap, _∙_}
 use Prim.Native.Nat.{_-_}
 use lib.ListN.{length, set}
 use Rattle.memory.specs.Layout.{memOf, withNodes}
-use Rattle.image_reader.specs.RecordLaws.{record-least}
+use Rattle.image_reader.specs.laws.RecordLaws.{record-least}
 use Rattle.filesystem.specs.Tables.{ID-BYTES, Node}
 use Rattle.image_reader.specs.Loaded.{same-node}
 use borrow.Author.Needs.{needs}

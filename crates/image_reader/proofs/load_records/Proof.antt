@@ -7,11 +7,11 @@ use Prim.Native.Nat.{ℕ, _+_, _-_, _≤_}
 use lib.ListN.{length, set}
 use Rattle.memory.specs.Layout.{Mem, memOf, withNodes}
 use Rattle.lists.specs.Parts.{overwrite}
-use Rattle.image_reader.specs.RecordLaws.{record-least, record-in, end-next, end-last, nodes-last}
+use Rattle.image_reader.specs.laws.RecordLaws.{record-least, record-in, end-next, end-last, nodes-last}
 use Rattle.lists.specs.PartLaws.{overwrite-none}
 use Rattle.filesystem.specs.Tables.{ID-BYTES, Node, noNode}
-use Rattle.memory.specs.MemLaws.{length-nodes}
-use Rattle.image_reader.specs.StepLaws.{next-end}
+use Rattle.memory.specs.laws.MemLaws.{length-nodes}
+use Rattle.image_reader.specs.laws.StepLaws.{next-end}
 use Rattle.image_reader.specs.Loaded.{short-name, loaded-next}
 use borrow.Author.Needs.{needs}
 use Rattle.image_reader.proofs.load_records.Statement.{statement}

@@ -3,8 +3,8 @@ use native.Mathlib.Omega.{arith}
 use mathlib.Core.Path.{_≡_, ap, ap₂, sym, _∙_}
 use Rattle.image_reader.specs.Records.{nodesFrom, endFrom}
 use Prim.Native.Nat.{ℕ, _+_, _-_, _*_, _≤_}
-use Rattle.image_reader.specs.RecordLaws.{record-least, record-in, end-next}
-use Rattle.image_reader.specs.StepLaws.{pages-next, pages-last}
+use Rattle.image_reader.specs.laws.RecordLaws.{record-least, record-in, end-next}
+use Rattle.image_reader.specs.laws.StepLaws.{pages-next, pages-last}
 use Rattle.filesystem.specs.Tables.{ID-BYTES, pagesFor, pageTotal}
 use borrow.Author.Needs.{needs}
 use Rattle.image_reader.proofs.page_sum.Statement.{statement}

@@ -7,7 +7,7 @@ use mathlib.Core.Bool.{true, false, _&&_}
 use lib.Dec.{eqb}
 use Prim.Native.Nat.{ℕ, _+_, _-_, _≤_}
 use Rattle.image_reader.specs.Admission.{isParent}
-use Rattle.image_reader.specs.RecordLaws.{record-least, record-in, end-next, place-hit, place-miss, place-end}
+use Rattle.image_reader.specs.laws.RecordLaws.{record-least, record-in, end-next, place-hit, place-miss, place-end}
 use Rattle.lists.specs.Search.{place}
 use borrow.Author.Needs.{needs}
 use Rattle.image_reader.proofs.parent_place.Statement.{statement}

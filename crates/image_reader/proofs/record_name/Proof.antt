@@ -2,8 +2,8 @@
 use native.Mathlib.Omega.{arith}
 use Rattle.lists.specs.Parts.{part}
 use Rattle.filesystem.specs.Tables.{ID-BYTES}
-use Rattle.image_reader.specs.RecordLaws.{record-least}
-use Rattle.image_reader.specs.TestLaws.{name-part}
+use Rattle.image_reader.specs.laws.RecordLaws.{record-least}
+use Rattle.image_reader.specs.laws.TestLaws.{name-part}
 use borrow.Author.Needs.{needs}
 use Rattle.image_reader.proofs.record_name.Statement.{statement}
 use Rattle.image_reader.proofs.record_name.Tie as tie

@@ -5,7 +5,7 @@ use Rattle.filesystem.specs.Tables.{ID-BYTES}
 use Rattle.image_reader.specs.Records.{endFrom}
 use Prim.Native.Nat.{_+_, _≤_, _-_}
 use lib.ListN.{length}
-use Rattle.image_reader.specs.RecordLaws.{no-end, an-end, cut-front, cut-record, end-next, end-last}
+use Rattle.image_reader.specs.laws.RecordLaws.{no-end, an-end, cut-front, cut-record, end-next, end-last}
 use borrow.Author.Needs.{needs}
 use Rattle.image_reader.proofs.records_end.Statement.{statement}
 use Rattle.image_reader.proofs.records_end.Tie as tie

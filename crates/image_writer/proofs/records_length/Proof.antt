@@ -6,7 +6,7 @@ use lib.ListN.{length, drop}
 use Rattle.filesystem.specs.Tables.{ID-BYTES}
 use Rattle.filesystem.specs.Image.{recordsLength}
 use Rattle.image_writer.specs.Width.{nodesIn}
-use Rattle.image_writer.specs.Written.{records-in, records-end}
+use Rattle.image_writer.specs.laws.Written.{records-in, records-end}
 use borrow.Author.Needs.{needs}
 use Rattle.image_writer.proofs.records_length.Statement.{statement}
 use Rattle.image_writer.proofs.records_length.Tie as tie

@@ -6,7 +6,7 @@ use mathlib.Core.List.{List}
 use Rattle.lists.specs.LittleEndian.{encode}
 use Rattle.lists.specs.Parts.{overwrite}
 use Rattle.filesystem.specs.Tables.{ID-BYTES}
-use Rattle.image_writer.specs.Written.{ids-written}
+use Rattle.image_writer.specs.laws.Written.{ids-written}
 use borrow.Author.Needs.{needs}
 use Rattle.image_writer.proofs.write_ids.Statement.{statement}
 use Rattle.image_writer.proofs.write_ids.Tie as tie

@@ -2,7 +2,7 @@
 use native.Mathlib.Omega.{arith}
 use Rattle.filesystem.specs.Tables.{ID-BYTES}
 use Rattle.filesystem.specs.Image.{imageLength}
-use Rattle.image_writer.specs.Written.{image-written}
+use Rattle.image_writer.specs.laws.Written.{image-written}
 use borrow.Author.Needs.{needs}
 use Rattle.image_writer.proofs.write_image.Statement.{statement}
 use Rattle.image_writer.proofs.write_image.Tie as tie

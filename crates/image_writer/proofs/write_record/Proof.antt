@@ -5,7 +5,7 @@ use lib.ListN.{length}
 use Rattle.filesystem.specs.Tables.{ID-BYTES, nodeAt}
 use Rattle.memory.specs.Layout.{memOf}
 use Rattle.image_writer.specs.Width.{middle}
-use Rattle.image_writer.specs.Written.{record-made, made}
+use Rattle.image_writer.specs.laws.Written.{record-made, made}
 use borrow.Author.Needs.{needs}
 use Rattle.image_writer.proofs.write_record.Statement.{statement}
 use Rattle.image_writer.proofs.write_record.Tie as tie

@@ -7,10 +7,10 @@ use Rattle.lists.specs.Form.{put-all}
 use Rattle.lists.specs.Parts.{overwrite}
 use Rattle.filesystem.specs.Image.{nodeForm, recordsLength}
 use Rattle.image_writer.specs.Width.{nodesIn}
-use Rattle.image_writer.specs.Written.{records-in, records-end}
+use Rattle.image_writer.specs.laws.Written.{records-in, records-end}
 use Prim.Native.Nat.{_<_}
 use Rattle.filesystem.specs.Tables.{ID-BYTES, NODES}
-use Rattle.image_writer.specs.Written.{record-next, records-done}
+use Rattle.image_writer.specs.laws.Written.{record-next, records-done}
 use borrow.Author.Needs.{needs}
 use Rattle.image_writer.proofs.write_records.Statement.{statement}
 use Rattle.image_writer.proofs.write_records.Tie as tie

@@ -6,7 +6,7 @@ use native.Mathlib.Omega.{arith}
 use Rattle.lists.specs.Parts.{part}
 use Rattle.lists.specs.PartLaws.{length-part}
 use Rattle.memory.specs.Layout.{digestsAt, digestWidth}
-use Rattle.memory.specs.FlatLaws.{flat-digests}
+use Rattle.memory.specs.laws.FlatLaws.{flat-digests}
 use borrow.Author.Needs.{needs}
 use Rattle.memory.proofs.digests.Statement.{statement}
 use Rattle.memory.proofs.digests.Tie as tie

@@ -1,7 +1,7 @@
 -- `memory::head` meets its contract. Assumes nothing.
 use native.Mathlib.Omega.{arith}
 use mathlib.Core.Path.{sym, _∙_}
-use Rattle.memory.specs.MemLaws.{head-at}
+use Rattle.memory.specs.laws.MemLaws.{head-at}
 use borrow.Author.Needs.{needs}
 use Rattle.memory.proofs.head.Statement.{statement}
 use Rattle.memory.proofs.head.Tie as tie

@@ -12,7 +12,7 @@ use Rattle.lists.specs.Parts.{part}
 use Rattle.filesystem.specs.Tables.{nodeAt}
 use Rattle.memory.specs.Records.{nodeWidth}
 use Rattle.memory.specs.Layout.{memOf, nodesAt}
-use Rattle.memory.specs.MemLaws.{name-is}
+use Rattle.memory.specs.laws.MemLaws.{name-is}
 use borrow.Author.Needs.{needs}
 use Rattle.memory.proofs.is_child.Statement.{statement}
 use Rattle.memory.proofs.is_child.Tie as tie

@@ -2,7 +2,7 @@
 use native.Mathlib.Omega.{arith}
 use mathlib.Core.Path.{ap, _∙_}
 use Rattle.memory.specs.Layout.{memOf}
-use Rattle.memory.specs.MemLaws.{mem-keep}
+use Rattle.memory.specs.laws.MemLaws.{mem-keep}
 use borrow.Author.Needs.{needs}
 use Rattle.memory.proofs.keep_digests.Statement.{statement}
 use Rattle.memory.proofs.keep_digests.Tie as tie

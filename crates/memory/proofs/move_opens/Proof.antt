@@ -2,7 +2,7 @@
 use native.Mathlib.Omega.{arith}
 use mathlib.Core.Path.{ap, _∙_}
 use Rattle.memory.specs.Layout.{memOf}
-use Rattle.memory.specs.MemLaws.{mem-opens-move}
+use Rattle.memory.specs.laws.MemLaws.{mem-opens-move}
 use borrow.Author.Needs.{needs}
 use Rattle.memory.proofs.move_opens.Statement.{statement}
 use Rattle.memory.proofs.move_opens.Tie as tie

@@ -9,7 +9,7 @@ use Prim.Native.Nat.{_%_}
 use lib.ListN.{getD}
 use native.Mathlib.Nat.{add-sub-cancel-left}
 use Rattle.lists.specs.PartLaws.{length-part}
-use Rattle.memory.specs.MemLaws.{node-name}
+use Rattle.memory.specs.laws.MemLaws.{node-name}
 use borrow.Author.Needs.{needs}
 use Rattle.memory.proofs.node_name.Statement.{statement}
 use Rattle.memory.proofs.node_name.Tie as tie

@@ -6,7 +6,7 @@ use mathlib.Core.List.{List}
 use Rattle.lists.specs.Parts.{overwrite}
 use Rattle.memory.specs.Records.{nodeOf}
 use lib.ListN.{replicate}
-use Rattle.memory.specs.RecordLaws.{written-node}
+use Rattle.memory.specs.laws.RecordLaws.{written-node}
 use borrow.Author.Needs.{needs}
 use Rattle.memory.proofs.node_row.Statement.{statement}
 use Rattle.memory.proofs.node_row.Tie as tie

@@ -4,9 +4,9 @@ use Prim.Native.Nat.{_+_, _*_}
 use mathlib.Core.Path.{sym, ap, _∙_}
 use Rattle.filesystem.specs.Tables.{Node}
 use Rattle.memory.specs.Records.{field, nodeOf, nodeWidth}
-use Rattle.memory.specs.RecordLaws.{field-part}
+use Rattle.memory.specs.laws.RecordLaws.{field-part}
 use Rattle.memory.specs.Layout.{nodesAt}
-use Rattle.memory.specs.MemLaws.{node-at}
+use Rattle.memory.specs.laws.MemLaws.{node-at}
 use borrow.Author.Needs.{needs}
 use Rattle.memory.proofs.node_size.Statement.{statement}
 use Rattle.memory.proofs.node_size.Tie as tie

@@ -4,9 +4,9 @@ use Prim.Native.Nat.{_+_, _*_}
 use mathlib.Core.Path.{sym, ap, _∙_}
 use Rattle.filesystem.specs.Tables.{OpenFile}
 use Rattle.memory.specs.Records.{field, openOf, openWidth}
-use Rattle.memory.specs.RecordLaws.{field-part}
+use Rattle.memory.specs.laws.RecordLaws.{field-part}
 use Rattle.memory.specs.Layout.{opensAt}
-use Rattle.memory.specs.MemLaws.{open-at}
+use Rattle.memory.specs.laws.MemLaws.{open-at}
 use native.Mathlib.Nat.{add-zero}
 use borrow.Author.Needs.{needs}
 use Rattle.memory.proofs.open_handle.Statement.{statement}

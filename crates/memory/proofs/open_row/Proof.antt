@@ -4,7 +4,7 @@ use mathlib.Core.Path.{refl}
 use Rattle.lists.specs.LittleEndian.{encode}
 use Rattle.filesystem.specs.Tables.{newOpenFile, withCursor}
 use Rattle.memory.specs.Records.{openRow}
-use Rattle.memory.specs.RecordLaws.{open-of-row}
+use Rattle.memory.specs.laws.RecordLaws.{open-of-row}
 use borrow.Author.Needs.{needs}
 use Rattle.memory.proofs.open_row.Statement.{statement}
 use Rattle.memory.proofs.open_row.Tie as tie

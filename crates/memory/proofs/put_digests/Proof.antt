@@ -2,7 +2,7 @@
 use mathlib.Core.Path.{ap, _∙_}
 use native.Mathlib.Omega.{arith}
 use Rattle.memory.specs.Layout.{memOf}
-use Rattle.memory.specs.FlatLaws.{mem-digests}
+use Rattle.memory.specs.laws.FlatLaws.{mem-digests}
 use borrow.Author.Needs.{needs}
 use Rattle.memory.proofs.put_digests.Statement.{statement}
 use Rattle.memory.proofs.put_digests.Tie as tie

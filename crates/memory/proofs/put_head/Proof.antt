@@ -5,7 +5,7 @@ use mathlib.Core.Path.{ap, _∙_}
 use Rattle.lists.specs.Parts.{overwrite}
 use lib.ListN.{set}
 use Rattle.memory.specs.Layout.{withHead, memOf}
-use Rattle.memory.specs.MemLaws.{mem-number}
+use Rattle.memory.specs.laws.MemLaws.{mem-number}
 use Rattle.lists.specs.LittleEndian.{encode, length-encode, decode-encode}
 use borrow.Author.Needs.{needs}
 use Rattle.memory.proofs.put_head.Statement.{statement}

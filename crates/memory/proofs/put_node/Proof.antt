@@ -2,7 +2,7 @@
 use native.Mathlib.Omega.{arith}
 use mathlib.Core.Path.{ap, _∙_}
 use Rattle.memory.specs.Layout.{memOf}
-use Rattle.memory.specs.MemLaws.{mem-node}
+use Rattle.memory.specs.laws.MemLaws.{mem-node}
 use borrow.Author.Needs.{needs}
 use Rattle.memory.proofs.put_node.Statement.{statement}
 use Rattle.memory.proofs.put_node.Tie as tie

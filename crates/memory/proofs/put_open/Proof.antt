@@ -2,7 +2,7 @@
 use native.Mathlib.Omega.{arith}
 use mathlib.Core.Path.{ap, _∙_}
 use Rattle.memory.specs.Layout.{memOf}
-use Rattle.memory.specs.MemLaws.{mem-open}
+use Rattle.memory.specs.laws.MemLaws.{mem-open}
 use borrow.Author.Needs.{needs}
 use Rattle.memory.proofs.put_open.Statement.{statement}
 use Rattle.memory.proofs.put_open.Tie as tie

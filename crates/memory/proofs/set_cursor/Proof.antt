@@ -5,7 +5,7 @@ use mathlib.Core.Path.{ap, _∙_}
 use Rattle.lists.specs.Parts.{overwrite}
 use Rattle.memory.specs.Records.{openWidth}
 use Rattle.memory.specs.Layout.{memOf, opensAt}
-use Rattle.memory.specs.MemLaws.{mem-cursor}
+use Rattle.memory.specs.laws.MemLaws.{mem-cursor}
 use borrow.Author.Needs.{needs}
 use Rattle.memory.proofs.set_cursor.Statement.{statement}
 use Rattle.memory.proofs.set_cursor.Tie as tie

@@ -5,11 +5,11 @@ use mathlib.Core.Path.{_≡_, sym, ap, _∙_}
 use Rattle.lists.specs.Parts.{overwrite}
 use Rattle.memory.specs.Records.{nodeWidth}
 use Rattle.memory.specs.Layout.{memOf, nodesAt}
-use Rattle.memory.specs.MemLaws.{mem-mode}
+use Rattle.memory.specs.laws.MemLaws.{mem-mode}
 use Rattle.lists.specs.LittleEndian.{encode}
 use lib.ListN.{set, length-set}
 use Rattle.lists.specs.PartLaws.{overwrite-one}
-use Rattle.memory.specs.RecordLaws.{encode-byte}
+use Rattle.memory.specs.laws.RecordLaws.{encode-byte}
 use borrow.Author.Needs.{needs}
 use Rattle.memory.proofs.set_mode.Statement.{statement}
 use Rattle.memory.proofs.set_mode.Tie as tie

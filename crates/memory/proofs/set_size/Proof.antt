@@ -5,7 +5,7 @@ use mathlib.Core.Path.{ap, _∙_}
 use Rattle.lists.specs.Parts.{overwrite}
 use Rattle.memory.specs.Records.{nodeWidth}
 use Rattle.memory.specs.Layout.{memOf, nodesAt}
-use Rattle.memory.specs.MemLaws.{mem-size}
+use Rattle.memory.specs.laws.MemLaws.{mem-size}
 use borrow.Author.Needs.{needs}
 use Rattle.memory.proofs.set_size.Statement.{statement}
 use Rattle.memory.proofs.set_size.Tie as tie

@@ -3,7 +3,7 @@ use native.Mathlib.Omega.{arith}
 use Prim.Native.Nat.{_+_, _*_}
 use mathlib.Core.Path.{_≡_, ap, _∙_}
 use Rattle.memory.specs.Layout.{memOf, digestWidth}
-use Rattle.memory.specs.MemLaws.{mem-staged}
+use Rattle.memory.specs.laws.MemLaws.{mem-staged}
 use lib.ListN.{length}
 use Rattle.memory.specs.Layout.{dataSize}
 use borrow.Author.Needs.{needs}

@@ -4,7 +4,7 @@ use Prim.Native.Nat.{_+_}
 use mathlib.Core.Path.{sym}
 use Rattle.lists.specs.Parts.{part}
 use Rattle.memory.specs.Layout.{stagingAt}
-use Rattle.memory.specs.MemLaws.{staged-at}
+use Rattle.memory.specs.laws.MemLaws.{staged-at}
 use native.Mathlib.Nat.{add-sub-cancel-left}
 use Rattle.lists.specs.PartLaws.{length-part}
 use borrow.Author.Needs.{needs}

@@ -3,7 +3,7 @@ use native.Mathlib.Omega.{arith}
 use mathlib.Core.Path.{sym, _∙_}
 use Rattle.memory.specs.Layout.{memOf}
 use Rattle.tables.specs.View.{tablesIn}
-use Rattle.path_calls.specs.Rows.{reached-front}
+use Rattle.path_calls.specs.laws.Rows.{reached-front}
 use Rattle.path_calls.specs.Own.{open-goes, open-stops}
 use borrow.Author.Needs.{needs}
 use Rattle.path_calls.proofs.judge_open.Statement.{statement}

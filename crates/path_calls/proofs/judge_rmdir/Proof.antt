@@ -4,7 +4,7 @@ use mathlib.Core.Path.{sym, _∙_}
 use Rattle.memory.specs.Layout.{memOf}
 use Rattle.tables.specs.View.{tablesIn}
 use Rattle.path_calls.specs.Reached.{way-stops}
-use Rattle.path_calls.specs.Rows.{way-front}
+use Rattle.path_calls.specs.laws.Rows.{way-front}
 use Rattle.path_calls.specs.Own.{rmdir-goes, rmdir-stops}
 use borrow.Author.Needs.{needs}
 use Rattle.path_calls.proofs.judge_rmdir.Statement.{statement}

@@ -9,11 +9,11 @@ use Rattle.lists.specs.Checks.{decide-passed, check-passes, check-stops}
 use Rattle.filesystem.specs.Tables.{NODES}
 use Rattle.filesystem.specs.Paths.{childAt}
 use Rattle.memory.specs.Layout.{memOf}
-use Rattle.paths.specs.WalkLaws.{child-front}
+use Rattle.paths.specs.laws.WalkLaws.{child-front}
 use Rattle.paths.specs.declared.Placed.the-variants.{Refused as refusedPlace}
-use Rattle.path_calls.specs.Rows.{bit, no-bit}
+use Rattle.path_calls.specs.laws.Rows.{bit, no-bit}
 use Rattle.path_calls.specs.Own.{nameOwn}
-use Rattle.tables.specs.RowsInUse.{count-nodes}
+use Rattle.tables.specs.laws.RowsInUse.{count-nodes}
 use borrow.Author.Needs.{needs}
 use Rattle.path_calls.proofs.name_own.Statement.{statement}
 use Rattle.path_calls.proofs.name_own.Tie as tie

@@ -5,9 +5,9 @@ use mathlib.Core.Path.{_≡_, sym, ap, _∙_}
 use lib.ListN.{length, take, drop, length-drop}
 use lib.Seq.{take-all}
 use Rattle.memory.specs.Layout.{memOf}
-use Rattle.path_calls.specs.Rows.{holds-front}
+use Rattle.path_calls.specs.laws.Rows.{holds-front}
 use Rattle.path_calls.specs.Own.{nameOwn, new-stops, new-root, new-goes}
-use Rattle.tables.specs.RowsInUse.{count-nodes}
+use Rattle.tables.specs.laws.RowsInUse.{count-nodes}
 use borrow.Author.Needs.{needs}
 use Rattle.path_calls.proofs.new_own.Statement.{statement}
 use Rattle.path_calls.proofs.new_own.Tie as tie

@@ -10,9 +10,9 @@ use Rattle.filesystem.specs.Tables.{OPEN-FILES}
 use Rattle.memory.specs.Layout.{memOf}
 use Rattle.paths.specs.declared.Walked.the-variants.{Refused as refusedNode}
 use Rattle.tables.specs.View.{tablesIn}
-use Rattle.path_calls.specs.Rows.{covers-front, folder, no-folder, is-open, not-open}
+use Rattle.path_calls.specs.laws.Rows.{covers-front, folder, no-folder, is-open, not-open}
 use Rattle.path_calls.specs.Own.{openOwn}
-use Rattle.tables.specs.RowsInUse.{count-opens}
+use Rattle.tables.specs.laws.RowsInUse.{count-opens}
 use borrow.Author.Needs.{needs}
 use Rattle.path_calls.proofs.open_own.Statement.{statement}
 use Rattle.path_calls.proofs.open_own.Tie as tie

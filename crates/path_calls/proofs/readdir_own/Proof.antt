@@ -6,7 +6,7 @@ use Rattle.lists.specs.All.{both, none}
 use Rattle.lists.specs.Checks.{decide-passed, check-passes, check-stops}
 use Rattle.memory.specs.Layout.{memOf}
 use Rattle.paths.specs.declared.Walked.the-variants.{Refused as refusedNode}
-use Rattle.path_calls.specs.Rows.{folder, no-folder, bit, no-bit}
+use Rattle.path_calls.specs.laws.Rows.{folder, no-folder, bit, no-bit}
 use Rattle.path_calls.specs.Own.{readdirOwn}
 use borrow.Author.Needs.{needs}
 use Rattle.path_calls.proofs.readdir_own.Statement.{statement}

@@ -7,7 +7,7 @@ use Rattle.lists.specs.Checks.{decide-passed, check-passes, check-stops}
 use Rattle.memory.specs.Layout.{memOf}
 use Rattle.paths.specs.declared.Walked.the-variants.{Refused as refusedNode}
 use Rattle.tables.specs.View.{tablesIn}
-use Rattle.path_calls.specs.Rows.{folder, no-folder, bit, no-bit, is-open, not-open}
+use Rattle.path_calls.specs.laws.Rows.{folder, no-folder, bit, no-bit, is-open, not-open}
 use Rattle.path_calls.specs.Own.{removeOwn}
 use borrow.Author.Needs.{needs}
 use Rattle.path_calls.proofs.remove_own.Statement.{statement}

@@ -10,7 +10,7 @@ use Rattle.lists.specs.Checks.{decide-passed, check-passes, check-stops}
 use Rattle.filesystem.specs.Tables.{nodeAt, children}
 use Rattle.memory.specs.Layout.{memOf}
 use Rattle.paths.specs.declared.Walked.the-variants.{Refused as refusedNode}
-use Rattle.path_calls.specs.Rows.{folder, no-folder, bit, no-bit, children-front}
+use Rattle.path_calls.specs.laws.Rows.{folder, no-folder, bit, no-bit, children-front}
 use Rattle.path_calls.specs.Own.{rmdirOwn}
 use borrow.Author.Needs.{needs}
 use Rattle.path_calls.proofs.rmdir_own.Statement.{statement}

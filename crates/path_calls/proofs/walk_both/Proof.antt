@@ -8,7 +8,7 @@ use lib.Seq.{take-all}
 use Rattle.paths.specs.Walks.{childStep}
 use Rattle.memory.specs.Layout.{memOf}
 use Rattle.path_calls.specs.Reached.{wayOf, both-root, both-in, both-refused}
-use Rattle.path_calls.specs.Rows.{holds-front}
+use Rattle.path_calls.specs.laws.Rows.{holds-front}
 use borrow.Author.Needs.{needs}
 use Rattle.path_calls.proofs.walk_both.Statement.{statement}
 use Rattle.path_calls.proofs.walk_both.Tie as tie

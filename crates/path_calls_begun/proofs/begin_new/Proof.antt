@@ -5,15 +5,15 @@ use Prim.Native.Nat.{ℕ}
 use Rattle.filesystem.specs.Tables.{Tables, nodeAt}
 use Rattle.memory.specs.Layout.{memOf}
 use Rattle.tables.specs.View.{tablesIn}
-use Rattle.tables.specs.RowsInUse.{count-nodes, node-front}
+use Rattle.tables.specs.laws.RowsInUse.{count-nodes, node-front}
 use Rattle.rules.specs.Requests.{asked, creating, storeLength}
 use Rattle.path_calls.specs.Judged.{placeFor}
 use Rattle.call_reader.specs.Meaning.{madeBy}
-use Rattle.guard_state.specs.LoadedLaws.{counts-fit, tables-loaded, nodes-loaded}
+use Rattle.guard_state.specs.laws.LoadedLaws.{counts-fit, tables-loaded, nodes-loaded}
 use Rattle.guard_state.specs.State.{stateOf, gatheredNone}
 use Rattle.guard_state.specs.Waits.{waits}
-use Rattle.path_calls_begun.specs.BegunLaws.{request-most}
-use Rattle.path_calls_begun.specs.NewLaws.{new-kind, place-made, new-named, new-never, new-refused, new-sends}
+use Rattle.path_calls_begun.specs.laws.BegunLaws.{request-most}
+use Rattle.path_calls_begun.specs.laws.NewLaws.{new-kind, place-made, new-named, new-never, new-refused, new-sends}
 use lib.ListN.{drop}
 use borrow.Author.Needs.{needs}
 use Rattle.path_calls_begun.proofs.begin_new.Statement.{statement}

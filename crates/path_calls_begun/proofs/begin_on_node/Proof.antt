@@ -4,14 +4,14 @@ use mathlib.Core.Path.{refl, ap, _∙_}
 use Rattle.filesystem.specs.Tables.{Tables}
 use Rattle.memory.specs.Layout.{memOf}
 use Rattle.tables.specs.View.{tablesIn}
-use Rattle.tables.specs.RowsInUse.{count-nodes}
+use Rattle.tables.specs.laws.RowsInUse.{count-nodes}
 use Rattle.rules.specs.Requests.{storeLength}
 use Rattle.path_calls.specs.Judged.{nodeFor}
 use Rattle.call_reader.specs.Meaning.{madeBy}
-use Rattle.guard_state.specs.LoadedLaws.{counts-fit, tables-loaded, nodes-loaded}
+use Rattle.guard_state.specs.laws.LoadedLaws.{counts-fit, tables-loaded, nodes-loaded}
 use Rattle.guard_state.specs.State.{stateOf}
 use Rattle.path_calls_begun.specs.KindLaws.{on-node}
-use Rattle.path_calls_begun.specs.BegunLaws.{request-most, refused-sends, passes-node, node-sends}
+use Rattle.path_calls_begun.specs.laws.BegunLaws.{request-most, refused-sends, passes-node, node-sends}
 use borrow.Author.Needs.{needs}
 use Rattle.path_calls_begun.proofs.begin_on_node.Statement.{statement}
 use Rattle.path_calls_begun.proofs.begin_on_node.Tie as tie

@@ -3,8 +3,8 @@ use native.Mathlib.Omega.{arith}
 use mathlib.Core.Path.{_≡_, sym}
 use lib.ListN.{length, take}
 use Rattle.memory.specs.Layout.{memOf}
-use Rattle.paths.specs.WalkLaws.{child-front, child-absent, child-there}
-use Rattle.tables.specs.RowsInUse.{count-nodes}
+use Rattle.paths.specs.laws.WalkLaws.{child-front, child-absent, child-there}
+use Rattle.tables.specs.laws.RowsInUse.{count-nodes}
 use borrow.Author.Needs.{needs}
 use Rattle.paths.proofs.last_step.Statement.{statement}
 use Rattle.paths.proofs.last_step.Tie as tie

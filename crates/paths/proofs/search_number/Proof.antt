@@ -6,8 +6,8 @@ use borrow.Author.Tests.{eq-eqb, ne-eqb}
 use lib.ListN.{take}
 use Rattle.filesystem.specs.Tables.{nodeAt, isDirectory, hasBit}
 use Rattle.memory.specs.Layout.{memOf}
-use Rattle.paths.specs.WalkLaws.{search-no-folder, search-barred, search-free}
-use Rattle.tables.specs.RowsInUse.{node-front}
+use Rattle.paths.specs.laws.WalkLaws.{search-no-folder, search-barred, search-free}
+use Rattle.tables.specs.laws.RowsInUse.{node-front}
 use borrow.Author.Needs.{needs}
 use Rattle.paths.proofs.search_number.Statement.{statement}
 use Rattle.paths.proofs.search_number.Tie as tie

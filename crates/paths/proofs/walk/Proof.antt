@@ -9,10 +9,10 @@ use Rattle.filesystem.specs.Tables.{NODES}
 use Rattle.memory.specs.Layout.{memOf}
 use Rattle.paths.specs.Parts.{componentsOf}
 use Rattle.paths.specs.Walks.{walked, placed, childStep}
-use Rattle.paths.specs.WalkAnswers.{lastStep, walked-placed, Holds, placed-in}
+use Rattle.paths.specs.laws.WalkAnswers.{lastStep, walked-placed, Holds, placed-in}
 use Rattle.paths.specs.declared.Placed.{Placed}
 use Rattle.paths.specs.declared.Placed.the-variants.{In}
-use Rattle.tables.specs.RowsInUse.{count-nodes}
+use Rattle.tables.specs.laws.RowsInUse.{count-nodes}
 use borrow.Author.Needs.{needs}
 use Rattle.paths.proofs.walk.Statement.{statement}
 use Rattle.paths.proofs.walk.Tie as tie

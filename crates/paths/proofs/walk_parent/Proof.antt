@@ -11,8 +11,8 @@ use Rattle.filesystem.specs.Paths.{split}
 use Rattle.memory.specs.Layout.{memOf}
 use Rattle.paths.specs.Parts.{isSlash}
 use Rattle.paths.specs.Walks.{placed, placedFrom}
-use Rattle.paths.specs.WalkLaws.{placed-root, placed-parts, step-stop, step-absent, step-on, step-last, child-front}
-use Rattle.tables.specs.RowsInUse.{count-nodes}
+use Rattle.paths.specs.laws.WalkLaws.{placed-root, placed-parts, step-stop, step-absent, step-on, step-last, child-front}
+use Rattle.tables.specs.laws.RowsInUse.{count-nodes}
 use borrow.Author.Needs.{needs}
 use Rattle.paths.proofs.walk_parent.Statement.{statement}
 use Rattle.paths.proofs.walk_parent.Tie as tie

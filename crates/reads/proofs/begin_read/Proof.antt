@@ -1,11 +1,11 @@
 -- `reads::begin_read` meets its contract. Assumes nothing.
 use native.Mathlib.Omega.{arith}
 use mathlib.Core.Path.{refl, ap}
-use Rattle.handle_calls.specs.HandledLaws.{judged-at}
+use Rattle.handle_calls.specs.laws.HandledLaws.{judged-at}
 use Rattle.guard_state.specs.declared.Guard.{Guard}
 use Rattle.guard_state.specs.State.{stateOf}
-use Rattle.guard_state.specs.LoadedLaws.{counts-fit, tables-loaded}
-use Rattle.reads.specs.ReadLaws.{size-most, refused-sends, read-sends}
+use Rattle.guard_state.specs.laws.LoadedLaws.{counts-fit, tables-loaded}
+use Rattle.reads.specs.laws.ReadLaws.{size-most, refused-sends, read-sends}
 use borrow.Author.Needs.{needs}
 use Rattle.reads.proofs.begin_read.Statement.{statement}
 use Rattle.reads.proofs.begin_read.Tie as tie

@@ -1,7 +1,7 @@
 -- `reads::end_read` meets its contract. Assumes nothing.
 use native.Mathlib.Omega.{arith}
 use mathlib.Core.Path.{_∙_}
-use Rattle.reads.specs.PageLaws.{cursor-ends}
+use Rattle.reads.specs.laws.PageLaws.{cursor-ends}
 use borrow.Author.Needs.{needs}
 use Rattle.reads.proofs.end_read.Statement.{statement}
 use Rattle.reads.proofs.end_read.Tie as tie

@@ -4,7 +4,7 @@ use mathlib.Core.Path.{sym}
 use lib.ListN.{take}
 use Rattle.memory.specs.Layout.{memOf}
 use Rattle.guard_state.specs.State.{stateOf}
-use Rattle.reads.specs.PageLaws.{last-fills, staged-more}
+use Rattle.reads.specs.laws.PageLaws.{last-fills, staged-more}
 use borrow.Author.Needs.{needs}
 use Rattle.reads.proofs.last_page.Statement.{statement}
 use Rattle.reads.proofs.last_page.Tie as tie

@@ -6,8 +6,8 @@ use Rattle.filesystem.specs.Tables.{OpenFile}
 use Rattle.memory.specs.Layout.{memOf}
 use Rattle.guard_state.specs.State.{stateOf}
 use Rattle.outcomes.specs.declared.Outcome.the-variants.{Ask}
-use Rattle.guard_state.specs.LoadedLaws.{open-loaded}
-use Rattle.reads.specs.PageLaws.{next-sends}
+use Rattle.guard_state.specs.laws.LoadedLaws.{open-loaded}
+use Rattle.reads.specs.laws.PageLaws.{next-sends}
 use borrow.Author.Needs.{needs}
 use Rattle.reads.proofs.next_page.Statement.{statement}
 use Rattle.reads.proofs.next_page.Tie as tie

@@ -3,7 +3,7 @@ use native.Mathlib.Omega.{arith}
 use Prim.Native.Nat.{_-_}
 use Rattle.lists.specs.Parts.{part}
 use Rattle.lists.specs.PartLaws.{length-part}
-use Rattle.reads.specs.PageLaws.{page-part}
+use Rattle.reads.specs.laws.PageLaws.{page-part}
 use borrow.Author.Needs.{needs}
 use Rattle.reads.proofs.page_part.Statement.{statement}
 use Rattle.reads.proofs.page_part.Tie as tie

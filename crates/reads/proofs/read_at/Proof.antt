@@ -6,8 +6,8 @@ use lib.ListN.{take}
 use Rattle.filesystem.specs.Tables.{Node, nodeAt, openAt}
 use Rattle.memory.specs.Layout.{memOf}
 use Rattle.guard_state.specs.State.{stateOf}
-use Rattle.guard_state.specs.LoadedLaws.{node-loaded, open-loaded}
-use Rattle.reads.specs.ReadLaws.{left-loaded, sized-within, none-sends, page-sends}
+use Rattle.guard_state.specs.laws.LoadedLaws.{node-loaded, open-loaded}
+use Rattle.reads.specs.laws.ReadLaws.{left-loaded, sized-within, none-sends, page-sends}
 use borrow.Author.Needs.{needs}
 use Rattle.reads.proofs.read_at.Statement.{statement}
 use Rattle.reads.proofs.read_at.Tie as tie

@@ -4,7 +4,7 @@ use mathlib.Core.Path.{refl, ap}
 use mathlib.Core.List.{List}
 use Prim.Native.Nat.{ℕ}
 use lib.ListN.{length}
-use Rattle.outcomes.specs.Sent.{sends-leaves, fills-leaves}
+use Rattle.outcomes.specs.laws.SentLaws.{sends-leaves, fills-leaves}
 use borrow.Author.Needs.{needs}
 use Rattle.reads.proofs.take_page.Statement.{statement}
 use Rattle.reads.proofs.take_page.Tie as tie

@@ -5,7 +5,7 @@ use mathlib.Core.Path.{_≡_, _∙_}
 use lib.ListN.{getD}
 use Rattle.filesystem.specs.Tables.{ID-BYTES}
 use Rattle.replies.specs.Listing.{entryEnd}
-use Rattle.replies.specs.ListingLaws.{end-front, end-cut, end-there}
+use Rattle.replies.specs.laws.ListingLaws.{end-front, end-cut, end-there}
 use borrow.Author.Needs.{needs}
 use Rattle.replies.proofs.entry_end.Statement.{statement}
 use Rattle.replies.proofs.entry_end.Tie as tie

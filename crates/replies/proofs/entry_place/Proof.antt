@@ -7,10 +7,10 @@ use borrow.Author.Needs.{needs}
 use borrow.Author.Tests.{not-true, not-false}
 use lib.ListN.{length, take}
 use Rattle.memory.specs.Layout.{memOf}
-use Rattle.tables.specs.RowsInUse.{count-nodes, node-front}
+use Rattle.tables.specs.laws.RowsInUse.{count-nodes, node-front}
 use Rattle.filesystem.specs.Tables.{ID-BYTES, Node, nodeAt, findId, isChild}
 use Rattle.replies.specs.Listing.{entryAt}
-use Rattle.replies.specs.ListingLaws.{end-front, entry-name, place-gone, place-other-kind, place-no-child, place-same}
+use Rattle.replies.specs.laws.ListingLaws.{end-front, entry-name, place-gone, place-other-kind, place-no-child, place-same}
 use Rattle.replies.proofs.entry_place.Statement.{statement}
 use Rattle.replies.proofs.entry_place.Tie as tie
 

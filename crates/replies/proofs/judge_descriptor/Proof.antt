@@ -7,8 +7,8 @@ use mir.Val.{toZ, ofZ}
 use mir.Facts.{toZ-ofZ}
 use Rattle.memory.specs.Layout.{memOf}
 use Rattle.tables.specs.View.{tablesIn}
-use Rattle.tables.specs.RowsInUse.{count-opens}
-use Rattle.replies.specs.JudgedLaws.{not-negative, is-low, descriptor-length, descriptor-negative, descriptor-high, descriptor-held, descriptor-new}
+use Rattle.tables.specs.laws.RowsInUse.{count-opens}
+use Rattle.replies.specs.laws.JudgedLaws.{not-negative, is-low, descriptor-length, descriptor-negative, descriptor-high, descriptor-held, descriptor-new}
 use borrow.Author.Needs.{needs}
 use Rattle.replies.proofs.judge_descriptor.Statement.{statement}
 use Rattle.replies.proofs.judge_descriptor.Tie as tie

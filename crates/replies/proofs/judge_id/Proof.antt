@@ -4,8 +4,8 @@ use mathlib.Core.Path.{_≡_, sym}
 use lib.ListN.{length, take}
 use Rattle.memory.specs.Layout.{memOf}
 use Rattle.tables.specs.View.{tablesIn}
-use Rattle.tables.specs.RowsInUse.{count-nodes}
-use Rattle.replies.specs.JudgedLaws.{id-length, id-zero, id-held, id-new}
+use Rattle.tables.specs.laws.RowsInUse.{count-nodes}
+use Rattle.replies.specs.laws.JudgedLaws.{id-length, id-zero, id-held, id-new}
 use borrow.Author.Needs.{needs}
 use Rattle.replies.proofs.judge_id.Statement.{statement}
 use Rattle.replies.proofs.judge_id.Tie as tie

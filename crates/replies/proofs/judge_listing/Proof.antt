@@ -6,12 +6,12 @@ use mathlib.Core.Path.{_≡_, refl, sym, _∙_}
 use lib.ListN.{length, take, replicate, length-set}
 use Rattle.memory.specs.Layout.{memOf}
 use Rattle.tables.specs.View.{tablesIn}
-use Rattle.tables.specs.RowsInUse.{count-nodes}
+use Rattle.tables.specs.laws.RowsInUse.{count-nodes}
 use mathlib.Core.Bool.{true}
 use Rattle.filesystem.specs.Tables.{ID-BYTES, NODES, children}
 use Rattle.filesystem.specs.Image.{soundNodes}
 use Rattle.replies.specs.Listing.{unseen, marks}
-use Rattle.replies.specs.ListingLaws.{Left, left-first, count-first, no-marks, left-next, count-next, cut-end, there-end, end-front, listing-cut, listing-missing, listing-twice, listing-few, listing-whole, listing-stops, listing-passes}
+use Rattle.replies.specs.laws.ListingLaws.{Left, left-first, count-first, no-marks, left-next, count-next, cut-end, there-end, end-front, listing-cut, listing-missing, listing-twice, listing-few, listing-whole, listing-stops, listing-passes}
 use borrow.Author.Needs.{needs}
 use Rattle.replies.proofs.judge_listing.Statement.{statement}
 use Rattle.replies.proofs.judge_listing.Tie as tie

@@ -2,7 +2,7 @@
 use native.Mathlib.Omega.{arith}
 use mathlib.Core.Path.{ap, sym, _∙_}
 use Rattle.filesystem.specs.Tables.{pagesFor}
-use Rattle.replies.specs.JudgedLaws.{page-short, page-right, page-wrong}
+use Rattle.replies.specs.laws.JudgedLaws.{page-short, page-right, page-wrong}
 use borrow.Author.Needs.{needs}
 use Rattle.replies.proofs.judge_page.Statement.{statement}
 use Rattle.replies.proofs.judge_page.Tie as tie

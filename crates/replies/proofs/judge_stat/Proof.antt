@@ -5,7 +5,7 @@ use borrow.Author.Tests.{not-true, not-false}
 use Rattle.memory.specs.Layout.{memOf}
 use Rattle.tables.specs.View.{tablesIn}
 use Rattle.filesystem.specs.Tables.{ID-BYTES}
-use Rattle.replies.specs.JudgedLaws.{stat-length, stat-other, stat-same, stat-of}
+use Rattle.replies.specs.laws.JudgedLaws.{stat-length, stat-other, stat-same, stat-of}
 use borrow.Author.Needs.{needs}
 use Rattle.replies.proofs.judge_stat.Statement.{statement}
 use Rattle.replies.proofs.judge_stat.Tie as tie

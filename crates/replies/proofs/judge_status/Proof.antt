@@ -4,7 +4,7 @@ use mathlib.Core.Path.{_≡_, sym, ap, _∙_}
 use mir.Syntax.{w32}
 use mir.Val.{toZ, ofZ}
 use mir.Facts.{toZ-ofZ}
-use Rattle.replies.specs.JudgedLaws.{status-length, status-other, status-same}
+use Rattle.replies.specs.laws.JudgedLaws.{status-length, status-other, status-same}
 use borrow.Author.Needs.{needs}
 use Rattle.replies.proofs.judge_status.Statement.{statement}
 use Rattle.replies.proofs.judge_status.Tie as tie

@@ -8,7 +8,7 @@ use Rattle.lists.specs.LittleEndian.{encode, length-encode}
 use Rattle.lists.specs.Parts.{overwrite}
 use Rattle.lists.specs.PartLaws.{length-overwrite}
 use Rattle.filesystem.specs.Tables.{ID-BYTES}
-use Rattle.replies.specs.JudgedLaws.{stat-written}
+use Rattle.replies.specs.laws.JudgedLaws.{stat-written}
 use borrow.Author.Needs.{needs}
 use Rattle.replies.proofs.stat_row.Statement.{statement}
 use Rattle.replies.proofs.stat_row.Tie as tie

@@ -8,10 +8,10 @@ use Rattle.memory.specs.Layout.{memOf, withNodes}
 use Rattle.rules.specs.Rules.{replyAction}
 use Rattle.guard_state.specs.declared.Guard.{Guard}
 use Rattle.guard_state.specs.State.{numbersOf, stateOf}
-use Rattle.replies.specs.JudgedLaws.{changing-reason}
-use Rattle.guard_state.specs.PendingLaws.{chmod-pending}
-use Rattle.replies.specs.TakenLaws.{answer-stops, answer-finishes}
-use Rattle.replies_accepted.specs.AnsweredLaws.{chmod-ends}
+use Rattle.replies.specs.laws.JudgedLaws.{changing-reason}
+use Rattle.guard_state.specs.laws.PendingLaws.{chmod-pending}
+use Rattle.replies.specs.laws.TakenLaws.{answer-stops, answer-finishes}
+use Rattle.replies_accepted.specs.laws.AnsweredLaws.{chmod-ends}
 use borrow.Author.Needs.{needs}
 use Rattle.replies_accepted.proofs.accept_chmod.Statement.{statement}
 use Rattle.replies_accepted.proofs.accept_chmod.Tie as tie

@@ -5,13 +5,13 @@ use Rattle.memory.specs.Layout.{memOf}
 use Rattle.tables.specs.View.{View}
 use Rattle.guard_state.specs.declared.Guard.{Guard}
 use Rattle.rules.specs.Rules.{replyAction}
-use Rattle.replies.specs.JudgedLaws.{closing-reason}
+use Rattle.replies.specs.laws.JudgedLaws.{closing-reason}
 use Rattle.guard_state.specs.State.{numbersOf, stateOf}
 use Rattle.guard_state.specs.Waits.{restingState}
-use Rattle.guard_state.specs.LoadedLaws.{counts-fit}
-use Rattle.guard_state.specs.PendingLaws.{close-pending}
-use Rattle.replies.specs.TakenLaws.{answer-stops, answer-finishes}
-use Rattle.replies_accepted.specs.AnsweredLaws.{close-ends}
+use Rattle.guard_state.specs.laws.LoadedLaws.{counts-fit}
+use Rattle.guard_state.specs.laws.PendingLaws.{close-pending}
+use Rattle.replies.specs.laws.TakenLaws.{answer-stops, answer-finishes}
+use Rattle.replies_accepted.specs.laws.AnsweredLaws.{close-ends}
 use borrow.Author.Needs.{needs}
 use Rattle.replies_accepted.proofs.accept_close.Statement.{statement}
 use Rattle.replies_accepted.proofs.accept_close.Tie as tie

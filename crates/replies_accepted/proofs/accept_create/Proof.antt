@@ -13,14 +13,14 @@ use Rattle.tables.specs.View.{View, tablesIn}
 use Rattle.rules.specs.Requests.{asked, creating}
 use Rattle.rules.specs.Rules.{add, replyAction}
 use Rattle.replies.specs.Judged.{reasonFor}
-use Rattle.replies.specs.JudgedLaws.{whole-part}
+use Rattle.replies.specs.laws.JudgedLaws.{whole-part}
 use Rattle.guard_state.specs.declared.Guard.{Guard}
 use Rattle.guard_state.specs.State.{numbersOf, stateOf}
 use Rattle.guard_state.specs.Waits.{ends, restingState}
-use Rattle.guard_state.specs.LoadedLaws.{counts-fit, tables-loaded}
-use Rattle.guard_state.specs.PendingLaws.{create-pending}
-use Rattle.replies.specs.TakenLaws.{answer-stops, answer-adds, creating-long}
-use Rattle.replies_accepted.specs.AnsweredLaws.{create-ends}
+use Rattle.guard_state.specs.laws.LoadedLaws.{counts-fit, tables-loaded}
+use Rattle.guard_state.specs.laws.PendingLaws.{create-pending}
+use Rattle.replies.specs.laws.TakenLaws.{answer-stops, answer-adds, creating-long}
+use Rattle.replies_accepted.specs.laws.AnsweredLaws.{create-ends}
 use borrow.Author.Needs.{needs}
 use Rattle.replies_accepted.proofs.accept_create.Statement.{statement}
 use Rattle.replies_accepted.proofs.accept_create.Tie as tie

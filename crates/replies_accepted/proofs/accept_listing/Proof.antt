@@ -10,10 +10,10 @@ use Rattle.rules.specs.Rules.{finish, replyAction}
 use Rattle.replies.specs.Judged.{reasonFor}
 use Rattle.guard_state.specs.declared.Guard.{Guard}
 use Rattle.guard_state.specs.State.{numbersOf, stateOf}
-use Rattle.guard_state.specs.LoadedLaws.{counts-fit}
-use Rattle.guard_state.specs.PendingLaws.{listing-pending}
-use Rattle.replies.specs.TakenLaws.{answer-most, stop-fills, answer-fills, listing-long}
-use Rattle.replies_accepted.specs.AnsweredLaws.{listing-reason, listing-count, listing-node}
+use Rattle.guard_state.specs.laws.LoadedLaws.{counts-fit}
+use Rattle.guard_state.specs.laws.PendingLaws.{listing-pending}
+use Rattle.replies.specs.laws.TakenLaws.{answer-most, stop-fills, answer-fills, listing-long}
+use Rattle.replies_accepted.specs.laws.AnsweredLaws.{listing-reason, listing-count, listing-node}
 use borrow.Author.Needs.{needs}
 use Rattle.replies_accepted.proofs.accept_listing.Statement.{statement}
 use Rattle.replies_accepted.proofs.accept_listing.Tie as tie

@@ -8,18 +8,18 @@ use Rattle.lists.specs.LittleEndian.{decode}
 use Rattle.filesystem.specs.Tables.{OpenFile, Tables, nodeAt, newOpenFile}
 use Rattle.memory.specs.Layout.{memOf}
 use Rattle.tables.specs.View.{View, tablesIn}
-use Rattle.tables.specs.RowsInUse.{node-front}
+use Rattle.tables.specs.laws.RowsInUse.{node-front}
 use Rattle.rules.specs.Requests.{asked, opening}
 use Rattle.rules.specs.Rules.{finish, replyAction}
 use Rattle.replies.specs.Judged.{reasonFor}
-use Rattle.replies.specs.JudgedLaws.{whole-part}
+use Rattle.replies.specs.laws.JudgedLaws.{whole-part}
 use Rattle.guard_state.specs.declared.Guard.{Guard}
 use Rattle.guard_state.specs.State.{numbersOf, stateOf}
 use Rattle.guard_state.specs.Waits.{ends, restingState}
-use Rattle.guard_state.specs.LoadedLaws.{counts-fit, tables-loaded}
-use Rattle.guard_state.specs.PendingLaws.{open-pending}
-use Rattle.replies.specs.TakenLaws.{answer-stops, answer-finishes, opening-long}
-use Rattle.replies_accepted.specs.AnsweredLaws.{open-ends}
+use Rattle.guard_state.specs.laws.LoadedLaws.{counts-fit, tables-loaded}
+use Rattle.guard_state.specs.laws.PendingLaws.{open-pending}
+use Rattle.replies.specs.laws.TakenLaws.{answer-stops, answer-finishes, opening-long}
+use Rattle.replies_accepted.specs.laws.AnsweredLaws.{open-ends}
 use borrow.Author.Needs.{needs}
 use Rattle.replies_accepted.proofs.accept_open.Statement.{statement}
 use Rattle.replies_accepted.proofs.accept_open.Tie as tie

@@ -8,11 +8,11 @@ use Rattle.rules.specs.Rules.{replyAction}
 use Rattle.guard_state.specs.declared.Guard.{Guard}
 use Rattle.guard_state.specs.State.{numbersOf, stateOf}
 use Rattle.guard_state.specs.Waits.{restingState}
-use Rattle.guard_state.specs.LoadedLaws.{counts-fit, tables-loaded}
-use Rattle.replies.specs.JudgedLaws.{removing-reason}
-use Rattle.guard_state.specs.PendingLaws.{remove-pending}
-use Rattle.replies.specs.TakenLaws.{answer-stops, answer-deletes}
-use Rattle.replies_accepted.specs.AnsweredLaws.{remove-ends}
+use Rattle.guard_state.specs.laws.LoadedLaws.{counts-fit, tables-loaded}
+use Rattle.replies.specs.laws.JudgedLaws.{removing-reason}
+use Rattle.guard_state.specs.laws.PendingLaws.{remove-pending}
+use Rattle.replies.specs.laws.TakenLaws.{answer-stops, answer-deletes}
+use Rattle.replies_accepted.specs.laws.AnsweredLaws.{remove-ends}
 use borrow.Author.Needs.{needs}
 use Rattle.replies_accepted.proofs.accept_remove.Statement.{statement}
 use Rattle.replies_accepted.proofs.accept_remove.Tie as tie

@@ -9,10 +9,10 @@ use Rattle.rules.specs.Rules.{finish, replyAction}
 use Rattle.replies.specs.Judged.{reasonFor}
 use Rattle.guard_state.specs.declared.Guard.{Guard}
 use Rattle.guard_state.specs.State.{numbersOf, stateOf}
-use Rattle.guard_state.specs.LoadedLaws.{counts-fit, node-there}
-use Rattle.guard_state.specs.PendingLaws.{stat-pending}
-use Rattle.replies.specs.TakenLaws.{answer-most, stop-fills, answer-fills, stating-long}
-use Rattle.replies_accepted.specs.AnsweredLaws.{reason-loaded}
+use Rattle.guard_state.specs.laws.LoadedLaws.{counts-fit, node-there}
+use Rattle.guard_state.specs.laws.PendingLaws.{stat-pending}
+use Rattle.replies.specs.laws.TakenLaws.{answer-most, stop-fills, answer-fills, stating-long}
+use Rattle.replies_accepted.specs.laws.AnsweredLaws.{reason-loaded}
 use borrow.Author.Needs.{needs}
 use Rattle.replies_accepted.proofs.accept_stat.Statement.{statement}
 use Rattle.replies_accepted.proofs.accept_stat.Tie as tie

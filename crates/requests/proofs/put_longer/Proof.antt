@@ -1,7 +1,7 @@
 -- `requests::put_longer` meets its contract. Assumes nothing.
 use mathlib.Core.Path.{_∙_}
 use Rattle.lists.specs.LittleEndian.{encode}
-use Rattle.requests.specs.Heads.{behind-head}
+use Rattle.requests.specs.laws.Heads.{behind-head}
 use borrow.Author.Needs.{needs}
 use Rattle.requests.proofs.put_longer.Statement.{statement}
 use Rattle.requests.proofs.put_longer.Tie as tie

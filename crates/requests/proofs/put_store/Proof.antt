@@ -1,7 +1,7 @@
 -- `requests::put_store` meets its contract. Assumes nothing.
 use mathlib.Core.Path.{_∙_}
 use Rattle.lists.specs.LittleEndian.{encode}
-use Rattle.requests.specs.Heads.{behind-longer}
+use Rattle.requests.specs.laws.Heads.{behind-longer}
 use borrow.Author.Needs.{needs}
 use Rattle.requests.proofs.put_store.Statement.{statement}
 use Rattle.requests.proofs.put_store.Tie as tie

@@ -1,7 +1,7 @@
 -- `requests::write_close` meets its contract. Assumes nothing.
 use mathlib.Core.Path.{sym}
 use Rattle.rules.specs.Requests.{storeLength, closeRequest}
-use Rattle.requests.specs.Heads.{length-head}
+use Rattle.requests.specs.laws.Heads.{length-head}
 use borrow.Author.Needs.{needs}
 use Rattle.requests.proofs.write_close.Statement.{statement}
 use Rattle.requests.proofs.write_close.Tie as tie

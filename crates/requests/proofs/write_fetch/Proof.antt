@@ -1,7 +1,7 @@
 -- `requests::write_fetch` meets its contract. Assumes nothing.
 use mathlib.Core.Path.{sym}
 use Rattle.rules.specs.Requests.{storeLength, fetchRequest}
-use Rattle.requests.specs.Heads.{length-longer}
+use Rattle.requests.specs.laws.Heads.{length-longer}
 use borrow.Author.Needs.{needs}
 use Rattle.requests.proofs.write_fetch.Statement.{statement}
 use Rattle.requests.proofs.write_fetch.Tie as tie

@@ -2,7 +2,7 @@
 use mathlib.Core.Path.{refl}
 use Rattle.rules.specs.Requests.{storeLength}
 use Rattle.rules.specs.Pages.{writing, fill}
-use Rattle.requests.specs.Heads.{behind-store}
+use Rattle.requests.specs.laws.Heads.{behind-store}
 use borrow.Author.Needs.{needs}
 use Rattle.requests.proofs.write_store.Statement.{statement}
 use Rattle.requests.proofs.write_store.Tie as tie

@@ -2,7 +2,7 @@
 use native.Mathlib.Omega.{arith}
 use mathlib.Core.Path.{refl, sym, _∙_}
 use borrow.Author.Tests.{not-true, not-false}
-use Rattle.saves.specs.LoadedLaws.{load-used, load-unsealed, load-unsound, load-goes, load-refused, load-done}
+use Rattle.saves.specs.laws.LoadedLaws.{load-used, load-unsealed, load-unsound, load-goes, load-refused, load-done}
 use borrow.Author.Needs.{needs}
 use Rattle.saves.proofs.load.Statement.{statement}
 use Rattle.saves.proofs.load.Tie as tie

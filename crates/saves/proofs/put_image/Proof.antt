@@ -6,7 +6,7 @@ use mathlib.Core.List.{List}
 use lib.ListN.{length}
 use Rattle.digest.specs.Sha256.{sha256}
 use Rattle.rules.specs.Skeleton.{atFront}
-use Rattle.saves.specs.SavedLaws.{front-fits, front-is}
+use Rattle.saves.specs.laws.SavedLaws.{front-fits, front-is}
 use borrow.Author.Needs.{needs}
 use Rattle.saves.proofs.put_image.Statement.{statement}
 use Rattle.saves.proofs.put_image.Tie as tie

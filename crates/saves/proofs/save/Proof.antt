@@ -1,8 +1,8 @@
 -- `saves::save` meets its contract. Assumes nothing.
 use native.Mathlib.Omega.{arith}
 use mathlib.Core.Path.{refl}
-use Rattle.guard_state.specs.LoadedLaws.{counts-fit}
-use Rattle.saves.specs.SavedLaws.{image-held, save-never, save-used, save-short, save-goes, save-refused, save-done}
+use Rattle.guard_state.specs.laws.LoadedLaws.{counts-fit}
+use Rattle.saves.specs.laws.SavedLaws.{image-held, save-never, save-used, save-short, save-goes, save-refused, save-done}
 use borrow.Author.Needs.{needs}
 use Rattle.saves.proofs.save.Statement.{statement}
 use Rattle.saves.proofs.save.Tie as tie

@@ -5,9 +5,9 @@ use Prim.Native.Nat.{_+_}
 use lib.ListN.{length}
 use Rattle.memory.specs.Layout.{memOf}
 use Rattle.memory.specs.Records.{nodeOf}
-use Rattle.memory.specs.MemLaws.{length-nodes}
+use Rattle.memory.specs.laws.MemLaws.{length-nodes}
 use Rattle.tables.specs.View.{viewOf}
-use Rattle.tables.specs.ViewLaws.{view-add}
+use Rattle.tables.specs.laws.ViewLaws.{view-add}
 use borrow.Author.Needs.{needs}
 use Rattle.tables.proofs.add_node.Statement.{statement}
 use Rattle.tables.proofs.add_node.Tie as tie

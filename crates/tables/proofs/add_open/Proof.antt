@@ -5,9 +5,9 @@ use Prim.Native.Nat.{_+_}
 use lib.ListN.{length}
 use Rattle.memory.specs.Layout.{memOf}
 use Rattle.memory.specs.Records.{openOf}
-use Rattle.memory.specs.MemLaws.{length-opens}
+use Rattle.memory.specs.laws.MemLaws.{length-opens}
 use Rattle.tables.specs.View.{viewOf}
-use Rattle.tables.specs.ViewLaws.{view-open}
+use Rattle.tables.specs.laws.ViewLaws.{view-open}
 use borrow.Author.Needs.{needs}
 use Rattle.tables.proofs.add_open.Statement.{statement}
 use Rattle.tables.proofs.add_open.Tie as tie

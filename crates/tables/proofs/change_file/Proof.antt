@@ -5,11 +5,11 @@ use mathlib.Core.Bool.{true≢false}
 use borrow.Author.Tests.{not-true, not-false}
 use Rattle.filesystem.specs.Tables.{pagesFor}
 use Rattle.memory.specs.Layout.{memOf}
-use Rattle.memory.specs.MemLaws.{length-nodes}
+use Rattle.memory.specs.laws.MemLaws.{length-nodes}
 use Rattle.tables.specs.View.{viewOf, changedRows, stagedDigests}
-use Rattle.tables.specs.RowsInUse.{count-nodes}
-use Rattle.tables.specs.ContentLaws.{total-next}
-use Rattle.tables.specs.ChangeLaws.{spans-at, room, view-change}
+use Rattle.tables.specs.laws.RowsInUse.{count-nodes}
+use Rattle.tables.specs.laws.ContentLaws.{total-next}
+use Rattle.tables.specs.laws.ChangeLaws.{spans-at, room, view-change}
 use borrow.Author.Needs.{needs}
 use Rattle.tables.proofs.change_file.Statement.{statement}
 use Rattle.tables.proofs.change_file.Tie as tie

@@ -9,8 +9,8 @@ use borrow.Author.Tests.{eq-eqb, ne-eqb}
 use Rattle.lists.specs.Search.{select}
 use Rattle.filesystem.specs.Tables.{children, hasParent, noNode, nodeAt}
 use Rattle.memory.specs.Layout.{memOf}
-use Rattle.memory.specs.MemLaws.{length-nodes}
-use Rattle.tables.specs.SearchLaws.{count-hit, count-miss, count-end}
+use Rattle.memory.specs.laws.MemLaws.{length-nodes}
+use Rattle.tables.specs.laws.SearchLaws.{count-hit, count-miss, count-end}
 use borrow.Author.Needs.{needs}
 use Rattle.tables.proofs.count_children.Statement.{statement}
 use Rattle.tables.proofs.count_children.Tie as tie

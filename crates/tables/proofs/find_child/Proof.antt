@@ -7,8 +7,8 @@ use lib.ListN.{length, take, drop}
 use Rattle.lists.specs.Search.{place}
 use Rattle.filesystem.specs.Tables.{findChild, isChild, noNode, nodeAt}
 use Rattle.memory.specs.Layout.{memOf}
-use Rattle.memory.specs.MemLaws.{length-nodes}
-use Rattle.tables.specs.SearchLaws.{place-hit, place-miss, place-end}
+use Rattle.memory.specs.laws.MemLaws.{length-nodes}
+use Rattle.tables.specs.laws.SearchLaws.{place-hit, place-miss, place-end}
 use borrow.Author.Needs.{needs}
 use Rattle.tables.proofs.find_child.Statement.{statement}
 use Rattle.tables.proofs.find_child.Tie as tie

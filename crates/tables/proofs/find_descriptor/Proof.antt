@@ -8,8 +8,8 @@ use borrow.Author.Tests.{eq-eqb, ne-eqb}
 use Rattle.lists.specs.Search.{place}
 use Rattle.filesystem.specs.Tables.{findDescriptor, hasDescriptor, noOpenFile, openAt}
 use Rattle.memory.specs.Layout.{memOf}
-use Rattle.memory.specs.MemLaws.{length-opens}
-use Rattle.tables.specs.SearchLaws.{place-hit, place-miss, place-end}
+use Rattle.memory.specs.laws.MemLaws.{length-opens}
+use Rattle.tables.specs.laws.SearchLaws.{place-hit, place-miss, place-end}
 use borrow.Author.Needs.{needs}
 use Rattle.tables.proofs.find_descriptor.Statement.{statement}
 use Rattle.tables.proofs.find_descriptor.Tie as tie

@@ -8,8 +8,8 @@ use borrow.Author.Tests.{eq-eqb, ne-eqb}
 use Rattle.lists.specs.Search.{place}
 use Rattle.filesystem.specs.Tables.{findId, hasId, noNode, nodeAt}
 use Rattle.memory.specs.Layout.{memOf}
-use Rattle.memory.specs.MemLaws.{length-nodes}
-use Rattle.tables.specs.SearchLaws.{place-hit, place-miss, place-end}
+use Rattle.memory.specs.laws.MemLaws.{length-nodes}
+use Rattle.tables.specs.laws.SearchLaws.{place-hit, place-miss, place-end}
 use borrow.Author.Needs.{needs}
 use Rattle.tables.proofs.find_id.Statement.{statement}
 use Rattle.tables.proofs.find_id.Tie as tie

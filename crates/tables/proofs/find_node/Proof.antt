@@ -4,7 +4,7 @@ use mathlib.Core.Path.{_≡_, sym, ap, _∙_}
 use borrow.Author.Needs.{needs}
 use lib.ListN.{length, take}
 use Rattle.memory.specs.Layout.{memOf}
-use Rattle.tables.specs.RowsInUse.{count-nodes, node-front}
+use Rattle.tables.specs.laws.RowsInUse.{count-nodes, node-front}
 use Rattle.filesystem.specs.Tables.{Node}
 use Rattle.filesystem.specs.Sound.{to-sound, place-with-id}
 use Rattle.tables.proofs.find_node.Statement.{statement}

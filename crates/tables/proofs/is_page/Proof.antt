@@ -7,8 +7,8 @@ use lib.ListN.{length, getD, take}
 use Rattle.lists.specs.Equal.{equal}
 use Rattle.filesystem.specs.Tables.{pageTotal}
 use Rattle.memory.specs.Layout.{memOf}
-use Rattle.memory.specs.MemLaws.{length-nodes}
-use Rattle.tables.specs.ContentLaws.{total-part, digest-place}
+use Rattle.memory.specs.laws.MemLaws.{length-nodes}
+use Rattle.tables.specs.laws.ContentLaws.{total-part, digest-place}
 use borrow.Author.Needs.{needs}
 use Rattle.tables.proofs.is_page.Statement.{statement}
 use Rattle.tables.proofs.is_page.Tie as tie

@@ -4,8 +4,8 @@ use mathlib.Core.Path.{_≡_, ap, _∙_}
 use lib.ListN.{length, take}
 use Rattle.filesystem.specs.Tables.{nodeAt, pagesFor, pageTotal}
 use Rattle.memory.specs.Layout.{memOf}
-use Rattle.memory.specs.MemLaws.{length-nodes}
-use Rattle.tables.specs.ContentLaws.{total-part, total-next}
+use Rattle.memory.specs.laws.MemLaws.{length-nodes}
+use Rattle.tables.specs.laws.ContentLaws.{total-part, total-next}
 use borrow.Author.Needs.{needs}
 use Rattle.tables.proofs.pages_of.Statement.{statement}
 use Rattle.tables.proofs.pages_of.Tie as tie

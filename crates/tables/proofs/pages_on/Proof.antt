@@ -5,8 +5,8 @@ use native.Mathlib.Omega.{arith}
 use lib.ListN.{length, take}
 use Rattle.filesystem.specs.Tables.{pagesFor, pageTotal, nodeAt}
 use Rattle.memory.specs.Layout.{memOf}
-use Rattle.memory.specs.MemLaws.{length-nodes}
-use Rattle.tables.specs.ContentLaws.{total-next}
+use Rattle.memory.specs.laws.MemLaws.{length-nodes}
+use Rattle.tables.specs.laws.ContentLaws.{total-next}
 use borrow.Author.Needs.{needs}
 use Rattle.tables.proofs.pages_on.Statement.{statement}
 use Rattle.tables.proofs.pages_on.Tie as tie

@@ -1,5 +1,5 @@
 -- `tables::pages_with` meets its contract. Assumes nothing.
-use Rattle.tables.specs.ChangeLaws.{total-with}
+use Rattle.tables.specs.laws.ChangeLaws.{total-with}
 use borrow.Author.Needs.{needs}
 use Rattle.tables.proofs.pages_with.Statement.{statement}
 use Rattle.tables.proofs.pages_with.Tie as tie

@@ -4,9 +4,9 @@ use mathlib.Core.Path.{_≡_, ap, _∙_}
 use Prim.Native.Nat.{_-_}
 use lib.ListN.{length}
 use Rattle.memory.specs.Layout.{memOf}
-use Rattle.memory.specs.MemLaws.{length-nodes, length-digests}
+use Rattle.memory.specs.laws.MemLaws.{length-nodes, length-digests}
 use Rattle.tables.specs.View.{viewOf}
-use Rattle.tables.specs.ViewLaws.{view-remove}
+use Rattle.tables.specs.laws.ViewLaws.{view-remove}
 use borrow.Author.Needs.{needs}
 use Rattle.tables.proofs.remove_node.Statement.{statement}
 use Rattle.tables.proofs.remove_node.Tie as tie

@@ -4,9 +4,9 @@ use mathlib.Core.Path.{_≡_, ap, _∙_}
 use Prim.Native.Nat.{_-_}
 use lib.ListN.{length}
 use Rattle.memory.specs.Layout.{memOf}
-use Rattle.memory.specs.MemLaws.{length-opens}
+use Rattle.memory.specs.laws.MemLaws.{length-opens}
 use Rattle.tables.specs.View.{viewOf}
-use Rattle.tables.specs.ViewLaws.{view-close}
+use Rattle.tables.specs.laws.ViewLaws.{view-close}
 use borrow.Author.Needs.{needs}
 use Rattle.tables.proofs.remove_open.Statement.{statement}
 use Rattle.tables.proofs.remove_open.Tie as tie

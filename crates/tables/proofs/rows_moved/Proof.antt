@@ -6,8 +6,8 @@ use lib.ListN.{length}
 use borrow.Author.Tests.{eq-eqb, ne-eqb}
 use Rattle.lists.specs.Pick.{pick-true, pick-false}
 use Rattle.memory.specs.Layout.{memOf}
-use Rattle.memory.specs.MemLaws.{length-nodes}
-use Rattle.tables.specs.ContentLaws.{total-part, total-next}
+use Rattle.memory.specs.laws.MemLaws.{length-nodes}
+use Rattle.tables.specs.laws.ContentLaws.{total-part, total-next}
 use borrow.Author.Needs.{needs}
 use Rattle.tables.proofs.rows_moved.Statement.{statement}
 use Rattle.tables.proofs.rows_moved.Tie as tie

@@ -1,11 +1,11 @@
 -- `truncations::accept_cut` meets its contract. Assumes nothing.
 use native.Mathlib.Omega.{arith}
 use mathlib.Core.Path.{refl, sym, _∙_}
-use Rattle.replies.specs.JudgedLaws.{cutting-reason}
-use Rattle.replies.specs.TakenLaws.{answer-stops}
+use Rattle.replies.specs.laws.JudgedLaws.{cutting-reason}
+use Rattle.replies.specs.laws.TakenLaws.{answer-stops}
 use Rattle.guard_state.specs.State.{stateOf}
-use Rattle.guard_state.specs.Ranges.{in-range}
-use Rattle.truncations.specs.RepliedLaws.{cut-waits, cut-ended, cut-done}
+use Rattle.guard_state.specs.laws.Ranges.{in-range}
+use Rattle.truncations.specs.laws.RepliedLaws.{cut-waits, cut-ended, cut-done}
 use borrow.Author.Needs.{needs}
 use Rattle.truncations.proofs.accept_cut.Statement.{statement}
 use Rattle.truncations.proofs.accept_cut.Tie as tie

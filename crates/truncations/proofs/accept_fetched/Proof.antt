@@ -2,9 +2,9 @@
 use native.Mathlib.Omega.{arith}
 use mathlib.Core.Path.{refl, ap}
 use Rattle.guard_state.specs.declared.Guard.{Guard}
-use Rattle.guard_state.specs.Ranges.{in-range}
-use Rattle.changes.specs.FetchedLaws.{judged-stops, judged-stores}
-use Rattle.truncations.specs.RepliedLaws.{fetch-waits, page-sending, page-room}
+use Rattle.guard_state.specs.laws.Ranges.{in-range}
+use Rattle.changes.specs.laws.FetchedLaws.{judged-stops, judged-stores}
+use Rattle.truncations.specs.laws.RepliedLaws.{fetch-waits, page-sending, page-room}
 use borrow.Author.Needs.{needs}
 use Rattle.truncations.proofs.accept_fetched.Statement.{statement}
 use Rattle.truncations.proofs.accept_fetched.Tie as tie

@@ -2,10 +2,10 @@
 use native.Mathlib.Omega.{arith}
 use mathlib.Core.Path.{refl, sym, _∙_}
 use Rattle.filesystem.specs.Tables.{PAGE-BYTES}
-use Rattle.replies.specs.JudgedLaws.{storing-reason}
-use Rattle.replies.specs.TakenLaws.{answer-stops}
+use Rattle.replies.specs.laws.JudgedLaws.{storing-reason}
+use Rattle.replies.specs.laws.TakenLaws.{answer-stops}
 use Rattle.guard_state.specs.State.{stateOf}
-use Rattle.truncations.specs.RepliedLaws.{store-waits, stored-within, stored-cuts}
+use Rattle.truncations.specs.laws.RepliedLaws.{store-waits, stored-within, stored-cuts}
 use borrow.Author.Needs.{needs}
 use Rattle.truncations.proofs.accept_stored.Statement.{statement}
 use Rattle.truncations.proofs.accept_stored.Tie as tie

@@ -1,9 +1,9 @@
 -- `truncations::ask_cut` meets its contract. Assumes nothing.
 use native.Mathlib.Omega.{arith}
 use mathlib.Core.Path.{ap}
-use Rattle.guard_state.specs.Ranges.{in-range}
+use Rattle.guard_state.specs.laws.Ranges.{in-range}
 use Rattle.outcomes.specs.declared.Outcome.the-variants.{Ask}
-use Rattle.truncations.specs.CutLaws.{cut-sends}
+use Rattle.truncations.specs.laws.CutLaws.{cut-sends}
 use borrow.Author.Needs.{needs}
 use Rattle.truncations.proofs.ask_cut.Statement.{statement}
 use Rattle.truncations.proofs.ask_cut.Tie as tie

@@ -2,10 +2,10 @@
 use native.Mathlib.Omega.{arith}
 use mathlib.Core.Path.{refl}
 use Rattle.rules.specs.Calls.{truncate}
-use Rattle.handle_calls.specs.HandledLaws.{judged-at}
+use Rattle.handle_calls.specs.laws.HandledLaws.{judged-at}
 use Rattle.guard_state.specs.State.{stateOf}
-use Rattle.guard_state.specs.LoadedLaws.{counts-fit, tables-loaded}
-use Rattle.changes.specs.BegunLaws.{call-refused, call-passed}
+use Rattle.guard_state.specs.laws.LoadedLaws.{counts-fit, tables-loaded}
+use Rattle.changes.specs.laws.BegunLaws.{call-refused, call-passed}
 use borrow.Author.Needs.{needs}
 use Rattle.truncations.proofs.begin_truncate.Statement.{statement}
 use Rattle.truncations.proofs.begin_truncate.Tie as tie

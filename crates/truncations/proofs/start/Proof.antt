@@ -1,7 +1,7 @@
 -- `truncations::start` meets its contract. Assumes nothing.
 use native.Mathlib.Omega.{arith}
-use Rattle.guard_state.specs.Ranges.{in-range}
-use Rattle.truncations.specs.CutLaws.{start-cuts, start-fetches}
+use Rattle.guard_state.specs.laws.Ranges.{in-range}
+use Rattle.truncations.specs.laws.CutLaws.{start-cuts, start-fetches}
 use borrow.Author.Needs.{needs}
 use Rattle.truncations.proofs.start.Statement.{statement}
 use Rattle.truncations.proofs.start.Tie as tie

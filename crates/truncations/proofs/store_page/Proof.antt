@@ -1,7 +1,7 @@
 -- `truncations::store_page` meets its contract. Assumes nothing.
 use native.Mathlib.Omega.{arith}
-use Rattle.guard_state.specs.Ranges.{in-range}
-use Rattle.truncations.specs.CutLaws.{page-sends}
+use Rattle.guard_state.specs.laws.Ranges.{in-range}
+use Rattle.truncations.specs.laws.CutLaws.{page-sends}
 use borrow.Author.Needs.{needs}
 use Rattle.truncations.proofs.store_page.Statement.{statement}
 use Rattle.truncations.proofs.store_page.Tie as tie

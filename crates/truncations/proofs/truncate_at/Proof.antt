@@ -1,7 +1,7 @@
 -- `truncations::truncate_at` meets its contract. Assumes nothing.
 use native.Mathlib.Omega.{arith}
 use mathlib.Core.Path.{refl}
-use Rattle.truncations.specs.TruncateLaws.{node-low, truncate-done, size-most, begun-within, truncate-begins, shrink-call}
+use Rattle.truncations.specs.laws.TruncateLaws.{node-low, truncate-done, size-most, begun-within, truncate-begins, shrink-call}
 use borrow.Author.Needs.{needs}
 use Rattle.truncations.proofs.truncate_at.Statement.{statement}
 use Rattle.truncations.proofs.truncate_at.Tie as tie

@@ -2,11 +2,11 @@
 use native.Mathlib.Omega.{arith}
 use mathlib.Core.Path.{refl, sym, _∙_}
 use Rattle.filesystem.specs.Tables.{PAGE-BYTES}
-use Rattle.replies.specs.JudgedLaws.{storing-reason}
-use Rattle.replies.specs.TakenLaws.{answer-stops}
+use Rattle.replies.specs.laws.JudgedLaws.{storing-reason}
+use Rattle.replies.specs.laws.TakenLaws.{answer-stops}
 use Rattle.guard_state.specs.State.{stateOf}
-use Rattle.guard_state.specs.Ranges.{in-range}
-use Rattle.writes.specs.RepliedLaws.{store-waits, next-sending, next-most, stored-next}
+use Rattle.guard_state.specs.laws.Ranges.{in-range}
+use Rattle.writes.specs.laws.RepliedLaws.{store-waits, next-sending, next-most, stored-next}
 use borrow.Author.Needs.{needs}
 use Rattle.writes.proofs.accept_stored.Statement.{statement}
 use Rattle.writes.proofs.accept_stored.Tie as tie

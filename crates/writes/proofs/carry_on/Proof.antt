@@ -2,8 +2,8 @@
 use native.Mathlib.Omega.{arith}
 use mathlib.Core.Path.{refl, ap}
 use Rattle.guard_state.specs.declared.Guard.{Guard}
-use Rattle.guard_state.specs.Ranges.{in-range}
-use Rattle.writes.specs.PageLaws.{from-behind, from-page, few-sent}
+use Rattle.guard_state.specs.laws.Ranges.{in-range}
+use Rattle.writes.specs.laws.PageLaws.{from-behind, from-page, few-sent}
 use borrow.Author.Needs.{needs}
 use Rattle.writes.proofs.carry_on.Statement.{statement}
 use Rattle.writes.proofs.carry_on.Tie as tie

@@ -2,9 +2,9 @@
 use native.Mathlib.Omega.{arith}
 use mathlib.Core.Path.{_≡_, refl, ap, _∙_}
 use Prim.Native.Nat.{ℕ, max}
-use Rattle.guard_state.specs.Ranges.{in-range}
+use Rattle.guard_state.specs.laws.Ranges.{in-range}
 use Rattle.writes.specs.Writing.{writeIn}
-use Rattle.writes.specs.PageLaws.{finish-loaded, write-ended}
+use Rattle.writes.specs.laws.PageLaws.{finish-loaded, write-ended}
 use borrow.Author.Needs.{needs}
 use Rattle.writes.proofs.end_write.Statement.{statement}
 use Rattle.writes.proofs.end_write.Tie as tie

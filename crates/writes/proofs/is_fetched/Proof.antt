@@ -3,7 +3,7 @@ use native.Mathlib.Omega.{arith}
 use mathlib.Core.Path.{ap, sym, _∙_}
 use Prim.Native.Nat.{ℕ}
 use lib.Dec.{ltb}
-use Rattle.writes.specs.FetchLaws.{fetches-new, fetches-before, fetches-behind}
+use Rattle.writes.specs.laws.FetchLaws.{fetches-new, fetches-before, fetches-behind}
 use borrow.Author.Needs.{needs}
 use Rattle.writes.proofs.is_fetched.Statement.{statement}
 use Rattle.writes.proofs.is_fetched.Tie as tie

@@ -6,11 +6,11 @@ use lib.ListN.{take}
 use Rattle.memory.specs.Layout.{memOf}
 use Rattle.guard_state.specs.declared.Guard.{Guard}
 use Rattle.guard_state.specs.State.{numbersOf}
-use Rattle.guard_state.specs.Ranges.{in-range}
+use Rattle.guard_state.specs.laws.Ranges.{in-range}
 use Rattle.changes.specs.Sending.{open-within}
 use Rattle.writes.specs.Writing.{writeIn}
-use Rattle.writes.specs.StoreLaws.{bytes-length}
-use Rattle.writes.specs.PageLaws.{page-fetched, page-stored}
+use Rattle.writes.specs.laws.StoreLaws.{bytes-length}
+use Rattle.writes.specs.laws.PageLaws.{page-fetched, page-stored}
 use borrow.Author.Needs.{needs}
 use Rattle.writes.proofs.on_page.Statement.{statement}
 use Rattle.writes.proofs.on_page.Tie as tie

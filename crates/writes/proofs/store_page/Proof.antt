@@ -7,8 +7,8 @@ use Rattle.lists.specs.Parts.{part}
 use Rattle.filesystem.specs.Tables.{PAGE-BYTES, nodeAt, openAt}
 use Rattle.memory.specs.Layout.{memOf}
 use Rattle.guard_state.specs.declared.Guard.{Guard}
-use Rattle.guard_state.specs.Ranges.{in-range}
-use Rattle.writes.specs.StoreLaws.{page-goes-out}
+use Rattle.guard_state.specs.laws.Ranges.{in-range}
+use Rattle.writes.specs.laws.StoreLaws.{page-goes-out}
 use borrow.Author.Needs.{needs}
 use Rattle.writes.proofs.store_page.Statement.{statement}
 use Rattle.writes.proofs.store_page.Tie as tie

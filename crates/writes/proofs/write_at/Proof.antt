@@ -1,7 +1,7 @@
 -- `writes::write_at` meets its contract. Assumes nothing.
 use native.Mathlib.Omega.{arith}
 use mathlib.Core.Path.{refl}
-use Rattle.writes.specs.WriteLaws.{node-low, write-done, cursor-most, begun-sending, write-begins, write-call}
+use Rattle.writes.specs.laws.WriteLaws.{node-low, write-done, cursor-most, begun-sending, write-begins, write-call}
 use borrow.Author.Needs.{needs}
 use Rattle.writes.proofs.write_at.Statement.{statement}
 use Rattle.writes.proofs.write_at.Tie as tie

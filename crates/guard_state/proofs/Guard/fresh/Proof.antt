@@ -3,10 +3,10 @@ use native.Mathlib.Omega.{arith}
 use mathlib.Core.Path.{_≡_, ap, _∙_}
 use lib.ListN.{length}
 use Rattle.memory.specs.Layout.{memOf}
-use Rattle.memory.specs.MemLaws.{length-nodes}
+use Rattle.memory.specs.laws.MemLaws.{length-nodes}
 use Rattle.tables.specs.View.{viewOf}
 use Rattle.guard_state.specs.Waits.{restingState}
-use Rattle.guard_state.specs.WaitLaws.{rests-fresh}
+use Rattle.guard_state.specs.laws.WaitLaws.{rests-fresh}
 use borrow.Author.Needs.{needs}
 use Rattle.guard_state.proofs.Guard.fresh.Statement.{statement}
 use Rattle.guard_state.proofs.Guard.fresh.Tie as tie

@@ -1,0 +1,2 @@
+pub mod FetchedLaws
+pub mod BegunLaws

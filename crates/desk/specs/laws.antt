@@ -1,0 +1,2 @@
+pub mod AnsweredLaws
+pub mod SessionLaws

@@ -1,0 +1,4 @@
+pub mod LineLaws
+pub mod Spelled
+pub mod Printing
+pub mod Examples

@@ -1,0 +1,5 @@
+pub mod RecordLaws
+pub mod TestLaws
+pub mod AdmissionLaws
+pub mod StepLaws
+pub mod SoundAdmitted

@@ -1,0 +1,2 @@
+pub mod BegunLaws
+pub mod NewLaws

@@ -1,0 +1,3 @@
+pub mod JudgedLaws
+pub mod ListingLaws
+pub mod TakenLaws
