@@ -7,7 +7,8 @@ use Prim.Native.Nat.{ℕ, _%_}
 use lib.ListN.{length}
 use Rattle.lists.specs.All.{All, Bytes}
 use Rattle.digest.specs.Sha256.{sha256, H0}
-use Rattle.digest.specs.Streaming.{finished, absorbedAll, joined, streamed}
+use Rattle.digest.specs.Streaming.{finished}
+use Rattle.digest.specs.laws.StreamingLaws.{absorbedAll, joined, streamed}
 use Rattle.digest.specs.laws.Laws.{length-sha256, bytes-sha256}
 
 pub record Demand1 : Type 0 where

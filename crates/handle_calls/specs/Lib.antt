@@ -1,3 +1,3 @@
 pub mod Judged
-pub mod MoveLaws
+pub mod Passed
 pub mod laws

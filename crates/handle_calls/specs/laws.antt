@@ -1,1 +1,2 @@
 pub mod HandledLaws
+pub mod MoveLaws

@@ -1,5 +1,5 @@
 pub mod Records
 pub mod Admission
-pub mod ParseLaws
+pub mod Formed
 pub mod Loaded
 pub mod laws

@@ -25,7 +25,8 @@ use Rattle.memory.specs.Layout.{Mem, memOf, withNodes, withDigests}
 use Rattle.image_writer.specs.Width.{imageIn}
 use Rattle.image_reader.specs.Records.{recordAt, recordEnd, nodesFrom, endFrom, nodeCount, digestCount, imageNodes, imageDigests, formed, isSome}
 use Rattle.image_reader.specs.laws.RecordLaws.{length-from, nodes-snoc}
-use Rattle.image_reader.specs.ParseLaws.{Formed, to-formed, parsed-formed, unparsed, whole-got}
+use Rattle.image_reader.specs.Formed.{Formed}
+use Rattle.image_reader.specs.laws.ParseLaws.{to-formed, parsed-formed, unparsed, whole-got}
 
 -- before and after are the memory's bytes, n is the number of nodes
 pub record Loaded (image before after : List ℕ) (n : ℕ) : Type 0 where

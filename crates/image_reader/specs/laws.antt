@@ -3,3 +3,4 @@ pub mod TestLaws
 pub mod AdmissionLaws
 pub mod StepLaws
 pub mod SoundAdmitted
+pub mod ParseLaws

@@ -16,7 +16,8 @@ use Rattle.filesystem.specs.Paths.{Path, tooLong, childAt, walk, parentChecks, 
 use Rattle.filesystem.specs.PathLaws.{walk-last}
 use Rattle.rules.specs.Calls.{create, openAs, remove, rmdir, readdir, stat}
 use Rattle.rules.specs.Rules.{callChecks, isOpen}
-use Rattle.paths.specs.Parts.{componentsOf, Some, some}
+use Rattle.paths.specs.Parts.{componentsOf}
+use Rattle.paths.specs.laws.PartsLaws.{Some, some}
 use Rattle.paths.specs.PathForms.{formOf}
 use Rattle.paths.specs.Walks.{placed, placedIn, placedFrom}
 use Rattle.paths.specs.laws.WalkAnswers.{Holds, placed-none, placed-in, placed-stops, placed-goes}

@@ -14,7 +14,8 @@ use Rattle.filesystem.specs.Paths.{Path, readPath, tooLong, walk, walkChecks, p
 use Rattle.filesystem.specs.PathLaws.{walk-place, walkChecks-parent, parent-place}
 use Rattle.rules.specs.Calls.{stat}
 use Rattle.rules.specs.Rules.{callChecks, isNone, reach}
-use Rattle.paths.specs.Parts.{componentsOf, some}
+use Rattle.paths.specs.Parts.{componentsOf}
+use Rattle.paths.specs.laws.PartsLaws.{some}
 use Rattle.paths.specs.PathForms.{formOf}
 use Rattle.paths.specs.laws.FormAnswers.{read-components, form-malformed, form-long, form-good}
 use Rattle.paths.specs.Walks.{walked, placed, childStep}

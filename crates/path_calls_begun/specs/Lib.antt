@@ -1,3 +1,3 @@
 pub mod Begun
-pub mod KindLaws
+pub mod OnNode
 pub mod laws

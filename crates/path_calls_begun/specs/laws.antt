@@ -1,2 +1,3 @@
 pub mod BegunLaws
 pub mod NewLaws
+pub mod KindLaws

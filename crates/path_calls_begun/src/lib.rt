@@ -15,7 +15,7 @@ ghost use Rattle.guard_state.specs.State.{stateOf, gatheredNone};
 ghost use Rattle.guard_state.specs.Waits.{waits};
 ghost use Rattle.outcomes.specs.Sent.{Sends};
 ghost use Rattle.path_calls_begun.specs.Begun.{begun, questionOf, plainQuestion};
-ghost use Rattle.path_calls_begun.specs.KindLaws.{OnNode};
+ghost use Rattle.path_calls_begun.specs.OnNode.{OnNode};
 use guard_state::Guard;
 
 // ---- a node that is there

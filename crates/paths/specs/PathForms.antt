@@ -16,7 +16,8 @@ use Rattle.lists.specs.Search.{every, any, place, place-most}
 use Rattle.filesystem.specs.Tables.{NAME-BYTES, PATH-BYTES}
 use Rattle.filesystem.specs.Paths.{Path, slash, dot, joined, pathBytes, componentForm, onto, split, afterSlash, readPath, tooLong}
 use Rattle.filesystem.specs.PathLaws.{joined-split}
-use Rattle.paths.specs.Parts.{or-comm, or-assoc, isEnd, end-other, end-none, before-end, end-passes, part-slash, part-last}
+use Rattle.paths.specs.Parts.{isEnd}
+use Rattle.paths.specs.laws.PartsLaws.{or-comm, or-assoc, end-other, end-none, before-end, end-passes, part-slash, part-last}
 use Rattle.paths.specs.declared.PathForm.{PathForm}
 use Rattle.paths.specs.declared.PathForm.the-variants.{Malformed, Long, Good}
 

@@ -1,3 +1,4 @@
 pub mod WalkLaws
 pub mod WalkAnswers
 pub mod FormAnswers
+pub mod PartsLaws

@@ -13,7 +13,7 @@ ghost use Rattle.rules.specs.Skeleton.{Config};
 ghost use Rattle.rules.specs.Rules.{callAction};
 ghost use Rattle.machine.specs.Machine.{askStore, pagesStored, pagesFrom, apply, guard as digestStore};
 ghost use Rattle.machine.specs.Consistent.{Consistent};
-ghost use Rattle.handle_calls.specs.MoveLaws.{PassedAt};
+ghost use Rattle.handle_calls.specs.Passed.{PassedAt};
 ghost use Rattle.guard_state.specs.State.{numbersOf, stateOf};
 ghost use Rattle.outcomes.specs.Sent.{Sends};
 ghost use Rattle.outcomes.specs.Started.{startedBy};

@@ -1,1 +1,2 @@
 pub mod Monte
+pub mod laws

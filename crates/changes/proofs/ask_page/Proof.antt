@@ -12,7 +12,7 @@ use Rattle.guard_state.specs.laws.LoadedLaws.{open-loaded}
 use Rattle.guard_state.specs.laws.Ranges.{in-range}
 use Rattle.outcomes.specs.declared.Outcome.the-variants.{Ask}
 use Rattle.outcomes.specs.laws.SentLaws.{asking-sends}
-use Rattle.changes.specs.Asked.{fetch-most}
+use Rattle.changes.specs.laws.AskedLaws.{fetch-most}
 use borrow.Author.Needs.{needs}
 use Rattle.changes.proofs.ask_page.Statement.{statement}
 use Rattle.changes.proofs.ask_page.Tie as tie

@@ -8,7 +8,7 @@ use Rattle.tables.specs.View.{tablesIn, Changeable}
 use Rattle.machine.specs.Machine.{zeroDigest}
 use Rattle.guard_state.specs.declared.Guard.{Guard}
 use Rattle.guard_state.specs.laws.LoadedLaws.{counts-fit, tables-loaded}
-use Rattle.changes.specs.Ended.{change-sends}
+use Rattle.changes.specs.laws.EndedLaws.{change-sends}
 use borrow.Author.Needs.{needs}
 use Rattle.changes.proofs.end_change.Statement.{statement}
 use Rattle.changes.proofs.end_change.Tie as tie

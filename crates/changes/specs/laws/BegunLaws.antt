@@ -22,7 +22,8 @@ use Rattle.machine.specs.Consistent.{Consistent}
 use Rattle.handle_calls.specs.declared.Handled.{Handled}
 use Rattle.handle_calls.specs.declared.Handled.the-variants.{Open, Refused as refusedHandle}
 use Rattle.handle_calls.specs.Judged.{handledFor}
-use Rattle.handle_calls.specs.MoveLaws.{PassedAt, move-refused, move-passed, passed-at}
+use Rattle.handle_calls.specs.Passed.{PassedAt}
+use Rattle.handle_calls.specs.laws.MoveLaws.{move-refused, move-passed, passed-at}
 use Rattle.guard_state.specs.State.{numbersOf, stateOf, gatheredNone}
 use Rattle.guard_state.specs.laws.LoadedLaws.{nodes-count, opens-count}
 use Rattle.guard_state.specs.Waits.{waits}

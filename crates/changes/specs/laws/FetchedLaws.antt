@@ -34,7 +34,7 @@ use Rattle.replies.specs.Judged.{statusReason, pageReason}
 use Rattle.replies.specs.laws.JudgedLaws.{storing-reason, cutting-reason}
 use Rattle.replies.specs.laws.TakenLaws.{taken-passes}
 use Rattle.changes.specs.Asked.{Changing}
-use Rattle.changes.specs.Sending.{fetching-fits, consistent-room}
+use Rattle.changes.specs.laws.SendingLaws.{fetching-fits, consistent-room}
 
 -- behind its last page a change has its pages stored
 pub pages-stored : (c : Config) (s : State (digestStore c)) (k o : ℕ) (q : Change) (i : ℕ) → last q ≤ i

@@ -6,7 +6,7 @@ use lib.ListN.{length}
 use types.Run.{OneOf, miss}
 use denote.Enum.Declared.{tagOf}
 use Rattle.text.specs.Ascii.{ascii}
-use Rattle.text.specs.Line.{begins-long}
+use Rattle.text.specs.laws.LineLaws.{begins-long}
 use Rattle.text.specs.declared.hex.Decoded.{Decoded}
 use Rattle.text.specs.declared.hex.Decoded.the-variants.{Bytes}
 use Rattle.text.proofs.hex.Decoded as decoded

@@ -12,7 +12,8 @@ use Rattle.lists.specs.Pick.{pick, pick-ind}
 use Rattle.text.specs.Ascii.{ascii}
 use Rattle.text.specs.Hex.{hexOf, length-hexOf, bytesOf, decodeOf, length-bytesOf}
 use Rattle.text.specs.laws.HexLaws.{bytesOf-hexOf, hexOf-bytesOf, bytesOf-bytes, decodes, decode-hexOf}
-use Rattle.text.specs.Line.{begins, begins-is}
+use Rattle.text.specs.Line.{begins}
+use Rattle.text.specs.laws.LineLaws.{begins-is}
 use Rattle.text.specs.declared.hex.Decoded.{Decoded}
 use Rattle.text.specs.declared.hex.Decoded.the-variants.{Bytes, BadDigit, Odd, TooLong}
 use Rattle.desk_lines.specs.Lines.{mostBytes, DeskLine, callLine, replyLine, badLine, decodedAs, hexLine, lineOf}

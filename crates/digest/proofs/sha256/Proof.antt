@@ -1,7 +1,7 @@
 -- `digest::sha256` meets its contract: the whole message is the rest.
 -- Assumes nothing.
 use mathlib.Core.Path.{_∙_}
-use Rattle.digest.specs.Streaming.{finished-all}
+use Rattle.digest.specs.laws.StreamingLaws.{finished-all}
 use Rattle.digest.proofs.sha256.Statement.{statement}
 use Rattle.digest.proofs.sha256.Tie as tie
 

@@ -21,7 +21,7 @@ use Rattle.guard_state.specs.Waits.{waits, ends}
 use Rattle.handle_calls.specs.declared.Handled.{Handled}
 use Rattle.handle_calls.specs.declared.Handled.the-variants.{Open, Refused as refusedHandle}
 use Rattle.handle_calls.specs.Judged.{handledFor}
-use Rattle.handle_calls.specs.MoveLaws.{move-refused, move-passed, passed-at}
+use Rattle.handle_calls.specs.laws.MoveLaws.{move-refused, move-passed, passed-at}
 use Rattle.outcomes.specs.declared.Outcome.{Outcome}
 use Rattle.outcomes.specs.declared.Outcome.the-variants.{Done, Ask, Refused}
 use Rattle.outcomes.specs.Sent.{Sends}

@@ -5,7 +5,7 @@ use Rattle.filesystem.specs.Tables.{ID-BYTES}
 use borrow.Author.Tests.{not-true, not-false}
 use Prim.Native.Nat.{_-_}
 use Rattle.image_reader.specs.laws.RecordLaws.{record-least, record-in}
-use Rattle.image_reader.specs.ParseLaws.{positive, no-nodes, not-root, not-limits, not-pages, by-admission}
+use Rattle.image_reader.specs.laws.ParseLaws.{positive, no-nodes, not-root, not-limits, not-pages, by-admission}
 use borrow.Author.Needs.{needs}
 use Rattle.image_reader.proofs.are_sound.Statement.{statement}
 use Rattle.image_reader.proofs.are_sound.Tie as tie

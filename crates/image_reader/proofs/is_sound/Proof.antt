@@ -6,7 +6,7 @@ use mathlib.Core.Bool.{Bool, true, false, _&&_}
 use lib.Dec.{eqb}
 use borrow.Author.Tests.{not-true, not-false}
 use Prim.Native.Nat.{ℕ, _-_}
-use Rattle.image_reader.specs.ParseLaws.{form-none, form-some, unparsed, parsed-formed}
+use Rattle.image_reader.specs.laws.ParseLaws.{form-none, form-some, unparsed, parsed-formed}
 use Rattle.lists.specs.All.{Bytes}
 use Rattle.lists.specs.EqualLaws.{bytes-of}
 use Rattle.lists.specs.LittleEndian.{decode}

@@ -10,7 +10,7 @@ use Rattle.path_calls.specs.Judged.{nodeFor}
 use Rattle.call_reader.specs.Meaning.{madeBy}
 use Rattle.guard_state.specs.laws.LoadedLaws.{counts-fit, tables-loaded, nodes-loaded}
 use Rattle.guard_state.specs.State.{stateOf}
-use Rattle.path_calls_begun.specs.KindLaws.{on-node}
+use Rattle.path_calls_begun.specs.laws.KindLaws.{on-node}
 use Rattle.path_calls_begun.specs.laws.BegunLaws.{request-most, refused-sends, passes-node, node-sends}
 use borrow.Author.Needs.{needs}
 use Rattle.path_calls_begun.proofs.begin_on_node.Statement.{statement}

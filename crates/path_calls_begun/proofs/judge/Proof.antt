@@ -2,7 +2,7 @@
 use mathlib.Core.Path.{_∙_}
 use Rattle.memory.specs.Layout.{memOf}
 use Rattle.tables.specs.View.{tablesIn}
-use Rattle.path_calls_begun.specs.KindLaws.{open-made, remove-made, rmdir-made, readdir-made, reach-made}
+use Rattle.path_calls_begun.specs.laws.KindLaws.{open-made, remove-made, rmdir-made, readdir-made, reach-made}
 use borrow.Author.Needs.{needs}
 use Rattle.path_calls_begun.proofs.judge.Statement.{statement}
 use Rattle.path_calls_begun.proofs.judge.Tie as tie

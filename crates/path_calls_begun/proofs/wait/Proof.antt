@@ -4,7 +4,7 @@ use mathlib.Core.Path.{ap, sym, _∙_}
 use Rattle.rules.specs.Requests.{Question, asked}
 use Rattle.guard_state.specs.State.{stateOf, gatheredNone}
 use Rattle.guard_state.specs.Waits.{waits}
-use Rattle.path_calls_begun.specs.KindLaws.{question-chmod, question-listing, question-open, question-plain}
+use Rattle.path_calls_begun.specs.laws.KindLaws.{question-chmod, question-listing, question-open, question-plain}
 use borrow.Author.Needs.{needs}
 use Rattle.path_calls_begun.proofs.wait.Statement.{statement}
 use Rattle.path_calls_begun.proofs.wait.Tie as tie

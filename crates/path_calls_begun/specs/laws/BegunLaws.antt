@@ -31,7 +31,8 @@ use Rattle.outcomes.specs.declared.Outcome.the-variants.{Ask, Refused}
 use Rattle.outcomes.specs.Sent.{Sends}
 use Rattle.outcomes.specs.laws.SentLaws.{refusal-sends, request-sends}
 use Rattle.path_calls_begun.specs.Begun.{begun, questionOf}
-use Rattle.path_calls_begun.specs.KindLaws.{OnNode, sends-itself, walks-first}
+use Rattle.path_calls_begun.specs.OnNode.{OnNode}
+use Rattle.path_calls_begun.specs.laws.KindLaws.{sends-itself, walks-first}
 
 -- two answers by the same checks
 module _ {A B : Type 0} (F : A → B → Type 0) (a : ℕ → A) (b : ℕ → B) (stop : (n : ℕ) → F (a n) (b n)) where

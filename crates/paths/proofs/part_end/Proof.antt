@@ -4,7 +4,8 @@ use Prim.Native.Nat.{_+_, _≤_, _-_}
 use mathlib.Core.Path.{_≡_, refl}
 use lib.ListN.{length, drop}
 use Rattle.lists.specs.Search.{place}
-use Rattle.paths.specs.Parts.{isEnd, end-slash, end-zero, end-neither}
+use Rattle.paths.specs.Parts.{isEnd}
+use Rattle.paths.specs.laws.PartsLaws.{end-slash, end-zero, end-neither}
 use Rattle.lists.specs.Scans.{scan-here, scan-on, scan-end}
 use borrow.Author.Needs.{needs}
 use Rattle.paths.proofs.part_end.Statement.{statement}

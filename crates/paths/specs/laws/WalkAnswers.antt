@@ -11,7 +11,8 @@ use Rattle.lists.specs.Checks.{Check, decide, Passed, First, decide-ind, decide
 use Rattle.filesystem.specs.Tables.{Node, absent}
 use Rattle.filesystem.specs.Paths.{Path, slash, joined, split, childAt, walk, walkChecks, parentChecks, parentOf, lastOf}
 use Rattle.filesystem.specs.PathLaws.{joined-split, walkChecks-parent, walk-last, walk-place, parent-place}
-use Rattle.paths.specs.Parts.{componentsOf, Some, some}
+use Rattle.paths.specs.Parts.{componentsOf}
+use Rattle.paths.specs.laws.PartsLaws.{Some, some}
 use Rattle.paths.specs.Walks.{walked, placedFrom, placedIn, placed, childStep}
 use Rattle.paths.specs.declared.Walked.{Walked}
 use Rattle.paths.specs.declared.Walked.the-variants.{Node as node, Refused as refusedNode}

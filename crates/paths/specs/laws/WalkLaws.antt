@@ -12,7 +12,8 @@ use Rattle.lists.specs.Search.{place}
 use Rattle.lists.specs.Checks.{Check, decide}
 use Rattle.filesystem.specs.Tables.{Node, nodeAt, isDirectory, hasBit, findChild}
 use Rattle.filesystem.specs.Paths.{Path, split, childAt, parentChecks, parentOf, lastOf}
-use Rattle.paths.specs.Parts.{isSlash, components-none, components-split, Some, some, split-some, end-passes, part-slash, part-last}
+use Rattle.paths.specs.Parts.{isSlash}
+use Rattle.paths.specs.laws.PartsLaws.{components-none, components-split, Some, some, split-some, end-passes, part-slash, part-last}
 use Rattle.paths.specs.Walks.{placedFrom, placedIn, placed, searchNumber, childStep}
 use Rattle.paths.specs.declared.Walked.the-variants.{Node as node, Refused as refusedNode}
 use Rattle.paths.specs.declared.Placed.the-variants.{Root, In, Refused as refusedPlace}

@@ -8,7 +8,7 @@ use Rattle.memory.specs.Layout.{memOf, memorySize}
 use Rattle.guard_state.specs.declared.Guard.{Guard}
 use Rattle.guard_state.specs.State.{numbersOf}
 use Rattle.guard_state.specs.laws.LoadedLaws.{counts-fit}
-use Rattle.reads.specs.Taken.{loaded-within, loaded-reads, loaded-gathered, loaded-fits, loaded-long, loaded-stops, loaded-goes-on}
+use Rattle.reads.specs.laws.TakenLaws.{loaded-within, loaded-reads, loaded-gathered, loaded-fits, loaded-long, loaded-stops, loaded-goes-on}
 use borrow.Author.Tests.{not-true, not-false}
 use borrow.Author.Needs.{needs}
 use Rattle.reads.proofs.accept_page.Statement.{statement}

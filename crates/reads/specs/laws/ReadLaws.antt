@@ -27,7 +27,7 @@ use Rattle.handle_calls.specs.declared.Handled.{Handled}
 use Rattle.handle_calls.specs.declared.Handled.the-variants.{Open, Refused as refusedHandle}
 use Rattle.handle_calls.specs.Judged.{handledFor}
 use Rattle.handle_calls.specs.laws.HandledLaws.{size-past}
-use Rattle.handle_calls.specs.MoveLaws.{move-refused, move-passed, passed-at}
+use Rattle.handle_calls.specs.laws.MoveLaws.{move-refused, move-passed, passed-at}
 use Rattle.guard_state.specs.State.{numbersOf, stateOf, gatheredNone}
 use Rattle.guard_state.specs.laws.LoadedLaws.{node-loaded, open-loaded}
 use Rattle.guard_state.specs.Waits.{waits, ends}

@@ -1,6 +1,6 @@
 -- `requests::has_number` meets its contract. Assumes nothing.
 use mathlib.Core.Path.{sym}
-use Rattle.requests.specs.PathRequests.{number-low, number-high}
+use Rattle.requests.specs.laws.PathRequestsLaws.{number-low, number-high}
 use Rattle.requests.proofs.has_number.Statement.{statement}
 use Rattle.requests.proofs.has_number.Tie as tie
 

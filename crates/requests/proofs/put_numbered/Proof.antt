@@ -2,7 +2,7 @@
 use native.Mathlib.Omega.{arith}
 use mathlib.Core.Path.{refl, _∙_}
 use mathlib.Core.List.{[], _∷_}
-use Rattle.requests.specs.PathRequests.{behind-front}
+use Rattle.requests.specs.laws.PathRequestsLaws.{behind-front}
 use borrow.Author.Needs.{needs}
 use Rattle.requests.proofs.put_numbered.Statement.{statement}
 use Rattle.requests.proofs.put_numbered.Tie as tie

@@ -7,7 +7,8 @@ use Prim.Native.Nat.{ℕ}
 use lib.ListN.{length}
 use Rattle.rules.specs.Requests.{storeLength}
 use Rattle.rules.specs.Skeleton.{atFront}
-use Rattle.requests.specs.PathRequests.{hasNumber, request-numbered, request-plain}
+use Rattle.requests.specs.PathRequests.{hasNumber}
+use Rattle.requests.specs.laws.PathRequestsLaws.{request-numbered, request-plain}
 use borrow.Author.Needs.{needs}
 use Rattle.requests.proofs.write_path.Statement.{statement}
 use Rattle.requests.proofs.write_path.Tie as tie

@@ -24,8 +24,10 @@ use Rattle.outcomes.specs.declared.Outcome.{Outcome}
 use Rattle.outcomes.specs.declared.Outcome.the-variants.{Ask}
 use Rattle.outcomes.specs.Sent.{Sends}
 use Rattle.outcomes.specs.laws.SentLaws.{asking-sends}
-use Rattle.changes.specs.Asked.{storeFront, store-sends}
-use Rattle.changes.specs.Sending.{Sending, change-progress, node-within, open-within}
+use Rattle.changes.specs.Asked.{storeFront}
+use Rattle.changes.specs.laws.AskedLaws.{store-sends}
+use Rattle.changes.specs.Sending.{Sending}
+use Rattle.changes.specs.laws.SendingLaws.{change-progress, node-within, open-within}
 use Rattle.truncations.specs.Shrinking.{Shrinking, shrinkIn}
 
 -- a cut fits the request buffer

@@ -21,7 +21,8 @@ use Rattle.outcomes.specs.Sent.{Sends}
 use Rattle.outcomes.specs.Answered.{answered}
 use Rattle.replies.specs.Judged.{statusReason}
 use Rattle.changes.specs.Ended.{Ended}
-use Rattle.changes.specs.Sending.{Sending, open-within, sending-ended, fetching-sending, storing-sending, cutting-sending}
+use Rattle.changes.specs.Sending.{Sending}
+use Rattle.changes.specs.laws.SendingLaws.{open-within, sending-ended, fetching-sending, storing-sending, cutting-sending}
 use Rattle.changes.specs.laws.FetchedLaws.{pages-stored, stored-goes, cut-goes}
 use Rattle.truncations.specs.Shrinking.{shrinkIn}
 

@@ -7,7 +7,7 @@ use Rattle.memory.specs.Layout.{memOf}
 use Rattle.guard_state.specs.declared.Guard.{Guard}
 use Rattle.guard_state.specs.State.{numbersOf}
 use Rattle.guard_state.specs.laws.Ranges.{in-range}
-use Rattle.changes.specs.Sending.{open-within}
+use Rattle.changes.specs.laws.SendingLaws.{open-within}
 use Rattle.writes.specs.Writing.{writeIn}
 use Rattle.writes.specs.laws.StoreLaws.{bytes-length}
 use Rattle.writes.specs.laws.PageLaws.{page-fetched, page-stored}

@@ -22,7 +22,8 @@ use Rattle.guard_state.specs.laws.Ranges.{in-range}
 use Rattle.outcomes.specs.declared.Outcome.{Outcome}
 use Rattle.outcomes.specs.Sent.{Sends}
 use Rattle.changes.specs.Ended.{Ended}
-use Rattle.changes.specs.Sending.{Sending, sending-ended, node-within}
+use Rattle.changes.specs.Sending.{Sending}
+use Rattle.changes.specs.laws.SendingLaws.{sending-ended, node-within}
 use Rattle.writes.specs.Writing.{Writing, writeIn}
 use Rattle.writes.specs.laws.StoreLaws.{bytes-length}
 

@@ -20,7 +20,8 @@ use Rattle.outcomes.specs.declared.Outcome.{Outcome}
 use Rattle.outcomes.specs.Sent.{Sends}
 use Rattle.outcomes.specs.Answered.{answered}
 use Rattle.replies.specs.Judged.{statusReason}
-use Rattle.changes.specs.Sending.{Sending, fetching-fits, fetching-sending, storing-sending}
+use Rattle.changes.specs.Sending.{Sending}
+use Rattle.changes.specs.laws.SendingLaws.{fetching-fits, fetching-sending, storing-sending}
 use Rattle.changes.specs.laws.FetchedLaws.{JudgedPage, judged-stores, stored-goes}
 use Rattle.writes.specs.Writing.{writeIn}
 use Rattle.writes.specs.laws.PageLaws.{page-ahead, few-sent}

@@ -23,8 +23,10 @@ use Rattle.guard_state.specs.laws.Ranges.{in-range}
 use Rattle.outcomes.specs.declared.Outcome.{Outcome}
 use Rattle.outcomes.specs.declared.Outcome.the-variants.{Ask}
 use Rattle.outcomes.specs.Sent.{Sends}
-use Rattle.changes.specs.Asked.{storeFront, store-sends}
-use Rattle.changes.specs.Sending.{Sending, change-progress, node-within, open-within}
+use Rattle.changes.specs.Asked.{storeFront}
+use Rattle.changes.specs.laws.AskedLaws.{store-sends}
+use Rattle.changes.specs.Sending.{Sending}
+use Rattle.changes.specs.laws.SendingLaws.{change-progress, node-within, open-within}
 use Rattle.writes.specs.Writing.{Writing, writeIn}
 
 module _ (c : Config) (m : List ℕ) (long : memorySize ≤ length m) where

@@ -25,7 +25,7 @@ use Rattle.rules.specs.Valid.{ChangeFits}
 use Rattle.rules.specs.FitLaws.{grow-fits}
 use Rattle.machine.specs.Machine.{State, Result, pagesFrom, apply, guard as digestStore}
 use Rattle.machine.specs.Consistent.{Consistent}
-use Rattle.handle_calls.specs.MoveLaws.{PassedAt}
+use Rattle.handle_calls.specs.Passed.{PassedAt}
 use Rattle.guard_state.specs.declared.Guard.{Guard}
 use Rattle.guard_state.specs.State.{numbersOf, stateOf, gatheredNone}
 use Rattle.guard_state.specs.laws.LoadedLaws.{open-loaded}

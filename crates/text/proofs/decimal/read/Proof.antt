@@ -4,7 +4,8 @@ use native.Mathlib.Omega.{arith}
 use Prim.Native.Nat.{_≤_, _-_}
 use mathlib.Core.Path.{_≡_, sym, _∙_}
 use lib.ListN.{length, drop}
-use Rattle.text.specs.Decimal.{readFrom, readDecimal, read-start, read-end, read-low, read-high, read-large, read-digit, read-none}
+use Rattle.text.specs.Decimal.{readFrom, readDecimal}
+use Rattle.text.specs.laws.DecimalLaws.{read-start, read-end, read-low, read-high, read-large, read-digit, read-none}
 use Rattle.text.proofs.decimal.read.Statement.{statement}
 use Rattle.text.proofs.decimal.read.Tie as tie
 

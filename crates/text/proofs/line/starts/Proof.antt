@@ -4,7 +4,8 @@ use Prim.Native.Nat.{_≤_, _-_}
 use mathlib.Core.Path.{_≡_, refl, sym, _∙_}
 use native.Mathlib.Omega.{arith}
 use lib.ListN.{length, drop}
-use Rattle.text.specs.Line.{begins, begins-all, begins-short, begins-other, begins-same}
+use Rattle.text.specs.Line.{begins}
+use Rattle.text.specs.laws.LineLaws.{begins-all, begins-short, begins-other, begins-same}
 use Rattle.text.proofs.line.starts.Statement.{statement}
 use Rattle.text.proofs.line.starts.Tie as tie
 

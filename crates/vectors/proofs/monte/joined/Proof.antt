@@ -3,7 +3,7 @@
 use mathlib.Core.Path.{refl}
 use lib.ListN.{replicate}
 use borrow.Author.Needs.{needs}
-use Rattle.vectors.specs.Monte.{filled}
+use Rattle.vectors.specs.laws.MonteLaws.{filled}
 use Rattle.vectors.proofs.monte.joined.Statement.{statement}
 use Rattle.vectors.proofs.monte.joined.Tie as tie
 

@@ -4,7 +4,8 @@ use Prim.Native.Nat.{ℕ, _+_, _≤_, _-_}
 use mathlib.Core.Path.{_≡_, ap, _∙_}
 use native.Mathlib.Omega.{arith}
 use borrow.Author.Needs.{needs}
-use Rattle.vectors.specs.Monte.{MD, seeds, next}
+use Rattle.vectors.specs.Monte.{MD}
+use Rattle.vectors.specs.laws.MonteLaws.{seeds, next}
 use Rattle.vectors.proofs.monte.thousand.Statement.{statement}
 use Rattle.vectors.proofs.monte.thousand.Tie as tie
 

@@ -1,4 +1,4 @@
--- The form's `get` and records by their places find the same: which bytes are parsed, and what is parsed.
+-- Laws of specs/Formed.antt.
 -- Assumes nothing.
 use Prim.Native.Nat.{ℕ, zero, suc, _+_, _-_, _*_, _%_, _≤_, _<_}
 use mathlib.Core.Path.{_≡_, refl, ap, ap₂, sym, _∙_}
@@ -28,6 +28,7 @@ use Rattle.image_reader.specs.Records.{recordAt, recordEnd, nodesFrom, e
 use Rattle.image_reader.specs.laws.RecordLaws.{end-least, nodes-next, length-from, formed-yes}
 use Rattle.image_reader.specs.laws.SoundAdmitted.{unsound, sound-admitted}
 use Rattle.image_reader.specs.Admission.{admitted}
+use Rattle.image_reader.specs.Formed.{Formed}
 
 -- one byte
 byte : (at : ℕ) (l : List ℕ) → decode (part at 1 l) ≡ getD l at 0
@@ -261,13 +262,6 @@ module _ (w : ℕ) (s : List ℕ) where
       one : Is (leb 4 (length s)) → isSome (parse w s) ≡ false
       one (isT h) = two (leb-true _ _ h) (is (leb (recordsEnd w s + 4) (length s))) (is (leb (recordsEnd w s) (length s)))
       one (isF h) = none-parsed (whole-short w s (leb-false _ _ h))
-
--- The image's form says where its sections stand.
-pub record Formed (w : ℕ) (s : List ℕ) : Type 0 where
-  pub four : 4 ≤ length s
-  pub count : nodeCount s ≤ NODES
-  pub within : recordsEnd w s + 4 ≤ length s
-  pub ends : recordsEnd w s + 4 + digestCount w s * 32 ≡ length s
 
 pub to-formed : (w : ℕ) (s : List ℕ) → formed w s ≡ true → Formed w s
 unfolding formed

@@ -1,25 +1,20 @@
--- What the rules come to, by what a call by handle was judged to be.
+-- Laws of specs/Passed.antt.
 -- Assumes nothing.
 use mathlib.Core.Path.{_≡_, ap, sym, _∙_}
 use Prim.Native.Nat.{ℕ}
 use native.Mathlib.Omega.{arith}
-use Rattle.lists.specs.Checks.{Passed, decide, decide-ind, decide-map}
+use Rattle.lists.specs.Checks.{decide, decide-ind, decide-map}
 use Rattle.filesystem.specs.Tables.{Tables}
 use Rattle.rules.specs.Calls.{Call}
-use Rattle.rules.specs.Rules.{Move, refuse, openPlace, filePlace, callChecks}
+use Rattle.rules.specs.Rules.{Move, refuse, callChecks}
 use Rattle.handle_calls.specs.declared.Handled.{Handled}
 use Rattle.handle_calls.specs.declared.Handled.the-variants.{Open, Refused}
 use Rattle.handle_calls.specs.Judged.{handledFor}
+use Rattle.handle_calls.specs.Passed.{PassedAt}
 
 unfoldable moveOf : Move → Handled → Move
 moveOf x (Refused n) = refuse n
 moveOf x (Open k j) = x
-
--- a call that passed, on the open file in place k and the node in place j
-pub record PassedAt (t : Tables) (h : ℕ) (q : Call) (k j : ℕ) : Type 0 where
-  pub checks : Passed (callChecks t q)
-  pub open-place : openPlace t h ≡ k
-  pub file-place : filePlace t h ≡ j
 
 module _ (t : Tables) (h : ℕ) (q : Call) (r : Handled) (e : r ≡ handledFor t h q) where
   move-known : (x : Move) → decide refuse (callChecks t q) x ≡ moveOf x r
