@@ -16,14 +16,14 @@ from random import SystemRandom
 
 from model.compare import shortened
 
-from .client import Client, Wrong
+from .client import POWER_LOSS, Client, Restart, Wrong
 from .covered import Covered
 from .lists import TURNS, List
 from .wire import FRAMES, Broken, Program
 from .words import compared, digits, paragraphs, quoted, request_words, thing_words
 
 SHORTENING = 30  # seconds at the most
-SHORT_PATIENCE = 1.0  # with a program that hangs, while its list is shortened
+SHORT_PATIENCE = 0.2  # while a list is shortened, or ten times what the slowest reply has taken
 
 
 class Fault:
@@ -58,7 +58,7 @@ def redone(things):
 
 class Trial:
     def __init__(self, command, patience):
-        self.command, self.patience = command, patience
+        self.command, self.patience, self.slowest = command, patience, 0
 
     def in_new_process(self, work):
         """Some work in a process of its own, over a new directory, and its end."""
@@ -67,6 +67,7 @@ class Trial:
             fault, client = tried(program, work)
             return fault or self.fault_of_end(program), client
         finally:
+            self.slowest = max(self.slowest, program.slowest)
             program.remove()
 
     def fault_of_end(self, program):
@@ -76,7 +77,8 @@ class Trial:
             return Fault(what, [])
 
     def shortest(self, fault):
-        """The shortest list that was found; in one process for all attempts, or, where that shows something else, in one for each."""
+        """The shortest list that was found; in one process for all attempts, or, where that shows something else, in one for each.
+        A kill that does not matter is plain power loss."""
         for in_one in (True, False):
             again, _ = self.in_new_process(redone(self.shortened(fault, in_one)))
             if again and again.looks() == fault.looks():
@@ -85,20 +87,22 @@ class Trial:
 
     def shortened(self, fault, in_one):
         until = time.monotonic() + SHORTENING
+        patience = min(self.patience, max(SHORT_PATIENCE, 10 * self.slowest))
         programs = []
 
         def shows(things):
             if time.monotonic() > until:
                 return False
             if not programs:
-                programs.append(Program(self.command, min(self.patience, SHORT_PATIENCE)))
+                programs.append(Program(self.command, patience))
             found, _ = tried(programs[0], redone(things))
             if not in_one or (found and isinstance(found.what, Broken)):
                 programs.pop().remove()
             return found is not None and found.looks() == fault.looks()
 
         try:
-            return shortened(shows, fault.things)
+            plain = [Restart(POWER_LOSS) if isinstance(thing, Restart) else thing for thing in fault.things]
+            return shortened(shows, plain if shows(plain) else fault.things)
         finally:
             for program in programs:
                 program.remove()

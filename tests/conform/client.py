@@ -22,7 +22,7 @@ from . import wire
 from .covered import Covered
 
 
-WITHIN_REQUEST = "killed within a request"
+POWER_LOSS, WITHIN_REQUEST = "power loss", "killed within a request"
 
 
 @dataclass(frozen=True)
@@ -211,7 +211,7 @@ class Client(Recording):
 
 
 RESTARTS = {
-    "power loss": Client.start_alive,
+    POWER_LOSS: Client.start_alive,
     "killed between two requests": Client.killed,
     WITHIN_REQUEST: Client.killed_in_request,
     "killed within a sync": Client.killed_in_sync,

@@ -70,6 +70,7 @@ class List:
             do(calls.read(handle, count))
         for size in (3 * PAGE - 1, 2 * PAGE, PAGE + 1, 0):
             do(calls.truncate(handle, size))
+            do(calls.stat(b"/a"))
             do(calls.seek(handle, size))
             do(calls.write(handle, b"again"))
         build(self.client, deep(MAX_PATH - 4))

@@ -31,7 +31,7 @@ class Program:
     def __init__(self, command, patience):
         self.command, self.patience = command, patience
         self.place = tempfile.mkdtemp(prefix="conform.", dir=shared_memory())
-        self.process = None
+        self.process, self.slowest = None, 0
         self.run()
 
     def run(self):
@@ -42,10 +42,9 @@ class Program:
         self.came = self.frame = b""
 
     def kill(self):
-        try:
+        """Its number is its own as long as nobody has waited for it."""
+        if self.process.returncode is None:
             os.killpg(self.process.pid, signal.SIGKILL)
-        except ProcessLookupError:
-            pass
         self.process.wait()
         self.process.stdin.close()
         self.process.stdout.close()
@@ -77,7 +76,9 @@ class Program:
         self.nothing()
 
     def send(self, kind, data):
-        if self.came or (self.is_readable(0) and self.process.poll() is None):
+        if self.is_readable(0):
+            self.take()
+        if self.came:
             self.broken("it sends bytes that nobody has asked for")
         self.frame = bytes([kind]) + data
         try:
@@ -97,16 +98,20 @@ class Program:
             self.broken(f"it answers {FRAMES[self.frame[0]]} with {len(reply):,} bytes, not with an empty frame")
 
     def read(self, count, what):
-        until = time.monotonic() + self.patience
+        asked = time.monotonic()
         while len(self.came) < count:
-            if not self.is_readable(max(0, until - time.monotonic())):
+            if not self.is_readable(max(0, asked + self.patience - time.monotonic())):
                 self.broken(f"it hangs: of {what} there are {len(self.came):,} bytes after {self.patience:g} s")
-            got = os.read(self.process.stdout.fileno(), 1 << 16)
-            if not got:
-                self.ended()
-            self.came += got
+            self.take()
+        self.slowest = max(self.slowest, time.monotonic() - asked)
         data, self.came = self.came[:count], self.came[count:]
         return data
+
+    def take(self):
+        got = os.read(self.process.stdout.fileno(), 1 << 16)
+        if not got:
+            self.ended()
+        self.came += got
 
     def is_readable(self, seconds):
         return bool(select.select([self.process.stdout], [], [], seconds)[0])
