@@ -20,7 +20,7 @@ from .client import POWER_LOSS, Client, Restart, Wrong
 from .covered import Covered
 from .lists import TURNS, List
 from .wire import FRAMES, Broken, Program
-from .words import compared, digits, paragraphs, quoted, request_words, thing_words
+from .words import AFTER_POWER_UP, compared, digits, paragraphs, quoted, request_words, thing_words
 
 SHORTENING = 30  # seconds at the most
 SHORT_PATIENCE = 0.2  # while a list is shortened, or ten times what the slowest reply has taken
@@ -128,8 +128,10 @@ def explain(wrong, things):
     show("         ", digits(wrong.request))
     show("right:   ", right)
     show("came:    ", came)
-    show("why:     ", f"docs/SPECIFICATION.md, {', '.join(paragraphs(wrong, things))}")
-    for paragraph in paragraphs(wrong, things):
+    cited = paragraphs(wrong, things)
+    life = "; docs/INTEGRATION.md, 9, what a start is" if AFTER_POWER_UP in cited else ""
+    show("why:     ", f"docs/SPECIFICATION.md, {', '.join(cited)}{life}")
+    for paragraph in cited:
         show("         ", quoted(paragraph, wrong.request))
 
 

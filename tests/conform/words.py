@@ -50,7 +50,8 @@ def restart_words(thing):
 
 def shown(path):
     """A path with every byte that is not plain as digits, and a letter that goes on for long told once: n{32}."""
-    return re.sub(r"(\w)\1{7,}", lambda run: f"{run[1]}{{{len(run[0])}}}", repr(path)[2:-1]) or "(no file)"
+    plain = repr(path)[2:-1].replace(" ", "\\x20")
+    return re.sub(r"(\w)\1{7,}", lambda run: f"{run[1]}{{{len(run[0])}}}", plain) or "(no file)"
 
 
 def digits(data, most=48):
@@ -63,6 +64,10 @@ def front(data, most):
 
 def bytes_words(count):
     return f"{count:,} byte{'s' * (count != 1)}"
+
+
+def entries_words(count):
+    return f"{count or 'no'} {'entry' if count == 1 else 'entries'}"
 
 
 # requests
@@ -101,7 +106,7 @@ def compared(wrong):
     if wrong.request[0] == READDIR:
         return listings(wrong)
     if wrong.reason == 1:
-        return bytes_words(len(wrong.right)), f"{bytes_words(len(wrong.reply))}: {front(wrong.reply, 48)}"
+        return tuple(f"{bytes_words(len(reply))}: {front(reply, 16)}" for reply in (wrong.right, wrong.reply))
     return VALUES[wrong.reason](wrong)
 
 
@@ -140,9 +145,9 @@ def stat_words(reply):
 def listings(wrong):
     right, came = rules.split_listing(wrong.right), rules.split_listing(wrong.reply)
     said = [f"no {entry_words(entry)}" for entry in right if entry not in came]
-    said += [f"{entry_words(entry)} {came.count(entry)} times" for entry in right if came.count(entry) > 1]
+    said += [f"{entry_words(entry)}, {came.count(entry)} times" for entry in right if came.count(entry) > 1]
     said += [f"{entry_words(entry)}, which is not there" for entry in came if entry not in right]
-    return f"{len(right)} entries: {digits(wrong.right)}", f"{len(came)} entries: {'; '.join(said[:5])}"
+    return f"{entries_words(len(right))}: {digits(wrong.right)}", f"{entries_words(len(came))}: {'; '.join(said[:5])}"
 
 
 def entry_words(entry):
@@ -157,6 +162,7 @@ VALUES = {2: statuses, 3: ids, 4: descriptors, 5: pages, 6: stats}
 # paragraphs
 
 PARAGRAPHS = {2: "5.4", 3: "2.1", 4: "2.5", 7: "5.11"}  # by the reason of 5.10, beside 5.5
+AFTER_POWER_UP = "10.9"
 CAUSES = {WRITE: "5.7", TRUNCATE: "4.6", CHMOD: "4.7"}  # by the last call that has changed a page or a stat
 
 
@@ -169,7 +175,7 @@ def paragraphs(wrong, things):
     if wrong.request[0] in (READ, STAT) and changes:
         cited.append(changes[-1])
     if any(isinstance(thing, Restart) for thing in things):
-        cited.append("10.9")
+        cited.append(AFTER_POWER_UP)
     return ["5.5", *cited]
 
 
