@@ -20,7 +20,7 @@ from .client import POWER_LOSS, Client, Restart, Wrong
 from .covered import Covered
 from .lists import TURNS, List
 from .wire import FRAMES, Broken, Program
-from .words import AFTER_POWER_UP, compared, digits, paragraphs, quoted, request_words, thing_words
+from .words import AFTER_POWER_UP, compared, digits, list_words, paragraphs, quoted, request_words
 
 SHORTENING = 30  # seconds at the most
 SHORT_PATIENCE = 0.2  # while a list is shortened, or ten times what the slowest reply has taken
@@ -30,7 +30,7 @@ class Fault:
     """What a list has come to: a wrong reply, or a program that breaks off."""
 
     def __init__(self, what, things):
-        self.what, self.things = what, things
+        self.what, self.things, self.is_shortest = what, things, False
 
     def looks(self):
         """What a shorter list must come to as well."""
@@ -80,13 +80,14 @@ class Trial:
         """The shortest list that was found; in one process for all attempts, or, where that shows something else, in one for each.
         A kill that does not matter is plain power loss."""
         for in_one in (True, False):
-            again, _ = self.in_new_process(redone(self.shortened(fault, in_one)))
+            until = time.monotonic() + SHORTENING
+            again, _ = self.in_new_process(redone(self.shortened(fault, in_one, until)))
             if again and again.looks() == fault.looks():
+                again.is_shortest = time.monotonic() < until
                 return again
         return fault
 
-    def shortened(self, fault, in_one):
-        until = time.monotonic() + SHORTENING
+    def shortened(self, fault, in_one, until):
         patience = min(self.patience, max(SHORT_PATIENCE, 10 * self.slowest))
         programs = []
 
@@ -110,9 +111,10 @@ class Trial:
 
 def report(fault, seed, command):
     wrong = isinstance(fault.what, Wrong)
-    print(f"conform: {'a wrong reply' if wrong else fault.what}; seed {seed}, the shortest list that shows it:")
-    for thing in fault.things or ["a start"]:
-        show("    ", thing if isinstance(thing, str) else thing_words(thing))
+    length = "the shortest" if fault.is_shortest else "a"
+    print(f"conform: {'a wrong reply' if wrong else fault.what}; seed {seed}, {length} list that shows it:")
+    for line in list_words(fault.things):
+        show("    ", line)
     if wrong:
         explain(fault.what, fault.things)
     else:
@@ -150,14 +152,14 @@ def options():
     chosen.command = chosen.command[chosen.command[:1] == ["--"] :]
     if not chosen.command:
         parser.error("no program is named")
+    if not shutil.which(chosen.command[0]):
+        parser.error(f"there is no program {chosen.command[0]}")
     return chosen
 
 
 def main():
     chosen = options()
     trial, covered = Trial(chosen.command, chosen.patience), Covered()
-    if not shutil.which(chosen.command[0]):
-        sys.exit(f"conform: there is no program {chosen.command[0]}")
     for seed in range(chosen.first, chosen.first + chosen.count):
         fault, client = trial.in_new_process(lambda client: List(client, seed).run())
         if fault:

@@ -1,6 +1,7 @@
 """Calls, requests and replies in words, and the paragraphs of docs/SPECIFICATION.md that they go by, in its own words."""
 
 import re
+from itertools import groupby
 from pathlib import Path
 
 from model import rules
@@ -11,10 +12,18 @@ from .covered import NAMES, REQUESTS
 
 SPECIFICATION = Path(__file__).resolve().parents[2] / "docs/SPECIFICATION.md"
 RIGHTS = {1: "reading", 2: "writing", 3: "reading and writing"}
+LONG = 12
 KINDS = {rules.FILE: "file", DIRECTORY: "directory"}
 
 
 # things that a client does
+
+def list_words(things):
+    """A line for each, and of calls of one kind that go on for long the first and the last."""
+    for _, run in groupby(things or [None], key=lambda thing: thing.call[0] if isinstance(thing, Do) else thing):
+        lines = [thing_words(thing) if thing else "a start" for thing in run]
+        yield from lines if len(lines) <= LONG else [*lines[:2], f"… and {len(lines) - 3} more of them", lines[-1]]
+
 
 def thing_words(thing):
     if isinstance(thing, Do):
@@ -171,12 +180,20 @@ def paragraphs(wrong, things):
     cited = [PARAGRAPHS[wrong.reason]] if wrong.reason in PARAGRAPHS else []
     if wrong.request[0] == READ and is_behind_the_end(wrong):
         cited.append("2.4")
+    if has_given_up(wrong):
+        cited.append("5.13")
     changes = [CAUSES[thing.call[0]] for thing in things if isinstance(thing, Do) and thing.call[0] in CAUSES]
     if wrong.request[0] in (READ, STAT) and changes:
         cited.append(changes[-1])
     if any(isinstance(thing, Restart) for thing in things):
         cited.append(AFTER_POWER_UP)
     return ["5.5", *cited]
+
+
+def has_given_up(wrong):
+    """Whether the host says that it could not: the id 0, a number below 0."""
+    is_id = wrong.request[0] in (CREATE, MKDIR)
+    return len(wrong.reply) == 4 and (unsigned(wrong.reply) == 0 if is_id else signed(wrong.reply) < 0)
 
 
 def is_behind_the_end(wrong):
