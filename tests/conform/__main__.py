@@ -81,9 +81,11 @@ class Trial:
         A kill that does not matter is plain power loss."""
         for in_one in (True, False):
             until = time.monotonic() + SHORTENING
-            again, _ = self.in_new_process(redone(self.shortened(fault, in_one, until)))
+            things = self.shortened(fault, in_one, until)
+            in_time = time.monotonic() < until
+            again, _ = self.in_new_process(redone(things))
             if again and again.looks() == fault.looks():
-                again.is_shortest = time.monotonic() < until
+                again.is_shortest = in_time
                 return again
         return fault
 

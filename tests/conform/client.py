@@ -21,7 +21,6 @@ from model.tree import tree
 from . import wire
 from .covered import Covered
 
-
 POWER_LOSS, WITHIN_REQUEST = "power loss", "killed within a request"
 
 
@@ -88,12 +87,14 @@ class Client(Recording):
         return self.perform(self.kept(event.data))
 
     def kept(self, call):
+        """A call as it is kept."""
         if call[:1] and call[0] in BY_HANDLE and len(call) > ID:
             node = next((node for node in self.guard.nodes if node.id == unsigned(call[1 : 1 + ID])), None)
             return Do(call[:1] + call[1 + ID :], self.path_of(node) if node else b"")
         return Do(call)
 
     def bytes_of(self, do):
+        """A call as it is now; a file that is not there has the handle 0, which is refused."""
         if do.file is None:
             return do.call
         handle = next((node.id for node in self.guard.nodes if self.path_of(node) == do.file), 0)

@@ -12,8 +12,6 @@ from model.rules import ANSWER, put, unsigned
 
 REQUEST, SYNC, START = 1, 2, 3
 WIDTH = 4  # of a frame's length
-
-
 FRAMES = {REQUEST: "a request", SYNC: "a sync", START: "a start"}
 
 

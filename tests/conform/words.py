@@ -12,7 +12,7 @@ from .covered import NAMES, REQUESTS
 
 SPECIFICATION = Path(__file__).resolve().parents[2] / "docs/SPECIFICATION.md"
 RIGHTS = {1: "reading", 2: "writing", 3: "reading and writing"}
-LONG = 12
+LONG = 12  # a list of calls of one kind
 KINDS = {rules.FILE: "file", DIRECTORY: "directory"}
 
 
@@ -111,7 +111,7 @@ def by_id(nodes, id):
 # replies
 
 def compared(wrong):
-    """What is right and what came, in two lines or more."""
+    """What is right, and what came."""
     if wrong.request[0] == READDIR:
         return listings(wrong)
     if wrong.reason == 1:
