@@ -104,8 +104,10 @@ class Generator:
         self.recording.do(calls.chmod(self.pick(7, 7, 5, 3), b"/a"))
 
     def enter_world(self):
+        self.enter(*self.pick(*WORLDS))
+
+    def enter(self, nodes, opened, leaning):
         """A tree at a limit: by one load, or at the desk by calls."""
-        nodes, opened, leaning = self.pick(*WORLDS)
         if self.desk:
             build(self.recording, nodes)
         else:

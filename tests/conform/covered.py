@@ -1,0 +1,133 @@
+"""What a run has met: calls, requests, page edges, restarts, limits. A run that passes says so, and says what it has not met."""
+
+from collections import Counter
+
+from model import rules
+from model.generate import BY_HANDLE
+from model.rules import (
+    CHMOD, CREATE, ID, MAX_COUNT, MAX_NAME, MAX_NODES, MAX_OPEN, MAX_PAGES, MAX_PATH, MAX_SIZE, MKDIR, OPEN, PAGE, READ,
+    READDIR, TRUNCATE, WRITE, pages_between, unsigned,
+)
+from model.tree import CALLS
+
+NAMES = {**CALLS, rules.MKDIR: "mkdir"}
+REQUESTS = {**NAMES, READ: "fetch", WRITE: "store", TRUNCATE: "cut"}
+del REQUESTS[rules.SEEK]
+
+WANTED = {
+    "calls": list(NAMES.values()),
+    "requests": list(REQUESTS.values()),
+    "page edges": [
+        f"{call} {place}"
+        for call in ("read", "write")
+        for place in ("up to an edge", "one byte short of it", "one byte over it", "from an edge", "over several pages")
+    ] + ["truncate to an edge", "truncate within a page", "truncate to 0", "a file that grows after it was cut"],
+    "restarts": [
+        "saves", "from no save", "power loss", "killed between two requests", "killed within a request",
+        "killed within a sync", "killed after a sync", "killed within a start",
+    ],
+    "limits": [
+        f"{MAX_NODES} nodes", f"{MAX_OPEN} open files", f"{MAX_PAGES:,} pages", f"a file of {MAX_SIZE:,} bytes",
+        f"a name of {MAX_NAME}", f"a path of {MAX_PATH}", f"a read of {MAX_COUNT:,}", f"a write of {MAX_COUNT:,}",
+        f"a listing of {MAX_NODES - 1}", "a listing of none", "names of any bytes", "a file without read and write bits open",
+    ],
+}
+
+
+class Covered:
+    def __init__(self):
+        self.counts = Counter()
+        self.cut = set()
+
+    def met(self, group, name, condition=True):
+        self.counts[group, name] += bool(condition)
+
+    def request(self, request):
+        self.met("requests", REQUESTS[request[0]])
+
+    def look(self, tree, call):
+        """Size and cursor of the call's file, before it."""
+        handle = unsigned(call[1 : 1 + ID]) if call[:1] and call[0] in BY_HANDLE else None
+        file = tree.open_files.get(handle)
+        return (file_size(tree, handle), file.cursor) if file else (0, 0)
+
+    def call(self, tree, call, before):
+        """A call that is done."""
+        self.met("calls", NAMES[call[0]])
+        if call[0] in (READ, WRITE):
+            self.transfer(tree, call, *before)
+        elif call[0] == TRUNCATE:
+            self.truncation(call, unsigned(call[1 + ID :]), before[0])
+        elif call[0] == READDIR:
+            self.listing(tree, call)
+        if call[0] in (CREATE, MKDIR, OPEN, WRITE, CHMOD):
+            self.limits(tree)
+
+    def transfer(self, tree, call, size, start):
+        handle, name = unsigned(call[1 : 1 + ID]), NAMES[call[0]]
+        end = tree.open_files[handle].cursor
+        if start == end:
+            return
+        for place, condition in (
+            ("up to an edge", end % PAGE == 0), ("one byte short of it", end % PAGE == PAGE - 1),
+            ("one byte over it", end % PAGE == 1), ("from an edge", start % PAGE == 0),
+            ("over several pages", len(pages_between(start, end)) > 1),
+        ):
+            self.met("page edges", f"{name} {place}", condition)
+        self.met("limits", f"a {name} of {MAX_COUNT:,}", end - start == MAX_COUNT)
+        self.met("page edges", "a file that grows after it was cut", end > size and handle in self.cut)
+
+    def truncation(self, call, size, before):
+        if size < before:
+            self.cut.add(unsigned(call[1 : 1 + ID]))
+            place = "to 0" if size == 0 else "within a page" if size % PAGE else "to an edge"
+            self.met("page edges", f"truncate {place}")
+
+    def listing(self, tree, call):
+        _, directory = tree.walk(rules.read_path(call[1:]))
+        children = len(tree.children(directory))
+        self.met("limits", f"a listing of {MAX_NODES - 1}", children == MAX_NODES - 1)
+        self.met("limits", "a listing of none", children == 0)
+
+    def limits(self, tree):
+        nodes, last = tree.nodes, tree.nodes[-1]
+        self.met("limits", f"{MAX_NODES} nodes", len(nodes) == MAX_NODES)
+        self.met("limits", f"{MAX_OPEN} open files", len(tree.open_files) == MAX_OPEN)
+        self.met("limits", f"{MAX_PAGES:,} pages", tree.page_total() == MAX_PAGES)
+        self.met("limits", f"a file of {MAX_SIZE:,} bytes", any(node.size == MAX_SIZE for node in nodes))
+        self.met("limits", f"a name of {MAX_NAME}", len(last.name) == MAX_NAME)
+        self.met("limits", f"a path of {MAX_PATH}", path_length(nodes, last) == MAX_PATH)
+        self.met("limits", "names of any bytes", not last.name.isascii())
+        shut = any(node.id in tree.open_files and not node.mode & 6 for node in nodes)
+        self.met("limits", "a file without read and write bits open", shut)
+
+    # the end of a run
+
+    def add(self, other):
+        self.counts += other.counts
+
+    def total(self):
+        return sum(count for (group, _), count in self.counts.items() if group == "requests")
+
+    def text(self):
+        lines = []
+        for group, names in WANTED.items():
+            counts = [f"{name} {self.counts[group, name]:,}" for name in names if self.counts[group, name]]
+            lines.append(f"{group}: {', '.join(counts)}")
+        return lines + [f"not met: {', '.join(self.missing()) or 'nothing'}"]
+
+    def missing(self):
+        return [name for group, names in WANTED.items() for name in names if not self.counts[group, name]]
+
+
+def file_size(tree, handle):
+    return next(node.size for node in tree.nodes if node.id == handle)
+
+
+def path_length(nodes, node):
+    parents = {other.id: other for other in nodes}
+    length = 0
+    while node.parent:
+        length += 1 + len(node.name)
+        node = parents[node.parent]
+    return length

@@ -1,0 +1,118 @@
+"""Lists from a seed: the model's generator as an honest client, with saves and restarts in between.
+
+Which tree a list starts in and which restart comes first goes by the seed's place among TURNS, so that so many seeds on end
+meet them all. Small trees come first: a fault that they show is told in a few calls.
+"""
+
+from random import Random
+
+from host.honest import honest_generator
+from model import calls
+from model.edges import crowd, deep, files
+from model.events import Done
+from model.generate import MAKERS, WORLDS, build
+from model.rules import (
+    CHMOD, CLOSE, CREATE, MAX_COUNT, MAX_OPEN, MAX_PATH, MKDIR, OPEN, PAGE, READDIR, READ_RIGHT, REMOVE, RMDIR, STAT,
+    TRUNCATE, WRITE,
+)
+
+from .client import RESTARTS, WITHIN_REQUEST, Restart, Saved
+
+SMALL = 7  # turns that start in a small tree
+TREES = [*WORLDS, (files(*[3] * MAX_OPEN), MAX_OPEN, [OPEN, CLOSE]), (crowd(), 0, [READDIR, STAT])]
+TURNS = SMALL + len(TREES)
+CALLS = 40  # between two restarts
+LOOKS = 12  # nodes that are looked at after a restart
+EDGES = [(0, PAGE - 1), (PAGE - 1, 1), (PAGE, 1), (1, PAGE), (PAGE, 2 * PAGE), (2 * PAGE, MAX_COUNT)]
+DELAY = 0.002  # a kill comes at most so many seconds after its frame
+
+
+class List:
+    def __init__(self, client, seed):
+        self.client, self.turn = client, seed % TURNS
+        self.random = Random(seed)
+        self.generator = honest_generator(self.random, client)
+        self.generator.bad_form = 0
+
+    def run(self):
+        self.client.begin()
+        self.enter()
+        hows = list(RESTARTS)
+        first = hows[self.turn % len(hows)]
+        for how in (first, *self.random.sample(hows, 2)):
+            self.work(self.random.randrange(CALLS))
+            if how is not first or self.turn % 3:
+                self.client.perform(Saved())
+            self.work(self.random.randrange(CALLS))
+            self.client.perform(self.restart(how, at_once=how is first))
+            self.look(self.random.sample(self.paths(), min(LOOKS, len(self.client.guard.nodes))))
+        self.work(CALLS)
+        self.client.perform(Saved())
+        self.look(self.paths(), unlock=True)
+
+    def enter(self):
+        if self.turn >= SMALL:
+            self.generator.enter(*TREES[self.turn - SMALL])
+        elif self.turn > 0:
+            self.generator.make_files()
+        else:
+            self.tour()
+
+    def tour(self):
+        """What is rare elsewhere: each page edge, a file that nobody may open again, a path as long as can be, a name of any bytes."""
+        do, handle = self.client.do, self.client.do(calls.create(7, b"/a")).number
+        do(calls.open_(3, b"/a"))
+        do(calls.chmod(0, b"/a"))
+        for start, count in EDGES:
+            do(calls.seek(handle, start))
+            do(calls.write(handle, self.random.randbytes(count)))
+            do(calls.seek(handle, start))
+            do(calls.read(handle, count))
+        for size in (3 * PAGE - 1, 2 * PAGE, PAGE + 1, 0):
+            do(calls.truncate(handle, size))
+            do(calls.stat(b"/a"))
+            do(calls.seek(handle, size))
+            do(calls.write(handle, b"again"))
+        build(self.client, deep(MAX_PATH - 4))
+        do(calls.create(7, self.paths()[-1] + b"/\xff\n\x01"))
+
+    def work(self, count):
+        for _ in range(count):
+            self.generator.event()
+
+    def restart(self, how, at_once):
+        """A restart; within a request, the call's first at once, since a call may have no second."""
+        delay = self.random.random() * DELAY if "within" in how else 0
+        if how != WITHIN_REQUEST:
+            return Restart(how, delay)
+        call = self.changing_call()
+        which = 1 if call[0] in (WRITE, TRUNCATE) and not at_once else 0
+        return Restart(how, delay, self.client.kept(call), which)
+
+    def changing_call(self):
+        """A call that changes something at the host; the root's mode where nothing else comes."""
+        for _ in range(20):
+            kind = self.random.choice([CREATE, MKDIR, WRITE, WRITE, WRITE, TRUNCATE, REMOVE, RMDIR, CHMOD])
+            call = MAKERS[kind](self.generator, kind)
+            if self.client.would_ask(call):
+                return call
+        return calls.chmod(7, b"/")
+
+    def paths(self):
+        return [self.client.path_of(node) for node in self.client.guard.nodes]
+
+    def look(self, paths, unlock=False):
+        """All that a host knows of these nodes: what it says of them, their children, every byte; unlocked, whatever their modes."""
+        for path in paths:
+            self.client.do(calls.stat(path))
+            if unlock:
+                self.client.do(calls.chmod(7, path))
+            self.client.do(calls.readdir(path))
+            self.read(path)
+
+    def read(self, path):
+        opened = self.client.do(calls.open_(READ_RIGHT, path))
+        if isinstance(opened, Done):
+            while self.client.do(calls.read(opened.number, MAX_COUNT)).number:
+                pass
+            self.client.do(calls.close(opened.number))
