@@ -1,7 +1,6 @@
--- The calls on a node by their kinds: their checks begin with the walk, they send themselves, and wait for one reply.
+-- The kinds of calls on a node that is there.
 -- Assumes nothing.
 use Prim.Native.Nat.{ℕ}
-use Rattle.lists.specs.Equal.{is}
 
 -- the kinds on a node that is there
 pub data OnNode : ℕ → Type 0 where

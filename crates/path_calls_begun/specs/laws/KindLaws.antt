@@ -1,4 +1,4 @@
--- Laws of specs/OnNode.antt.
+-- The calls on a node by their kinds: their checks begin with the walk, they send themselves, and wait for one reply.
 -- Assumes nothing.
 use mathlib.Core.Path.{_≡_, refl, sym, _∙_, subst}
 use mathlib.Core.List.{List, [], _++_, append-nil}
@@ -18,7 +18,7 @@ use Rattle.path_calls.specs.Judged.{nodeFor}
 use Rattle.call_reader.specs.Meaning.{madeBy, NumberFits}
 use Rattle.requests.specs.PathRequests.{hasNumber, pathRequest}
 use Rattle.path_calls_begun.specs.Begun.{plainQuestion, questionOf}
-use Rattle.path_calls_begun.specs.OnNode.{OnNode}
+use Rattle.path_calls_begun.specs.OnNode.{OnNode, isOpen, isRemove, isRmdir, isChmod, isReaddir, isStat}
 
 only : (k : ℕ) → 2 < k → k ≤ 13 → (4 ≤ k → 9 ≤ k) → (k ≡ 3 → ⊥) → (k ≡ 9 → ⊥) → (k ≡ 10 → ⊥) → (k ≡ 11 → ⊥) → (k ≡ 12 → ⊥) → k ≡ 13
 only k l m b x1 x2 x3 x4 x5 = let h : 4 ≤ k = omega arith in let g = b h in omega arith
