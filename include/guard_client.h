@@ -57,8 +57,9 @@ static inline void guard_copy(void *to, const void *from, size_t length)
 
 /* ---- calls (4.1)
  *
- * A path's form and length are left to the guard, which has a number for each (22, 36). Whatever gives 0 here may be handed in as a call of no
- * bytes: the guard refuses it GUARD_MALFORMED, as it would the whole. */
+ * A path's form and length are left to the guard, which has a number for each (22, 36). Where the buffer has GUARD_CALL_LENGTH bytes, a 0 may be
+ * handed in as a call of no bytes: the guard refuses it GUARD_MALFORMED, as it would the whole; but a path that has no room there, which is over
+ * 4,000 bytes long, it would call too long. */
 
 static inline size_t guard_path_call(uint8_t *to, size_t room, uint8_t kind, const char *path)
 {
