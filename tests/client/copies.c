@@ -181,9 +181,8 @@ static void meddled(void)
  * So the change falls between two looks of the guard at one page, image or request, where these are shared: what was hashed is not what is then
  * used. The bytes lie across the edge of a page of the machine, and what is behind the edge may not be touched until someone does. */
 
-enum { FIRST = 64 };
 static uint8_t *place, *torn; /* memory of the machine's pages, and where bytes begin in it */
-static size_t machine_page;
+static size_t machine_page, first;
 static volatile sig_atomic_t armed;
 
 static void touched(int number)
@@ -194,7 +193,7 @@ static void touched(int number)
     }
     armed = 0;
     mprotect(place + machine_page, GUARD_IMAGE_LENGTH, PROT_READ | PROT_WRITE);
-    turn(torn, FIRST);
+    turn(torn, first);
 }
 
 static void arm(int is_armed)
@@ -205,11 +204,18 @@ static void arm(int is_armed)
     mprotect(place + machine_page, GUARD_IMAGE_LENGTH, PROT_NONE);
 }
 
+/* So many bytes lie before the edge. */
+static void lay(size_t before)
+{
+    first = before;
+    torn = place + machine_page - before;
+}
+
 static int make_place(void)
 {
     machine_page = (size_t)sysconf(_SC_PAGESIZE);
     place = (uint8_t *)mmap(NULL, machine_page + GUARD_IMAGE_LENGTH, PROT_READ | PROT_WRITE, MAP_PRIVATE | MAP_ANONYMOUS, -1, 0);
-    torn = place + machine_page - FIRST;
+    lay(64);
     return place != MAP_FAILED && signal(SIGSEGV, touched) != SIG_ERR;
 }
 
@@ -239,9 +245,12 @@ static guard_outcome torn_request(int is_armed)
 {
     make_file();
     carry(guard_seek_call(call, sizeof call, 2, 0));
-    size_t n = guard_write_call(call, sizeof call, 2, text, GUARD_PAGE_LENGTH);
+    guard_client_call(&c, call, guard_write_call(call, sizeof call, 2, "at the front", 12), NULL, 0);
+    size_t n = guard_page_reply(reply, GUARD_REPLY_LENGTH, pages[0][0], GUARD_PAGE_LENGTH);
+    lay(512); /* the fetched page is copied to the store in steps: those before the edge are done */
     arm(is_armed);
-    guard_client_call(&c, call, n, torn, GUARD_REQUEST_LENGTH);
+    guard_client_reply(&c, reply, n, torn, GUARD_REQUEST_LENGTH);
+    lay(64);
     return guard_client_reply(&c, reply, guard_status_reply(reply, 4, GUARD_PAGE_LENGTH), NULL, 0);
 }
 
