@@ -19,9 +19,13 @@
  *   be copied or moved. Nothing else is kept: two guards know nothing of each other, and two threads may use two guards.
  * - Buffers may not overlap each other or the guard. A null pointer with length 0 is an empty one. What lies behind the bytes that are given out is
  *   not touched, and neither is the buffer that nothing is given out in.
+ * - While one of these functions runs, nobody else may write what is lent to it: the guard, call, reply, answer, request, image or digest. The
+ *   guard hashes bytes and then reads them again, and what changes between the two is believed. Where the host can write memory, a reply or an
+ *   image is copied from there before the guard sees it, a request or an image to there afterwards: guard_client.h has functions that do.
  * - Link with -lguard (pkg-config guard). The archive is for x86-64 and asks memcpy and memset of the C library, nothing else.
  *
- * Paragraphs that are cited are those of docs/SPECIFICATION.md; docs/INTEGRATION.md is for whoever builds a host. */
+ * guard_client.h builds calls and replies and reads requests, so that nobody has to assemble bytes. Paragraphs that are cited are those of
+ * docs/SPECIFICATION.md; docs/INTEGRATION.md is for whoever builds a host. */
 #ifndef GUARD_H
 #define GUARD_H
 
@@ -64,7 +68,7 @@ typedef struct { int kind; uint64_t number; size_t length; } guard_outcome;
 enum {
     GUARD_DONE = 0,    /* `number` is the call's result */
     GUARD_ASK = 1,     /* a request for the host is pending; `number` is 0 */
-    GUARD_REFUSED = 2, /* nothing has changed, and a pending request still is; `number` says why, an errno value of Linux: strerror speaks */
+    GUARD_REFUSED = 2, /* nothing has changed, and a pending request still is; `number` says why, an errno value of Linux; guard_number_text speaks */
     GUARD_STOPPED = 3  /* the host's reply is wrong; `number` is the reason. From now on everything is refused GUARD_STOPPED_FOR_GOOD */
 };
 
@@ -177,14 +181,16 @@ static inline guard_outcome guard_reply(guard *g, const uint8_t *reply, size_t l
 }
 
 /* Writes all that the guard keeps to the front of `image`, and its SHA-256 to `digest`; done with the image's length. No file may be open. Only an
- * image that is longer than the buffer is refused GUARD_SHORT_BUFFER. A save that is refused writes nothing. The image may lie anywhere, with the host too. The
- * digest must be kept where the host cannot change it: whoever chooses the digest chooses which files the next guard believes in. */
+ * image that is longer than the buffer is refused GUARD_SHORT_BUFFER. A save that is refused writes nothing. Once the save is
+ * done, the image may be copied anywhere, to the host too. The digest must be kept where the host cannot change it: whoever chooses the digest chooses
+ * which files the next guard believes in. */
 static inline guard_outcome guard_save(guard *g, uint8_t *image, size_t image_length, uint8_t digest[GUARD_DIGEST_LENGTH])
 {
     return guard_entry_save(g->memory, sizeof g->memory, image, image_length, digest);
 }
 
-/* Takes an image back, in place of all that the guard holds, if it has this digest: that of the last save. No file may be open. Done with 0. */
+/* Takes an image back, in place of all that the guard holds, if it has this digest: that of the last save. No file may be open. Done with 0. An image
+ * that the host kept is copied to memory that the host cannot write first. */
 static inline guard_outcome guard_load(guard *g, const uint8_t *image, size_t length, const uint8_t *digest, size_t digest_length)
 {
     return guard_entry_load(g->memory, sizeof g->memory, image, length, digest, digest_length);

@@ -1,12 +1,12 @@
-/* A client of the guard: each call in one function, which writes the call's bytes and carries requests and replies between guard and host until
- * the call is done, refused or stopped. */
+/* A client of the guard: each call in one function, which builds the call and carries requests and replies between guard and host until the call is
+ * done, refused or stopped. */
 #ifndef CLIENT_H
 #define CLIENT_H
 
 #include <stddef.h>
 #include <stdint.h>
 
-#include "guard.h"
+#include "guard_client.h"
 #include "host.h"
 
 /* Whoever obeys requests: the host's own function, or one that listens in between. */
@@ -14,12 +14,11 @@ typedef size_t client_host(void *host, const uint8_t *request, size_t length, ui
 
 typedef struct {
     guard guard;
+    guard_client layer; /* has the answer of a call that is done, and copies what the host can write: here, the reply */
     client_host *ask;
     void *host;
-    uint8_t answer[GUARD_ANSWER_LENGTH]; /* the bytes of a call that is done: `length` of its outcome says how many */
-    uint8_t request[GUARD_REQUEST_LENGTH];
     uint8_t reply[HOST_REPLY_LENGTH];
-    uint8_t call[5 + GUARD_TRANSFER_LENGTH + 1]; /* the last call's bytes; with room for one too many, which the guard refuses */
+    uint8_t call[GUARD_CALL_LENGTH]; /* the last call's bytes; none where it could not be built, which the guard refuses */
     size_t call_length;
 } client;
 

@@ -29,20 +29,17 @@ typedef struct {
 
 /* ---- in words */
 
-static const char *const call_words[] = {"", "create", "mkdir", "open", "close", "seek", "fetch", "store", "cut", "remove", "rmdir", "chmod", "readdir", "stat"};
-
-static const char *const reasons[] = {"", "wrong length", "wrong status", "an id that is taken", "a descriptor that is taken",
-                                      "not the page that was stored", "not the node's stat", "not what the directory holds"};
-
 /* Listens between guard and host. */
 static size_t ask(void *to, const uint8_t *request, size_t length, uint8_t reply[HOST_REPLY_LENGTH])
 {
     stage *s = to;
+    guard_request r;
     size_t n = strlen(s->asked);
-    int paged = request[0] == GUARD_FETCH || request[0] == GUARD_STORE;
-    snprintf(s->asked + n, sizeof s->asked - n, paged ? "%s%s %d" : "%s%s", n ? " " : "", call_words[request[0]], paged ? request[5] : 0);
+    guard_get_request(request, length, &r);
+    int paged = r.kind == GUARD_FETCH || r.kind == GUARD_STORE;
+    snprintf(s->asked + n, sizeof s->asked - n, paged ? "%s%s %d" : "%s%s", n ? " " : "", guard_request_name(r.kind), (int)r.page);
     n = host_reply(s->host, request, length, reply);
-    if (s->same && request[0] == GUARD_OPEN)
+    if (s->same && r.kind == GUARD_OPEN)
         memset(reply, 0, n);
     return n;
 }
@@ -63,11 +60,10 @@ static const char *digits(const uint8_t *bytes, size_t length)
 /* One line: the call in words, its bytes, what the guard asked of the host, what came back. */
 static void row(stage *s, guard_outcome o, int kind, uint64_t number, const char *words)
 {
-    static const char *const kinds[] = {"done", "ask", "refused", "stopped"};
     printf("  %-33s  %-*s", words, 2 * SHOWN, digits(s->client.call, s->client.call_length));
-    printf("  %-31s  %s %u", s->asked[0] ? s->asked : "-", kinds[o.kind], (unsigned)o.number);
+    printf("  %-31s  %s %u", s->asked[0] ? s->asked : "-", guard_outcome_name(o.kind), (unsigned)o.number);
     if (o.kind != GUARD_DONE)
-        printf(": %s", o.kind == GUARD_STOPPED ? reasons[o.number] : strerror((int)o.number));
+        printf(": %s", o.kind == GUARD_STOPPED ? guard_stop_text(o.number) : guard_number_text(o.number));
     if (o.kind != kind || o.number != number) {
         printf("   << not what is expected");
         s->wrong = 1;
@@ -81,14 +77,15 @@ static void show_text(const stage *s, size_t length)
 {
     printf("    > ");
     for (size_t i = 0; i < length; i++)
-        putchar(s->client.answer[i] == '\n' ? '|' : s->client.answer[i]);
+        putchar(s->client.layer.answer[i] == '\n' ? '|' : s->client.layer.answer[i]);
     putchar('\n');
 }
 
 static void show_listing(const stage *s, size_t length)
 {
-    for (const uint8_t *e = s->client.answer; e < s->client.answer + length; e += 6 + e[5])
-        printf("    > id %d, a %s, %.*s\n", e[0], e[4] == GUARD_FILE ? "file" : "directory", e[5], (const char *)e + 6);
+    guard_dirent e;
+    for (size_t at = 0; guard_get_dirent(s->client.layer.answer, length, &at, &e);)
+        printf("    > id %u, a %s, %.*s\n", (unsigned)e.id, e.kind == GUARD_FILE ? "file" : "directory", e.name_length, e.name);
 }
 
 /* ---- save and load */
@@ -98,7 +95,7 @@ static void save(stage *s)
     static uint8_t image[GUARD_IMAGE_LENGTH];
     uint8_t digest[GUARD_DIGEST_LENGTH];
     host_sync(s->host);
-    guard_outcome o = guard_save(&s->client.guard, image, sizeof image, digest);
+    guard_outcome o = guard_client_save(&s->client.layer, image, sizeof image, digest);
     row(s, o, GUARD_DONE, o.number, "save");
     disk_new(IMAGE, image, o.length);
     disk_new(DIGEST, digest, sizeof digest);
@@ -111,7 +108,7 @@ static void load(stage *s, const char *file, int kind, uint64_t number)
     uint8_t digest[GUARD_DIGEST_LENGTH];
     size_t length = disk_read(file, 0, image, sizeof image);
     size_t digest_length = disk_read(DIGEST, 0, digest, sizeof digest);
-    row(s, guard_load(&s->client.guard, image, length, digest, digest_length), kind, number, "load the image");
+    row(s, guard_client_load(&s->client.layer, image, length, digest, digest_length), kind, number, "load the image");
 }
 
 /* ---- the client's work */

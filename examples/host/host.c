@@ -18,36 +18,18 @@ struct host {
     table table;
 };
 
-/* A request taken apart; which fields there are depends on its kind. */
-typedef struct {
-    int kind;
-    uint8_t mode;
-    char path[GUARD_PATH_LENGTH + 1];
-    uint32_t descriptor, page, size;
-    const uint8_t *bytes;
-} request;
-
-static uint32_t number_at(const uint8_t *p)
-{
-    return p[0] | (uint32_t)p[1] << 8 | (uint32_t)p[2] << 16 | (uint32_t)p[3] << 24;
-}
-
-static size_t put_number(uint8_t *p, uint32_t x)
-{
-    for (int i = 0; i < 4; i++)
-        p[i] = (uint8_t)(x >> 8 * i);
-    return 4;
-}
+/* A request taken apart, its path with a 0 behind it. */
+typedef guard_request request;
 
 /* ---- replies */
 
-static size_t status(uint8_t *reply, int32_t x) { return put_number(reply, (uint32_t)x); }
+static size_t status(uint8_t *reply, int32_t x) { return guard_status_reply(reply, HOST_REPLY_LENGTH, x); }
 
 /* The right reply to nothing: a status that is not asked for, a descriptor below 0, too short for a page, a stat or an entry. */
 static size_t failed(uint8_t *reply) { return status(reply, errno > 0 ? -errno : -EIO); }
 
 /* The same for create and mkdir, where every number but 0 might be an id. */
-static size_t no_id(uint8_t *reply) { return put_number(reply, 0); }
+static size_t no_id(uint8_t *reply) { return guard_id_reply(reply, HOST_REPLY_LENGTH, 0); }
 
 /* ---- nodes by path */
 
@@ -73,7 +55,7 @@ static size_t added(host *h, const request *r, uint8_t *reply)
 {
     table_remove(&h->table, r->path);
     const table_row *row = table_add(&h->table, r->path, r->mode);
-    return row && !table_write(&h->table) ? put_number(reply, row->id) : no_id(reply);
+    return row && !table_write(&h->table) ? guard_id_reply(reply, HOST_REPLY_LENGTH, row->id) : no_id(reply);
 }
 
 static size_t create(host *h, const request *r, uint8_t *reply)
@@ -111,30 +93,23 @@ static size_t stat_node(host *h, const request *r, uint8_t *reply)
     const table_row *row;
     if (look(h, r->path, &s) || !(row = row_of(h, r->path)))
         return failed(reply);
-    put_number(reply, row->id);
-    reply[4] = kind_of(&s);
-    reply[5] = row->mode;
-    put_number(reply + 6, S_ISDIR(s.st_mode) ? 0 : s.st_size > UINT32_MAX ? UINT32_MAX : (uint32_t)s.st_size);
-    return 10;
+    guard_stat node = {row->id, kind_of(&s), row->mode, S_ISDIR(s.st_mode) ? 0 : s.st_size > UINT32_MAX ? UINT32_MAX : (uint32_t)s.st_size};
+    return guard_stat_reply(reply, HOST_REPLY_LENGTH, &node);
 }
 
 /* ---- listings */
 
-/* One entry of a directory put into a listing: its length, or 0 where it cannot be. */
-static size_t put_entry(host *h, const char *directory, const char *name, uint8_t *to, size_t room)
+/* One entry of a directory put behind those of a listing: its length then, or 0 where it cannot be. */
+static size_t put_entry(host *h, const char *directory, const char *name, uint8_t *reply, size_t listed)
 {
     char path[GUARD_PATH_LENGTH + 1];
     struct stat s;
     const table_row *row;
-    size_t n = strlen(name);
     int length = snprintf(path, sizeof path, "%s/%s", directory[1] ? directory : "", name);
-    if (length < 0 || (size_t)length >= sizeof path || room < 6 + n || look(h, path, &s) || !(row = row_of(h, path)))
+    if (length < 0 || (size_t)length >= sizeof path || look(h, path, &s) || !(row = row_of(h, path)))
         return 0;
-    put_number(to, row->id);
-    to[4] = kind_of(&s);
-    to[5] = (uint8_t)n;
-    memcpy(to + 6, name, n);
-    return 6 + n;
+    guard_dirent e = {row->id, kind_of(&s), (uint8_t)strlen(name), name}; /* a name of the disk has at most 255 bytes */
+    return guard_dirent_reply(reply, HOST_REPLY_LENGTH, listed, &e);
 }
 
 static size_t put_entries(host *h, const char *path, DIR *d, uint8_t *reply)
@@ -143,10 +118,8 @@ static size_t put_entries(host *h, const char *path, DIR *d, uint8_t *reply)
     for (struct dirent *e; (e = readdir(d));) {
         if (!strcmp(e->d_name, ".") || !strcmp(e->d_name, ".."))
             continue;
-        size_t n = put_entry(h, path, e->d_name, reply + length, HOST_REPLY_LENGTH - length);
-        if (n == 0)
+        if ((length = put_entry(h, path, e->d_name, reply, length)) == 0)
             return failed(reply);
-        length += n;
     }
     return length;
 }
@@ -180,7 +153,7 @@ static size_t open_file(host *h, const request *r, uint8_t *reply)
     return status(reply, d);
 }
 
-static int file_of(const host *h, const request *r) { return r->descriptor < GUARD_DESCRIPTORS ? h->files[r->descriptor] : -1; }
+static int file_of(const host *h, const request *r) { return h->files[r->descriptor]; }
 
 static size_t close_file(host *h, const request *r, uint8_t *reply)
 {
@@ -227,43 +200,15 @@ static size_t cut(host *h, const request *r, uint8_t *reply)
 
 /* ---- requests */
 
-static int read_path(request *r, const uint8_t *bytes, size_t length)
-{
-    if (length < 1 || length > GUARD_PATH_LENGTH || bytes[0] != '/' || memchr(bytes, 0, length))
-        return 0;
-    memcpy(r->path, bytes, length);
-    r->path[length] = '\0';
-    return 1;
-}
-
-/* Takes a request apart; 0 where it is none. */
-static int read_request(request *r, const uint8_t *bytes, size_t length)
-{
-    r->kind = length > 0 ? bytes[0] : 0;
-    switch (r->kind) {
-    case GUARD_CREATE: case GUARD_MKDIR: case GUARD_OPEN: case GUARD_CHMOD:
-        r->mode = length > 1 ? bytes[1] : 0;
-        return length > 1 && read_path(r, bytes + 2, length - 2);
-    case GUARD_REMOVE: case GUARD_RMDIR: case GUARD_READDIR: case GUARD_STAT:
-        return read_path(r, bytes + 1, length - 1);
-    case GUARD_CLOSE: case GUARD_FETCH: case GUARD_STORE: case GUARD_CUT:
-        if (length != (r->kind == GUARD_CLOSE ? 5 : r->kind == GUARD_STORE ? GUARD_REQUEST_LENGTH : 9))
-            return 0;
-        r->descriptor = number_at(bytes + 1);
-        r->page = r->kind == GUARD_FETCH || r->kind == GUARD_STORE ? number_at(bytes + 5) : 0;
-        r->size = r->kind == GUARD_STORE ? number_at(bytes + 9) : r->kind == GUARD_CUT ? number_at(bytes + 5) : 0;
-        r->bytes = bytes + 13;
-        return 1;
-    }
-    return 0;
-}
-
 size_t host_reply(host *h, const uint8_t *bytes, size_t length, uint8_t reply[HOST_REPLY_LENGTH])
 {
     request r;
+    char path[GUARD_PATH_LENGTH + 1] = "";
     errno = 0;
-    if (!read_request(&r, bytes, length))
+    if (!guard_get_request(bytes, length, &r))
         return status(reply, -EINVAL);
+    guard_copy(path, r.path, r.path_length);
+    r.path = path;
     switch (r.kind) {
     case GUARD_CREATE: return create(h, &r, reply);
     case GUARD_MKDIR: return make_directory(h, &r, reply);

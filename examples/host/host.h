@@ -1,4 +1,4 @@
-/* A host for the guard over a directory of this machine: it obeys the guard's requests and replies truly (include/guard.h has both, byte by byte).
+/* A host for the guard over a directory of this machine: it obeys the guard's requests and replies truly (include/guard.h has both, byte by byte; guard_client.h reads and builds them).
  *
  * The disk holds names, kinds, sizes and bytes, as ordinary files that anyone may read. Ids and modes stand in a table of the host's own (table.h), in a file beside
  * the directory: files are opened for reading and writing whatever their mode, since the guard is the one who judges rights. A host that was killed and is
@@ -9,9 +9,9 @@
 #include <stddef.h>
 #include <stdint.h>
 
-#include "guard.h"
+#include "guard_client.h"
 
-enum { HOST_REPLY_LENGTH = GUARD_ANSWER_LENGTH };
+enum { HOST_REPLY_LENGTH = GUARD_REPLY_LENGTH };
 
 typedef struct host host;
 

@@ -51,14 +51,13 @@ static void print_hex(const uint8_t *from, size_t n)
 
 static void print_outcome(guard_outcome o, const uint8_t *data)
 {
-    static const char *const words[] = {"done", "ask", "refused", "stopped"};
-    printf("%s %llu", words[o.kind], (unsigned long long)o.number);
+    printf("%s %llu", guard_outcome_name(o.kind), (unsigned long long)o.number);
     print_hex(data, o.length);
 }
 
 static void save(void)
 {
-    guard_outcome o = guard_save(&c.guard, bytes, GUARD_IMAGE_LENGTH, digest);
+    guard_outcome o = guard_client_save(&c.layer, bytes, GUARD_IMAGE_LENGTH, digest);
     print_outcome(o, bytes);
     if (o.kind == GUARD_DONE)
         print_hex(digest, sizeof digest);
@@ -69,13 +68,13 @@ static void load(const char *at)
     size_t n = read_hex(&at, bytes);
     at++;
     size_t m = read_hex(&at, bytes + n);
-    print_outcome(guard_load(&c.guard, bytes, n, bytes + n, m), NULL);
+    print_outcome(guard_client_load(&c.layer, bytes, n, bytes + n, m), NULL);
 }
 
 static void obey(char letter, const char *rest)
 {
     switch (letter) {
-    case 'c': print_outcome(client_call(&c, bytes, read_hex(&rest, bytes)), c.answer); break;
+    case 'c': print_outcome(client_call(&c, bytes, read_hex(&rest, bytes)), c.layer.answer); break;
     case 's': save(); break;
     case 'f': start(); fputs("fresh", stdout); break;
     case 'l': load(rest); break;
