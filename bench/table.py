@@ -19,6 +19,7 @@ EXPLAINED = {
     "write 1,024, aligned": "not in every run: 1.02, 1.02, 1.02 and 1.07 in four of one build, at 1.02 of the instructions; the cause was not found",
     "readdir, 255 children": "1.42 to 1.45 in three runs of this build, 1.14 in one of the build before, at 1.03 of the instructions in both; the cause was not found",
     "save, 23 bytes": "not in every run: 1.15, 1.04 and 1.10 in three of one build, at 1.01 of the instructions; the cause was not found",
+    "load, 23 bytes": "not in every run: 1.03, 1.03 and 1.09 in three of one build, at 1.01 of the instructions; the cause was not found",
     "truncate, on an edge": "the digests behind the file are moved 16 bytes at a time, where the C library's memmove has vectors of 32; and pages are summed"
     " over the nodes, where plain C keeps in each node where its digests begin",
 }
