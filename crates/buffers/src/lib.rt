@@ -3,7 +3,8 @@ ghost use mathlib.Core.Path.{_≡_};
 ghost use Prim.Native.Nat.{_+_, _<_, _≤_};
 ghost use lib.ListN.{length};
 ghost use Rattle.lists.specs.Equal.{equal};
-ghost use Rattle.lists.specs.Parts.{part, overwrite};
+ghost use Rattle.lists.specs.Parts.{part};
+ghost use Rattle.numbers.specs.Slices.{Overwritten};
 
 // Whether two strings are equal, a byte at a time.
 fn same_bytes(a: &[u8], b: &[u8]) -> bool
@@ -97,7 +98,7 @@ fn block_at(m: &[u8], at: usize) -> [u8; 128]
 
 fn put_block(m: &mut [u8], at: usize, b: [u8; 128])
     requires { ⌜ at + 128 ≤ length (now m) ⌝ }
-    ensures { λ _. ⌜ now (m .exit) ≡ overwrite (now (m .entry)) at b ⌝ }
+    ensures { λ _. ⌜ Overwritten m at b ⌝ }
 {
     let mut i = 0;
     // b's first i bytes are written
@@ -110,7 +111,7 @@ fn put_block(m: &mut [u8], at: usize, b: [u8; 128])
 // x written over the part of m at `at`, a byte at a time. Public for a local array that other writes follow: its stores are then merged.
 pub fn put_bytes(m: &mut [u8], at: usize, x: &[u8])
     requires { ⌜ at + length (now x) ≤ length (now m) ⌝ }
-    ensures { λ _. ⌜ now (m .exit) ≡ overwrite (now (m .entry)) at (now (x .entry)) ⌝ }
+    ensures { λ _. ⌜ Overwritten m at (now (x .entry)) ⌝ }
 {
     let end = at + x.len();
     bytes::copy(x, &mut m[at..end]);
@@ -119,7 +120,7 @@ pub fn put_bytes(m: &mut [u8], at: usize, x: &[u8])
 // The same for eight to sixteen bytes: the first eight and the last eight.
 fn put_to_16(m: &mut [u8], at: usize, x: &[u8])
     requires { ⌜ (at + length (now x) ≤ length (now m)) × (8 ≤ length (now x)) × (length (now x) ≤ 16) ⌝ }
-    ensures { λ _. ⌜ now (m .exit) ≡ overwrite (now (m .entry)) at (now (x .entry)) ⌝ }
+    ensures { λ _. ⌜ Overwritten m at (now (x .entry)) ⌝ }
 {
     let last = x.len() - 8;
     numbers::put_number(m, at, 8, numbers::u64_at(x, 0));
@@ -129,7 +130,7 @@ fn put_to_16(m: &mut [u8], at: usize, x: &[u8])
 // Sixteen bytes of x, from i on.
 fn put_sixteen(m: &mut [u8], at: usize, x: &[u8], i: usize)
     requires { ⌜ (at + 16 ≤ length (now m)) × (i + 16 ≤ length (now x)) ⌝ }
-    ensures { λ _. ⌜ now (m .exit) ≡ overwrite (now (m .entry)) at (part i 16 (now (x .entry))) ⌝ }
+    ensures { λ _. ⌜ Overwritten m at (part i 16 (now (x .entry))) ⌝ }
 {
     numbers::put_number(m, at, 8, numbers::u64_at(x, i));
     numbers::put_number(m, at + 8, 8, numbers::u64_at(x, i + 8));
@@ -138,7 +139,7 @@ fn put_sixteen(m: &mut [u8], at: usize, x: &[u8], i: usize)
 // x for sixteen to thirty-two bytes: the first sixteen and the last sixteen.
 fn put_to_32(m: &mut [u8], at: usize, x: &[u8])
     requires { ⌜ (at + length (now x) ≤ length (now m)) × (16 ≤ length (now x)) × (length (now x) ≤ 32) ⌝ }
-    ensures { λ _. ⌜ now (m .exit) ≡ overwrite (now (m .entry)) at (now (x .entry)) ⌝ }
+    ensures { λ _. ⌜ Overwritten m at (now (x .entry)) ⌝ }
 {
     let last = x.len() - 16;
     put_sixteen(m, at, x, 0);
@@ -148,7 +149,7 @@ fn put_to_32(m: &mut [u8], at: usize, x: &[u8])
 // The same by blocks, and the rest by bytes.
 fn put_blocks(m: &mut [u8], at: usize, x: &[u8])
     requires { ⌜ at + length (now x) ≤ length (now m) ⌝ }
-    ensures { λ _. ⌜ now (m .exit) ≡ overwrite (now (m .entry)) at (now (x .entry)) ⌝ }
+    ensures { λ _. ⌜ Overwritten m at (now (x .entry)) ⌝ }
 {
     let blocks = x.len() / 128;
     let mut i = 0;
@@ -165,7 +166,7 @@ fn put_blocks(m: &mut [u8], at: usize, x: &[u8])
 // x written over the part of m at `at`.
 pub fn put(m: &mut [u8], at: usize, x: &[u8])
     requires { ⌜ at + length (now x) ≤ length (now m) ⌝ }
-    ensures { λ _. ⌜ now (m .exit) ≡ overwrite (now (m .entry)) at (now (x .entry)) ⌝ }
+    ensures { λ _. ⌜ Overwritten m at (now (x .entry)) ⌝ }
 {
     let n = x.len();
     if n < 8 {
@@ -181,7 +182,7 @@ pub fn put(m: &mut [u8], at: usize, x: &[u8])
 
 fn bytes_down(m: &mut [u8], from: usize, to: usize, n: usize)
     requires { ⌜ (to ≤ from) × (from + n ≤ length (now m)) ⌝ }
-    ensures { λ _. ⌜ now (m .exit) ≡ overwrite (now (m .entry)) to (part from n (now (m .entry))) ⌝ }
+    ensures { λ _. ⌜ Overwritten m to (part from n (now (m .entry))) ⌝ }
 {
     let mut i = 0;
     // the first i bytes are moved
@@ -193,7 +194,7 @@ fn bytes_down(m: &mut [u8], from: usize, to: usize, n: usize)
 
 fn shift_down(m: &mut [u8], from: usize, to: usize, n: usize)
     requires { ⌜ (to ≤ from) × (from + n ≤ length (now m)) ⌝ }
-    ensures { λ _. ⌜ now (m .exit) ≡ overwrite (now (m .entry)) to (part from n (now (m .entry))) ⌝ }
+    ensures { λ _. ⌜ Overwritten m to (part from n (now (m .entry))) ⌝ }
 {
     let blocks = n / 128;
     let mut i = 0;
@@ -209,7 +210,7 @@ fn shift_down(m: &mut [u8], from: usize, to: usize, n: usize)
 
 fn bytes_up(m: &mut [u8], from: usize, to: usize, n: usize)
     requires { ⌜ (from ≤ to) × (to + n ≤ length (now m)) ⌝ }
-    ensures { λ _. ⌜ now (m .exit) ≡ overwrite (now (m .entry)) to (part from n (now (m .entry))) ⌝ }
+    ensures { λ _. ⌜ Overwritten m to (part from n (now (m .entry))) ⌝ }
 {
     let mut i = n;
     // the bytes from i on are moved
@@ -221,7 +222,7 @@ fn bytes_up(m: &mut [u8], from: usize, to: usize, n: usize)
 
 fn shift_up(m: &mut [u8], from: usize, to: usize, n: usize)
     requires { ⌜ (from ≤ to) × (to + n ≤ length (now m)) ⌝ }
-    ensures { λ _. ⌜ now (m .exit) ≡ overwrite (now (m .entry)) to (part from n (now (m .entry))) ⌝ }
+    ensures { λ _. ⌜ Overwritten m to (part from n (now (m .entry))) ⌝ }
 {
     let mut i = n;
     // the bytes from i on are moved
@@ -236,7 +237,7 @@ fn shift_up(m: &mut [u8], from: usize, to: usize, n: usize)
 // n bytes of m moved from one place to another; the two may overlap.
 pub fn shift(m: &mut [u8], from: usize, to: usize, n: usize)
     requires { ⌜ (from + n ≤ length (now m)) × (to + n ≤ length (now m)) ⌝ }
-    ensures { λ _. ⌜ now (m .exit) ≡ overwrite (now (m .entry)) to (part from n (now (m .entry))) ⌝ }
+    ensures { λ _. ⌜ Overwritten m to (part from n (now (m .entry))) ⌝ }
 {
     // a file that keeps its count of pages moves nothing behind it
     if from == to {

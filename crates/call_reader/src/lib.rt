@@ -34,8 +34,7 @@ const LAST_MODE: u8 = 7;
 // A number from `least` to `most`, then a path.
 fn read_numbered(s: &[u8], kind: u8, least: u8, most: u8) -> ParsedCall
     requires { ⌜ (0 < length (now s)) × ((n : ℕ) → least ≤ n → n ≤ most → NumberFits kind n) ⌝ }
-    ensures { λ r. ⌜ (meant r (now (s .entry)) ≡ byNumberAndPath least most (madeBy kind) (drop 1 (now (s .entry))))
-        × Ranges r (length (now (s .entry))) ⌝ }
+    ensures { λ r. ⌜ (meant r (now (s .entry)) ≡ byNumberAndPath least most (madeBy kind) (drop 1 (now (s .entry)))) × Ranges r (length (now (s .entry))) ⌝ }
 {
     if s.len() == 1 {
         return ParsedCall::Malformed;
@@ -81,8 +80,7 @@ fn read_close(s: &[u8]) -> ParsedCall
 // seek: a handle, then the position.
 fn read_seek(s: &[u8]) -> ParsedCall
     requires { ⌜ (0 < length (now s)) × Bytes (now s) ⌝ }
-    ensures { λ r. ⌜ (meant r (now (s .entry)) ≡ byHandleAndNumber ID-BYTES 8 (λ n. true) seek (drop 1 (now (s .entry))))
-        × Ranges r (length (now (s .entry))) ⌝ }
+    ensures { λ r. ⌜ (meant r (now (s .entry)) ≡ byHandleAndNumber ID-BYTES 8 (λ n. true) seek (drop 1 (now (s .entry)))) × Ranges r (length (now (s .entry))) ⌝ }
 {
     if s.len() != AFTER_HANDLE + 8 {
         return ParsedCall::Malformed;
@@ -95,8 +93,7 @@ fn read_seek(s: &[u8]) -> ParsedCall
 // truncate: a handle, then the size.
 fn read_truncate(s: &[u8]) -> ParsedCall
     requires { ⌜ (0 < length (now s)) × Bytes (now s) ⌝ }
-    ensures { λ r. ⌜ (meant r (now (s .entry)) ≡ byHandleAndNumber ID-BYTES 8 (λ n. true) truncate (drop 1 (now (s .entry))))
-        × Ranges r (length (now (s .entry))) ⌝ }
+    ensures { λ r. ⌜ (meant r (now (s .entry)) ≡ byHandleAndNumber ID-BYTES 8 (λ n. true) truncate (drop 1 (now (s .entry)))) × Ranges r (length (now (s .entry))) ⌝ }
 {
     if s.len() != AFTER_HANDLE + 8 {
         return ParsedCall::Malformed;
@@ -109,8 +106,7 @@ fn read_truncate(s: &[u8]) -> ParsedCall
 // read: a handle, then the count.
 fn read_read(s: &[u8]) -> ParsedCall
     requires { ⌜ (0 < length (now s)) × Bytes (now s) ⌝ }
-    ensures { λ r. ⌜ (meant r (now (s .entry)) ≡ byHandleAndNumber ID-BYTES 4 (λ n. leb n DATA-BYTES) read (drop 1 (now (s .entry))))
-        × Ranges r (length (now (s .entry))) ⌝ }
+    ensures { λ r. ⌜ (meant r (now (s .entry)) ≡ byHandleAndNumber ID-BYTES 4 (λ n. leb n DATA-BYTES) read (drop 1 (now (s .entry)))) × Ranges r (length (now (s .entry))) ⌝ }
 {
     if s.len() != AFTER_HANDLE + 4 {
         return ParsedCall::Malformed;
@@ -126,8 +122,7 @@ fn read_read(s: &[u8]) -> ParsedCall
 // write: a handle, then the data.
 fn read_write(s: &[u8]) -> ParsedCall
     requires { ⌜ (0 < length (now s)) × Bytes (now s) ⌝ }
-    ensures { λ r. ⌜ (meant r (now (s .entry)) ≡ byHandleAndBytes ID-BYTES write (drop 1 (now (s .entry))))
-        × Ranges r (length (now (s .entry))) ⌝ }
+    ensures { λ r. ⌜ (meant r (now (s .entry)) ≡ byHandleAndBytes ID-BYTES write (drop 1 (now (s .entry)))) × Ranges r (length (now (s .entry))) ⌝ }
 {
     if s.len() < AFTER_HANDLE {
         return ParsedCall::Malformed;
@@ -147,8 +142,7 @@ fn read_write(s: &[u8]) -> ParsedCall
 // close, seek, read, write, truncate.
 fn read_by_handle(s: &[u8], kind: u8) -> ParsedCall
     requires { ⌜ (0 < length (now s)) × Bytes (now s) × (4 ≤ kind) × (kind ≤ 8) ⌝ }
-    ensures { λ r. ⌜ (meant r (now (s .entry)) ≡ readFields ID-BYTES kind (drop 1 (now (s .entry))))
-        × Ranges r (length (now (s .entry))) ⌝ }
+    ensures { λ r. ⌜ (meant r (now (s .entry)) ≡ readFields ID-BYTES kind (drop 1 (now (s .entry)))) × Ranges r (length (now (s .entry))) ⌝ }
 {
     match kind {
         4 => read_close(s),
@@ -162,8 +156,7 @@ fn read_by_handle(s: &[u8], kind: u8) -> ParsedCall
 // create, mkdir, open.
 fn read_opening(s: &[u8], kind: u8) -> ParsedCall
     requires { ⌜ (0 < length (now s)) × (1 ≤ kind) × (kind ≤ 3) ⌝ }
-    ensures { λ r. ⌜ (meant r (now (s .entry)) ≡ readFields ID-BYTES kind (drop 1 (now (s .entry))))
-        × Ranges r (length (now (s .entry))) ⌝ }
+    ensures { λ r. ⌜ (meant r (now (s .entry)) ≡ readFields ID-BYTES kind (drop 1 (now (s .entry)))) × Ranges r (length (now (s .entry))) ⌝ }
 {
     match kind {
         1 => read_numbered(s, 1, 0, LAST_MODE),
@@ -175,8 +168,7 @@ fn read_opening(s: &[u8], kind: u8) -> ParsedCall
 // remove, rmdir, chmod, readdir, stat.
 fn read_by_path(s: &[u8], kind: u8) -> ParsedCall
     requires { ⌜ (0 < length (now s)) × (9 ≤ kind) × (kind ≤ 13) ⌝ }
-    ensures { λ r. ⌜ (meant r (now (s .entry)) ≡ readFields ID-BYTES kind (drop 1 (now (s .entry))))
-        × Ranges r (length (now (s .entry))) ⌝ }
+    ensures { λ r. ⌜ (meant r (now (s .entry)) ≡ readFields ID-BYTES kind (drop 1 (now (s .entry)))) × Ranges r (length (now (s .entry))) ⌝ }
 {
     match kind {
         9 => read_plain(s, 9),

@@ -5,21 +5,21 @@ ghost use Prim.Native.Nat.{ℕ, _≤_};
 ghost use lib.ListN.{length};
 ghost use Rattle.digest.specs.Sha256.{sha256};
 ghost use Rattle.filesystem.specs.Tables.{ID-BYTES, DATA-BYTES};
-ghost use Rattle.memory.specs.Layout.{memOf, memorySize};
-ghost use Rattle.rules.specs.Requests.{storeLength};
 ghost use Rattle.rules.specs.Skeleton.{Config, answerLength};
 ghost use Rattle.machine.specs.Consistent.{Consistent};
-ghost use Rattle.guard_state.specs.State.{numbersOf, stateOf};
+ghost use Rattle.guard_state.specs.State.{stateOf, numbersIn};
 ghost use Rattle.outcomes.specs.Sent.{Sends, Leaves};
 ghost use Rattle.outcomes.specs.Answered.{answered};
+ghost use Rattle.memory.specs.Memories.{IsMemory};
+ghost use Rattle.numbers.specs.Slices.{KeepsLength};
+ghost use Rattle.requests.specs.Room.{HoldsRequest};
 use guard_state::Guard;
 
 // create and mkdir, open, close, remove and rmdir, chmod: the answer has no bytes.
 fn accept_change(m: &mut [u8], call: u64, reply: &[u8]) -> outcomes::Outcome
-    requires { ⌜ (call ≡ numbersOf (memOf (now m) .head) .call) × (1 ≤ call) × (call ≤ 5) × (memorySize ≤ length (now m)) ⌝ }
-    ensures { λ r. ⌜ ((c : Config) → c .width ≡ ID-BYTES → Consistent c (stateOf c (now (m .entry))) → (q : List ℕ)
-        → Sends c (answered c (stateOf c (now (m .entry))) (now (reply .entry))) r (now (m .exit)) q q) ⌝ }
-    ensures { λ _. ⌜ length (now (m .exit)) ≡ length (now (m .entry)) ⌝ }
+    requires { ⌜ (call ≡ numbersIn m .call) × (1 ≤ call) × (call ≤ 5) × IsMemory m ⌝ }
+    ensures { λ r. ⌜ ((c : Config) → c .width ≡ ID-BYTES → Consistent c (stateOf c (now (m .entry))) → (q : List ℕ) → Sends c (answered c (stateOf c (now (m .entry))) (now (reply .entry))) r (now (m .exit)) q q) ⌝ }
+    ensures { λ _. ⌜ KeepsLength m ⌝ }
 {
     match call {
         1 => replies_accepted::accept_create(m, reply),
@@ -37,12 +37,9 @@ fn accept_page_change(
     reply: &[u8],
     request: &mut [u8],
 ) -> outcomes::Outcome
-    requires { ⌜ (call ≡ numbersOf (memOf (now m) .head) .call) × (9 ≤ call) × (call ≤ 13) × (memorySize ≤ length (now m))
-        × (storeLength ≤ length (now request)) ⌝ }
-    ensures { λ r. ⌜ ((c : Config) → c .digest ≡ sha256 → c .width ≡ ID-BYTES → Consistent c (stateOf c (now (m .entry)))
-        → Sends c (answered c (stateOf c (now (m .entry))) (now (reply .entry))) r (now (m .exit)) (now (request .entry))
-        (now (request .exit))) ⌝ }
-    ensures { λ _. ⌜ length (now (m .exit)) ≡ length (now (m .entry)) ⌝ }
+    requires { ⌜ (call ≡ numbersIn m .call) × (9 ≤ call) × (call ≤ 13) × IsMemory m × HoldsRequest request ⌝ }
+    ensures { λ r. ⌜ ((c : Config) → c .digest ≡ sha256 → c .width ≡ ID-BYTES → Consistent c (stateOf c (now (m .entry))) → Sends c (answered c (stateOf c (now (m .entry))) (now (reply .entry))) r (now (m .exit)) (now (request .entry)) (now (request .exit))) ⌝ }
+    ensures { λ _. ⌜ KeepsLength m ⌝ }
 {
     match call {
         9 => writes::accept_fetched(m, reply, request),
@@ -60,13 +57,9 @@ pub fn accept_reply(
     answer: &mut [u8],
     request: &mut [u8],
 ) -> outcomes::Outcome
-    requires { ⌜ (memorySize ≤ length (now m)) × (DATA-BYTES ≤ length (now answer)) × (storeLength ≤ length (now request)) ⌝ }
-    ensures { λ r. ⌜ ((c : Config) → c .digest ≡ sha256 → c .width ≡ ID-BYTES → Consistent c (stateOf c (now (m .entry)))
-        → 1 ≤ numbersOf (memOf (now (m .entry)) .head) .call → numbersOf (memOf (now (m .entry)) .head) .call ≤ 13
-        → answerLength c ≤ length (now (answer .entry))
-        → Leaves c (answered c (stateOf c (now (m .entry))) (now (reply .entry))) r (now (m .exit)) (now (answer .entry))
-        (now (answer .exit)) (now (request .entry)) (now (request .exit))) ⌝ }
-    ensures { λ _. ⌜ length (now (m .exit)) ≡ length (now (m .entry)) ⌝ }
+    requires { ⌜ IsMemory m × (DATA-BYTES ≤ length (now answer)) × HoldsRequest request ⌝ }
+    ensures { λ r. ⌜ ((c : Config) → c .digest ≡ sha256 → c .width ≡ ID-BYTES → Consistent c (stateOf c (now (m .entry))) → 1 ≤ numbersIn (m .entry) .call → numbersIn (m .entry) .call ≤ 13 → answerLength c ≤ length (now (answer .entry)) → Leaves c (answered c (stateOf c (now (m .entry))) (now (reply .entry))) r (now (m .exit)) (now (answer .entry)) (now (answer .exit)) (now (request .entry)) (now (request .exit))) ⌝ }
+    ensures { λ _. ⌜ KeepsLength m ⌝ }
 {
     let g = Guard::load(m);
     let call = g.call;

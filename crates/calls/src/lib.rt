@@ -1,11 +1,7 @@
 // A call, whatever its bytes are: read once, judged, begun. Calls do not touch the answer buffer: what a call is done with at once has no bytes.
 ghost use mathlib.Core.Path.{_≡_};
-ghost use Prim.Native.Nat.{_≤_};
-ghost use lib.ListN.{length};
 ghost use Rattle.digest.specs.Sha256.{sha256};
 ghost use Rattle.filesystem.specs.Tables.{ID-BYTES};
-ghost use Rattle.memory.specs.Layout.{memorySize};
-ghost use Rattle.rules.specs.Requests.{storeLength};
 ghost use Rattle.rules.specs.Skeleton.{Config};
 ghost use Rattle.machine.specs.Consistent.{Consistent};
 ghost use Rattle.guard_state.specs.State.{stateOf};
@@ -13,6 +9,9 @@ ghost use Rattle.call_reader.specs.Meaning.{madeBy, NumberFits};
 ghost use Rattle.path_calls_begun.specs.Begun.{begun};
 ghost use Rattle.outcomes.specs.Sent.{Sends};
 ghost use Rattle.calls.specs.Called.{calledWith};
+ghost use Rattle.memory.specs.Memories.{IsMemory};
+ghost use Rattle.numbers.specs.Slices.{KeepsLength};
+ghost use Rattle.requests.specs.Room.{HoldsRequest};
 
 // A call by path: create and mkdir make a node, the others need one.
 fn begin_by_path(
@@ -22,11 +21,9 @@ fn begin_by_path(
     path: &[u8],
     request: &mut [u8],
 ) -> outcomes::Outcome
-    requires { ⌜ NumberFits kind number × (memorySize ≤ length (now m)) × (storeLength ≤ length (now request)) ⌝ }
-    ensures { λ r. ⌜ ((c : Config) → Consistent c (stateOf c (now (m .entry)))
-        → Sends c (begun c (stateOf c (now (m .entry))) (now (path .entry)) (madeBy kind number)) r (now (m .exit)) (now (request .entry))
-        (now (request .exit))) ⌝ }
-    ensures { λ _. ⌜ length (now (m .exit)) ≡ length (now (m .entry)) ⌝ }
+    requires { ⌜ NumberFits kind number × IsMemory m × HoldsRequest request ⌝ }
+    ensures { λ r. ⌜ ((c : Config) → Consistent c (stateOf c (now (m .entry))) → Sends c (begun c (stateOf c (now (m .entry))) (now (path .entry)) (madeBy kind number)) r (now (m .exit)) (now (request .entry)) (now (request .exit))) ⌝ }
+    ensures { λ _. ⌜ KeepsLength m ⌝ }
 {
     if kind <= 2 {
         return path_calls_begun::begin_new(m, kind, number, path, request);
@@ -35,11 +32,9 @@ fn begin_by_path(
 }
 
 pub fn begin_call(m: &mut [u8], call: &[u8], request: &mut [u8]) -> outcomes::Outcome
-    requires { ⌜ (memorySize ≤ length (now m)) × (storeLength ≤ length (now request)) ⌝ }
-    ensures { λ r. ⌜ ((c : Config) → c .digest ≡ sha256 → c .width ≡ ID-BYTES → Consistent c (stateOf c (now (m .entry)))
-        → Sends c (calledWith c (stateOf c (now (m .entry))) (now (call .entry))) r (now (m .exit)) (now (request .entry))
-        (now (request .exit))) ⌝ }
-    ensures { λ _. ⌜ length (now (m .exit)) ≡ length (now (m .entry)) ⌝ }
+    requires { ⌜ IsMemory m × HoldsRequest request ⌝ }
+    ensures { λ r. ⌜ ((c : Config) → c .digest ≡ sha256 → c .width ≡ ID-BYTES → Consistent c (stateOf c (now (m .entry))) → Sends c (calledWith c (stateOf c (now (m .entry))) (now (call .entry))) r (now (m .exit)) (now (request .entry)) (now (request .exit))) ⌝ }
+    ensures { λ _. ⌜ KeepsLength m ⌝ }
 {
     let p = call_reader::read_call(call);
     match p {

@@ -6,31 +6,28 @@ ghost use lib.ListN.{length};
 ghost use Rattle.lists.specs.Parts.{part};
 ghost use Rattle.digest.specs.Sha256.{sha256};
 ghost use Rattle.filesystem.specs.Tables.{PAGE-BYTES};
-ghost use Rattle.memory.specs.Layout.{memOf, memorySize, openRows, newDigests};
+ghost use Rattle.memory.specs.Layout.{openRows, newDigests};
 ghost use Rattle.rules.specs.Pages.{Change};
 ghost use Rattle.rules.specs.Requests.{fetchRequest, storeLength};
 ghost use Rattle.rules.specs.Skeleton.{Config};
 ghost use Rattle.machine.specs.Machine.{descriptorAt, asking, finishChange, guard as digestStore};
-ghost use Rattle.guard_state.specs.State.{numbersOf, pendingIn, stateOf, filePages};
+ghost use Rattle.guard_state.specs.State.{pendingIn, stateOf, filePages, numbersIn};
 ghost use Rattle.guard_state.specs.Onward.{goesOn};
 ghost use Rattle.guard_state.specs.Waits.{waits};
 ghost use Rattle.outcomes.specs.declared.Outcome.the-variants.{Ask};
 ghost use Rattle.outcomes.specs.Sent.{Sends};
 ghost use Rattle.changes.specs.Asked.{Changing, storeFront};
 ghost use Rattle.changes.specs.Ended.{Ended};
+ghost use Rattle.memory.specs.Memories.{IsMemory, was};
+ghost use Rattle.numbers.specs.Slices.{KeepsLength};
+ghost use Rattle.requests.specs.Room.{HoldsRequest};
 use guard_state::Guard;
 
 // The pending change asks for a page, and waits for it as `call` says (guard_state::calls).
 pub fn ask_page(m: &mut [u8], call: u64, page: usize, request: &mut [u8]) -> outcomes::Outcome
-    requires { ⌜ Changing (numbersOf (memOf (now m) .head) .call) × Changing call × (page ≤ filePages) × (memorySize ≤ length (now m))
-        × (storeLength ≤ length (now request)) ⌝ }
-    ensures { λ r. ⌜ ((c : Config) → numbersOf (memOf (now (m .entry)) .head) .opened < numbersOf (memOf (now (m .entry)) .head) .opens
-        → Sends c (asking c (digestStore c) (stateOf c (now (m .entry)))
-        (fetchRequest (descriptorAt c (digestStore c) (stateOf c (now (m .entry)))
-        (numbersOf (memOf (now (m .entry)) .head) .opened)) page)
-        (pendingIn (goesOn call page (numbersOf (memOf (now (m .entry)) .head))) (memOf (now (m .entry)) .staged))
-        (stateOf c (now (m .entry)) .progress)) r (now (m .exit)) (now (request .entry)) (now (request .exit))) ⌝ }
-    ensures { λ _. ⌜ length (now (m .exit)) ≡ length (now (m .entry)) ⌝ }
+    requires { ⌜ Changing (numbersIn m .call) × Changing call × (page ≤ filePages) × IsMemory m × HoldsRequest request ⌝ }
+    ensures { λ r. ⌜ ((c : Config) → numbersIn (m .entry) .opened < numbersIn (m .entry) .opens → Sends c (asking c (digestStore c) (stateOf c (now (m .entry))) (fetchRequest (descriptorAt c (digestStore c) (stateOf c (now (m .entry))) (numbersIn (m .entry) .opened)) page) (pendingIn (goesOn call page (numbersIn (m .entry))) (was m .staged)) (stateOf c (now (m .entry)) .progress)) r (now (m .exit)) (now (request .entry)) (now (request .exit))) ⌝ }
+    ensures { λ _. ⌜ KeepsLength m ⌝ }
 {
     let g = Guard::load(m);
     let d = memory::open_descriptor(m, g.opened);
@@ -41,18 +38,10 @@ pub fn ask_page(m: &mut [u8], call: u64, page: usize, request: &mut [u8]) -> out
 
 // The store that stands in the request buffer goes out: its page's digest is staged, and the change waits for the status as `call` says.
 pub fn send_store(m: &mut [u8], call: u64, page: usize, request: &[u8]) -> outcomes::Outcome
-    requires { ⌜ Changing (numbersOf (memOf (now m) .head) .call) × Changing call × (numbersOf (memOf (now m) .head) .digests < newDigests)
-        × (page ≤ filePages) × (memorySize ≤ length (now m)) × (storeLength ≤ length (now request)) ⌝ }
-    ensures { λ _. ⌜ ((c : Config) → c .digest ≡ sha256
-        → stateOf c (now (m .exit)) ≡ waits c (stateOf c (now (m .entry)))
-        (pendingIn (goesOn call page (numbersOf (memOf (now (m .entry)) .head))) (memOf (now (m .entry)) .staged))
-        (record {
-          bytes = [];
-          digests = stateOf c (now (m .entry)) .progress .digests ++
-              (c .digest (part storeFront PAGE-BYTES (now (request .entry))) ∷ []);
-        })) ⌝ }
+    requires { ⌜ Changing (numbersIn m .call) × Changing call × (numbersIn m .digests < newDigests) × (page ≤ filePages) × IsMemory m × HoldsRequest request ⌝ }
+    ensures { λ _. ⌜ ((c : Config) → c .digest ≡ sha256 → stateOf c (now (m .exit)) ≡ waits c (stateOf c (now (m .entry))) (pendingIn (goesOn call page (numbersIn (m .entry))) (was m .staged)) (record { bytes = []; digests = stateOf c (now (m .entry)) .progress .digests ++ (c .digest (part storeFront PAGE-BYTES (now (request .entry))) ∷ []); })) ⌝ }
     ensures { λ r. ⌜ r ≡ Ask storeLength ⌝ }
-    ensures { λ _. ⌜ length (now (m .exit)) ≡ length (now (m .entry)) ⌝ }
+    ensures { λ _. ⌜ KeepsLength m ⌝ }
 {
     let d = digest::sha256(&request[requests::STORE_FRONT..requests::STORE_LENGTH]);
     guard_state::wait_sent(m, call, page, d);
@@ -71,10 +60,9 @@ pub fn end_change(
     count: usize,
     number: u64,
 ) -> outcomes::Outcome
-    requires { ⌜ (opened < openRows) × (memorySize ≤ length (now m)) ⌝ }
-    ensures { λ r. ⌜ ((c : Config) (q : Change) → Ended c (now (m .entry)) q node opened size cursor from count number → (b : List ℕ)
-        → Sends c (finishChange c (digestStore c) (stateOf c (now (m .entry))) node opened q) r (now (m .exit)) b b) ⌝ }
-    ensures { λ _. ⌜ length (now (m .exit)) ≡ length (now (m .entry)) ⌝ }
+    requires { ⌜ (opened < openRows) × IsMemory m ⌝ }
+    ensures { λ r. ⌜ ((c : Config) (q : Change) → Ended c (now (m .entry)) q node opened size cursor from count number → (b : List ℕ) → Sends c (finishChange c (digestStore c) (stateOf c (now (m .entry))) node opened q) r (now (m .exit)) b b) ⌝ }
+    ensures { λ _. ⌜ KeepsLength m ⌝ }
 {
     let g = Guard::load(m);
     let n = g.nodes;

@@ -4,17 +4,18 @@
 ghost use mathlib.Core.Path.{_≡_};
 ghost use mathlib.Core.Bool.{_||_};
 ghost use mathlib.Core.List.{[]};
-ghost use Prim.Native.Nat.{_≤_};
 ghost use lib.Dec.{ltb};
 ghost use lib.ListN.{length};
 ghost use Rattle.filesystem.specs.Tables.{DIGEST-BYTES};
-ghost use Rattle.memory.specs.Layout.{memorySize};
 ghost use Rattle.rules.specs.Skeleton.{call, reply, save, load, answerLength, requestLength};
 ghost use Rattle.configuration.specs.Delivered.{delivered};
 ghost use Rattle.machine.specs.Machine.{fresh, guard as digestStore};
 ghost use Rattle.outcomes.specs.Sent.{settled};
 ghost use Rattle.guard.specs.Promise.{held, firstOf, Ready, Steps, Enters, Saving, Promise, FreshPromise, SavePromise, LoadPromise, Shown, buffers, NotDone, NotAsked, shownAs};
 ghost use Rattle.guard.specs.Numbers.{waits};
+ghost use Rattle.memory.specs.Memories.{IsMemory};
+ghost use Rattle.numbers.specs.Slices.{KeepsLength};
+ghost use Rattle.guard_state.specs.Waits.{waits};
 use guard_state::Guard;
 
 // The least lengths of the answer buffer, for the longest listing, and of the request buffer, for a store.
@@ -46,7 +47,7 @@ fn is_pending(number: u64) -> bool
 // Why an event is refused before what it hands in is looked at: 5, then `busy` where a call is pending and `quiet` where
 // none is. 0: it goes on.
 fn first_number(m: &[u8], busy: u8, quiet: u8) -> u8
-    requires { ⌜ memorySize ≤ length (now m) ⌝ }
+    requires { ⌜ IsMemory m ⌝ }
     ensures { λ r. ⌜ r ≡ firstOf busy quiet (held (now (m .entry)) .skeleton) ⌝ }
 {
     let g = Guard::load(m);
@@ -71,9 +72,9 @@ fn is_short(answer: usize, request: usize) -> bool
 
 // The one place where the guard stops: whichever branch found a reason, it is for good.
 fn settle(m: &mut [u8], o: outcomes::Outcome) -> outcomes::Outcome
-    requires { ⌜ memorySize ≤ length (now m) ⌝ }
+    requires { ⌜ IsMemory m ⌝ }
     ensures { λ r. ⌜ (r ≡ o) × (held (now (m .exit)) ≡ settled delivered o (held (now (m .entry)))) ⌝ }
-    ensures { λ _. ⌜ length (now (m .exit)) ≡ length (now (m .entry)) ⌝ }
+    ensures { λ _. ⌜ KeepsLength m ⌝ }
 {
     let outcomes::Outcome::Stopped(reason) = o else {
         return o;
@@ -84,11 +85,9 @@ fn settle(m: &mut [u8], o: outcomes::Outcome) -> outcomes::Outcome
 
 // A call: 5, 114, 34, then what its bytes say.
 fn take_call(m: &mut [u8], bytes: &[u8], answer: &mut [u8], request: &mut [u8]) -> outcomes::Outcome
-    requires { ⌜ memorySize ≤ length (now m) ⌝ }
-    ensures { λ r. ⌜ Enters (held (now (m .entry)))
-        (call (now (bytes .entry)) (length (now (answer .entry))) (length (now (request .entry)))) r
-        (held (now (m .exit))) (buffers (now (answer .entry)) (now (request .entry))) (buffers (now (answer .exit)) (now (request .exit))) ⌝ }
-    ensures { λ _. ⌜ length (now (m .exit)) ≡ length (now (m .entry)) ⌝ }
+    requires { ⌜ IsMemory m ⌝ }
+    ensures { λ r. ⌜ Enters (held (now (m .entry))) (call (now (bytes .entry)) (length (now (answer .entry))) (length (now (request .entry)))) r (held (now (m .exit))) (buffers (now (answer .entry)) (now (request .entry))) (buffers (now (answer .exit)) (now (request .exit))) ⌝ }
+    ensures { λ _. ⌜ KeepsLength m ⌝ }
 {
     let b = first_number(m, 114, 0);
     if b != 0 {
@@ -108,11 +107,9 @@ fn take_reply(
     answer: &mut [u8],
     request: &mut [u8],
 ) -> outcomes::Outcome
-    requires { ⌜ memorySize ≤ length (now m) ⌝ }
-    ensures { λ r. ⌜ Enters (held (now (m .entry)))
-        (reply (now (bytes .entry)) (length (now (answer .entry))) (length (now (request .entry)))) r
-        (held (now (m .exit))) (buffers (now (answer .entry)) (now (request .entry))) (buffers (now (answer .exit)) (now (request .exit))) ⌝ }
-    ensures { λ _. ⌜ length (now (m .exit)) ≡ length (now (m .entry)) ⌝ }
+    requires { ⌜ IsMemory m ⌝ }
+    ensures { λ r. ⌜ Enters (held (now (m .entry))) (reply (now (bytes .entry)) (length (now (answer .entry))) (length (now (request .entry)))) r (held (now (m .exit))) (buffers (now (answer .entry)) (now (request .entry))) (buffers (now (answer .exit)) (now (request .exit))) ⌝ }
+    ensures { λ _. ⌜ KeepsLength m ⌝ }
 {
     let b = first_number(m, 0, 61);
     if b != 0 {
@@ -127,11 +124,9 @@ fn take_reply(
 
 // A save: 5, 114, then 16, 34, or the image and its digest.
 fn take_save(m: &mut [u8], image: &mut [u8], digest: &mut [u8]) -> outcomes::Outcome
-    requires { ⌜ (length (now digest) ≡ DIGEST-BYTES) × (memorySize ≤ length (now m)) ⌝ }
-    ensures { λ r. ⌜ (Ready (held (now (m .entry))) (save (length (now (image .entry))))
-        → Saving (held (now (m .entry))) r (held (now (m .exit))) (now (image .entry)) (now (image .exit))
-        (now (digest .entry)) (now (digest .exit))) ⌝ }
-    ensures { λ _. ⌜ length (now (m .exit)) ≡ length (now (m .entry)) ⌝ }
+    requires { ⌜ (length (now digest) ≡ DIGEST-BYTES) × IsMemory m ⌝ }
+    ensures { λ r. ⌜ (Ready (held (now (m .entry))) (save (length (now (image .entry)))) → Saving (held (now (m .entry))) r (held (now (m .exit))) (now (image .entry)) (now (image .exit)) (now (digest .entry)) (now (digest .exit))) ⌝ }
+    ensures { λ _. ⌜ KeepsLength m ⌝ }
 {
     let b = first_number(m, 114, 0);
     if b != 0 {
@@ -142,10 +137,9 @@ fn take_save(m: &mut [u8], image: &mut [u8], digest: &mut [u8]) -> outcomes::Out
 
 // A load: 5, 114, then 16, 74, 84, or the image's tables.
 fn take_load(m: &mut [u8], image: &[u8], digest: &[u8]) -> outcomes::Outcome
-    requires { ⌜ memorySize ≤ length (now m) ⌝ }
-    ensures { λ r. ⌜ Steps (held (now (m .entry))) (load (now (image .entry)) (now (digest .entry))) r
-        (held (now (m .exit))) [] [] ⌝ }
-    ensures { λ _. ⌜ length (now (m .exit)) ≡ length (now (m .entry)) ⌝ }
+    requires { ⌜ IsMemory m ⌝ }
+    ensures { λ r. ⌜ Steps (held (now (m .entry))) (load (now (image .entry)) (now (digest .entry))) r (held (now (m .exit))) [] [] ⌝ }
+    ensures { λ _. ⌜ KeepsLength m ⌝ }
 {
     let b = first_number(m, 114, 0);
     if b != 0 {
@@ -162,9 +156,7 @@ pub fn on_call(
     answer: &mut [u8],
     request: &mut [u8],
 ) -> outcomes::Outcome
-    ensures { λ r. ⌜ Promise (now (memory .entry)) (call (now (bytes .entry)) (length (now (answer .entry)))
-        (length (now (request .entry)))) r (now (memory .exit)) (buffers (now (answer .entry)) (now (request .entry)))
-        (buffers (now (answer .exit)) (now (request .exit))) ⌝ }
+    ensures { λ r. ⌜ Promise (now (memory .entry)) (call (now (bytes .entry)) (length (now (answer .entry))) (length (now (request .entry)))) r (now (memory .exit)) (buffers (now (answer .entry)) (now (request .entry))) (buffers (now (answer .exit)) (now (request .exit))) ⌝ }
 {
     if memory.len() < memory::SIZE {
         return outcomes::Outcome::Refused(34);
@@ -178,9 +170,7 @@ pub fn on_reply(
     answer: &mut [u8],
     request: &mut [u8],
 ) -> outcomes::Outcome
-    ensures { λ r. ⌜ Promise (now (memory .entry)) (reply (now (bytes .entry)) (length (now (answer .entry)))
-        (length (now (request .entry)))) r (now (memory .exit)) (buffers (now (answer .entry)) (now (request .entry)))
-        (buffers (now (answer .exit)) (now (request .exit))) ⌝ }
+    ensures { λ r. ⌜ Promise (now (memory .entry)) (reply (now (bytes .entry)) (length (now (answer .entry))) (length (now (request .entry)))) r (now (memory .exit)) (buffers (now (answer .entry)) (now (request .entry))) (buffers (now (answer .exit)) (now (request .exit))) ⌝ }
 {
     if memory.len() < memory::SIZE {
         return outcomes::Outcome::Refused(34);
@@ -191,8 +181,7 @@ pub fn on_reply(
 // A part of its own, over a slice: of a reference to an array a proof learns the length where it is lent as one.
 fn save_into(memory: &mut [u8], image: &mut [u8], digest: &mut [u8]) -> outcomes::Outcome
     requires { ⌜ length (now digest) ≡ DIGEST-BYTES ⌝ }
-    ensures { λ r. ⌜ SavePromise (now (memory .entry)) r (now (memory .exit)) (now (image .entry)) (now (image .exit))
-        (now (digest .entry)) (now (digest .exit)) ⌝ }
+    ensures { λ r. ⌜ SavePromise (now (memory .entry)) r (now (memory .exit)) (now (image .entry)) (now (image .exit)) (now (digest .entry)) (now (digest .exit)) ⌝ }
 {
     if memory.len() < memory::SIZE {
         return outcomes::Outcome::Refused(34);
@@ -205,8 +194,7 @@ pub fn on_save(
     image: &mut [u8],
     digest: &mut [u8; Guard::DIGEST_BYTES],
 ) -> outcomes::Outcome
-    ensures { λ r. ⌜ SavePromise (now (memory .entry)) r (now (memory .exit)) (now (image .entry)) (now (image .exit))
-        (now (digest .entry)) (now (digest .exit)) ⌝ }
+    ensures { λ r. ⌜ SavePromise (now (memory .entry)) r (now (memory .exit)) (now (image .entry)) (now (image .exit)) (now (digest .entry)) (now (digest .exit)) ⌝ }
 {
     save_into(memory, image, digest)
 }
@@ -222,9 +210,9 @@ pub fn on_load(memory: &mut [u8], image: &[u8], digest: &[u8]) -> outcomes::Outc
 
 // A fresh guard: the root alone, idle.
 fn make_fresh(m: &mut [u8])
-    requires { ⌜ memorySize ≤ length (now m) ⌝ }
+    requires { ⌜ IsMemory m ⌝ }
     ensures { λ _. ⌜ held (now (m .exit)) ≡ fresh delivered (digestStore delivered) ⌝ }
-    ensures { λ _. ⌜ length (now (m .exit)) ≡ length (now (m .entry)) ⌝ }
+    ensures { λ _. ⌜ KeepsLength m ⌝ }
 {
     let g = Guard::fresh(m);
 }
@@ -305,9 +293,7 @@ pub extern "C" fn guard_entry_call(
     answer: &mut [u8],
     request: &mut [u8],
 ) -> GuardOutcome
-    ensures { λ r. ⌜ Shown (λ o. Promise (now (memory .entry))
-        (call (now (bytes .entry)) (length (now (answer .entry))) (length (now (request .entry)))) o (now (memory .exit))
-        (buffers (now (answer .entry)) (now (request .entry))) (buffers (now (answer .exit)) (now (request .exit)))) r ⌝ }
+    ensures { λ r. ⌜ Shown (λ o. Promise (now (memory .entry)) (call (now (bytes .entry)) (length (now (answer .entry))) (length (now (request .entry)))) o (now (memory .exit)) (buffers (now (answer .entry)) (now (request .entry))) (buffers (now (answer .exit)) (now (request .exit)))) r ⌝ }
 {
     let o = on_call(memory, bytes, answer, request);
     shown(o)
@@ -320,9 +306,7 @@ pub extern "C" fn guard_entry_reply(
     answer: &mut [u8],
     request: &mut [u8],
 ) -> GuardOutcome
-    ensures { λ r. ⌜ Shown (λ o. Promise (now (memory .entry))
-        (reply (now (bytes .entry)) (length (now (answer .entry))) (length (now (request .entry)))) o (now (memory .exit))
-        (buffers (now (answer .entry)) (now (request .entry))) (buffers (now (answer .exit)) (now (request .exit)))) r ⌝ }
+    ensures { λ r. ⌜ Shown (λ o. Promise (now (memory .entry)) (reply (now (bytes .entry)) (length (now (answer .entry))) (length (now (request .entry)))) o (now (memory .exit)) (buffers (now (answer .entry)) (now (request .entry))) (buffers (now (answer .exit)) (now (request .exit)))) r ⌝ }
 {
     let o = on_reply(memory, bytes, answer, request);
     shown(o)
@@ -334,8 +318,7 @@ pub extern "C" fn guard_entry_save(
     image: &mut [u8],
     digest: &mut [u8; Guard::DIGEST_BYTES],
 ) -> GuardOutcome
-    ensures { λ r. ⌜ Shown (λ o. SavePromise (now (memory .entry)) o (now (memory .exit)) (now (image .entry)) (now (image .exit))
-        (now (digest .entry)) (now (digest .exit))) r ⌝ }
+    ensures { λ r. ⌜ Shown (λ o. SavePromise (now (memory .entry)) o (now (memory .exit)) (now (image .entry)) (now (image .exit)) (now (digest .entry)) (now (digest .exit))) r ⌝ }
 {
     let o = on_save(memory, image, digest);
     shown(o)

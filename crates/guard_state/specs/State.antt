@@ -6,6 +6,8 @@ use Prim.Native.Nat.{ℕ, _+_, _/_, _%_}
 use lib.Dec.{eqb}
 use lib.ListN.{getD, take, drop}
 use Rattle.filesystem.specs.Tables.{NODES, PAGE-BYTES, FILE-BYTES, DATA-BYTES}
+use denote.Ref.{now}
+use Rattle.numbers.specs.Slices.{Slice}
 use Rattle.memory.specs.Layout.{memOf, openRows, newDigests}
 use Rattle.rules.specs.Pages.{writing, shrinking}
 use Rattle.rules.specs.Requests.{asked, Pending, idle, creating, opening, closing, removing, changing, listing, stating, reading, fetching, storing, cutting}
@@ -38,6 +40,10 @@ numbersOf h = record {
   bytes = getD h 14 0 % (DATA-BYTES + 1);
   digests = getD h 15 0 % (newDigests + 1);
 }
+
+-- the numbers that a memory holds
+abbrev pub numbersIn : Slice → Guard
+numbersIn m = numbersOf (memOf (now m) .head)
 
 -- The pending call: its bytes, and what it is by its number (src/calls.rt); any other number is idle.
 unfoldable pub stagedBytes : Guard → List ℕ → List ℕ

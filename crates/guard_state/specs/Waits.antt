@@ -1,14 +1,21 @@
 -- The machine's states between events: a call waits for a reply, none does, the guard has stopped. Each is the state of what `apply` answers;
--- the answer itself does not matter to it. Assumes nothing.
+-- the answer itself does not matter to it.
+--   waits, ends, stops    the state as a call waits, is done, or stops the guard
+--   Turns m f             f makes the state that a memory has now of the one that it had, and it is as long as it was
+--   Waits m p a           in it a call waits: p is pending, a is gathered
+-- Assumes nothing.
 use mathlib.Core.Bool.{false}
+use mathlib.Core.Path.{_≡_}
 use mathlib.Core.List.{List, []}
 use Prim.Native.Nat.{ℕ}
+use denote.Ref.{now}
+use Rattle.numbers.specs.Slices.{Lent, KeepsLength}
 use Rattle.filesystem.specs.Tables.{Tables}
 use Rattle.rules.specs.Requests.{Pending, idle}
 use Rattle.rules.specs.Skeleton.{Config, done}
 use Rattle.machine.specs.Machine.{State, Gathered, asking, ending, stopping, guard as digestStore}
 use Rattle.tables.specs.View.{View}
-use Rattle.guard_state.specs.State.{gatheredNone, stateWith}
+use Rattle.guard_state.specs.State.{gatheredNone, stateWith, stateOf}
 
 module _ (c : Config) (s : State (digestStore c)) where
   unfoldable pub waits : Pending → Gathered → State (digestStore c)
@@ -23,3 +30,9 @@ module _ (c : Config) (s : State (digestStore c)) where
 -- no call is pending, over these rows
 unfoldable pub restingState : (c : Config) → View → State (digestStore c)
 restingState c v = stateWith c v idle false gatheredNone
+
+abbrev pub Turns : Lent → ((c : Config) → State (digestStore c) → State (digestStore c)) → Type 0
+Turns m f = ((c : Config) → stateOf c (now (m .exit)) ≡ f c (stateOf c (now (m .entry)))) × KeepsLength m
+
+abbrev pub Waits : Lent → Pending → Gathered → Type 0
+Waits m p a = ((c : Config) → stateOf c (now (m .exit)) ≡ waits c (stateOf c (now (m .entry))) p a) × KeepsLength m

@@ -5,15 +5,17 @@ ghost use mathlib.Core.List.{[], _∷_, _++_};
 ghost use Prim.Native.Nat.{_+_, _%_, _<_, _≤_};
 ghost use lib.ListN.{length, getD, take, set};
 ghost use Rattle.filesystem.specs.Tables.{NODES, NAME-BYTES, FILE-BYTES, DATA-BYTES};
-ghost use Rattle.memory.specs.Layout.{memOf, memorySize, headNumbers, openRows, newDigests, withHead};
+ghost use Rattle.memory.specs.Layout.{headNumbers, openRows, newDigests, withHead};
 ghost use Rattle.rules.specs.Requests.{asked, creating, opening, closing, removing, changing, listing, stating, reading, fetching};
 ghost use Rattle.rules.specs.Pages.{writing, shrinking};
 ghost use Rattle.rules.specs.Skeleton.{Config};
 ghost use Rattle.machine.specs.Machine.{fresh, guard as digestStore};
 ghost use Rattle.tables.specs.View.{viewOf};
-ghost use Rattle.guard_state.specs.State.{numbersOf, pendingIn, stateOf, clearedHead, gatheredNone, gatheredRead, filePages};
+ghost use Rattle.guard_state.specs.State.{pendingIn, stateOf, clearedHead, gatheredNone, gatheredRead, filePages, numbersIn};
 ghost use Rattle.guard_state.specs.Onward.{writeNumbers, shrinkNumbers, goesOn};
-ghost use Rattle.guard_state.specs.Waits.{waits, ends, stops, restingState};
+ghost use Rattle.guard_state.specs.Waits.{waits, ends, stops, restingState, Turns, Waits};
+ghost use Rattle.memory.specs.Memories.{Becomes, IsMemory, was};
+ghost use Rattle.numbers.specs.Slices.{KeepsLength};
 
 pub mod calls;
 pub mod header;
@@ -69,8 +71,8 @@ impl Guard {
 
     // The numbers that the memory's header holds, each within its limit.
     pub fn load(m: &[u8]) -> Guard
-        requires { ⌜ memorySize ≤ length (now m) ⌝ }
-        ensures { λ r. ⌜ r ≡ numbersOf (memOf (now (m .entry)) .head) ⌝ }
+        requires { ⌜ IsMemory m ⌝ }
+        ensures { λ r. ⌜ r ≡ numbersIn (m .entry) ⌝ }
     {
         Guard {
             nodes: number(m, header::NODES, limits::NODES),
@@ -94,9 +96,9 @@ impl Guard {
 
     // A fresh guard: the root alone, idle.
     pub fn fresh(m: &mut [u8]) -> Guard
-        requires { ⌜ memorySize ≤ length (now m) ⌝ }
-        ensures { λ r. ⌜ ((c : Config) → stateOf c (now (m .exit)) ≡ fresh c (digestStore c)) × (r ≡ numbersOf (memOf (now (m .exit)) .head)) ⌝ }
-        ensures { λ _. ⌜ length (now (m .exit)) ≡ length (now (m .entry)) ⌝ }
+        requires { ⌜ IsMemory m ⌝ }
+        ensures { λ r. ⌜ ((c : Config) → stateOf c (now (m .exit)) ≡ fresh c (digestStore c)) × (r ≡ numbersIn (m .exit)) ⌝ }
+        ensures { λ _. ⌜ KeepsLength m ⌝ }
     {
         let row = memory::node_row(1, 0, 2, 7, 0, b"");
         memory::put_node(m, 0, row);
@@ -115,8 +117,8 @@ const FILE_PAGES: usize = limits::FILE_BYTES / limits::PAGE_BYTES;
 
 // Number k of the header, at most `most`.
 fn number(m: &[u8], k: usize, most: usize) -> usize
-    requires { ⌜ (k < headNumbers) × (most < 4294967296) × (memorySize ≤ length (now m)) ⌝ }
-    ensures { λ r. ⌜ r ≡ getD (memOf (now (m .entry)) .head) k 0 % (most + 1) ⌝ }
+    requires { ⌜ (k < headNumbers) × (most < 4294967296) × IsMemory m ⌝ }
+    ensures { λ r. ⌜ r ≡ getD (was m .head) k 0 % (most + 1) ⌝ }
 {
     let x = memory::head(m, k);
     // what was written there is; a remainder of anything else would cost each load a multiplication
@@ -130,19 +132,16 @@ fn number(m: &[u8], k: usize, most: usize) -> usize
 
 // Nothing is pending, and the guard has not stopped; the counts stay.
 fn clear(m: &mut [u8])
-    requires { ⌜ memorySize ≤ length (now m) ⌝ }
-    ensures { λ _. ⌜ memOf (now (m .exit)) ≡ withHead (clearedHead (memOf (now (m .entry)) .head)) (memOf (now (m .entry))) ⌝ }
-    ensures { λ _. ⌜ length (now (m .exit)) ≡ length (now (m .entry)) ⌝ }
+    requires { ⌜ IsMemory m ⌝ }
+    ensures { λ _. ⌜ Becomes m (withHead (clearedHead (was m .head))) ⌝ }
 {
     clear_call(m);
     clear_span(m);
 }
 
 fn clear_call(m: &mut [u8])
-    requires { ⌜ memorySize ≤ length (now m) ⌝ }
-    ensures { λ _. ⌜ memOf (now (m .exit)) ≡ withHead (set (set
-        (set (set (set (set (set (memOf (now (m .entry)) .head) 2 1) 3 0) 4 0) 5 0) 6 0) 7 0) 8 0) (memOf (now (m .entry))) ⌝ }
-    ensures { λ _. ⌜ length (now (m .exit)) ≡ length (now (m .entry)) ⌝ }
+    requires { ⌜ IsMemory m ⌝ }
+    ensures { λ _. ⌜ Becomes m (withHead (set (set (set (set (set (set (set (was m .head) 2 1) 3 0) 4 0) 5 0) 6 0) 7 0) 8 0)) ⌝ }
 {
     memory::put_head(m, header::RUNNING, 1);
     memory::put_head(m, header::CALL, calls::IDLE);
@@ -154,10 +153,8 @@ fn clear_call(m: &mut [u8])
 }
 
 fn clear_span(m: &mut [u8])
-    requires { ⌜ memorySize ≤ length (now m) ⌝ }
-    ensures { λ _. ⌜ memOf (now (m .exit)) ≡ withHead (set (set
-        (set (set (set (set (set (memOf (now (m .entry)) .head) 9 0) 10 0) 11 0) 12 0) 13 0) 14 0) 15 0) (memOf (now (m .entry))) ⌝ }
-    ensures { λ _. ⌜ length (now (m .exit)) ≡ length (now (m .entry)) ⌝ }
+    requires { ⌜ IsMemory m ⌝ }
+    ensures { λ _. ⌜ Becomes m (withHead (set (set (set (set (set (set (set (was m .head) 9 0) 10 0) 11 0) 12 0) 13 0) 14 0) 15 0)) ⌝ }
 {
     memory::put_head(m, header::RIGHTS, 0);
     memory::put_head(m, header::POSITION, 0);
@@ -172,11 +169,8 @@ fn clear_span(m: &mut [u8])
 
 // A create or a mkdir: the parent's id, the kind, the mode, and the name, which is staged.
 pub fn wait_create(m: &mut [u8], parent: u64, kind: u8, mode: u8, name: &[u8])
-    requires { ⌜ (length (now name) ≤ NAME-BYTES) × (memorySize ≤ length (now m)) ⌝ }
-    ensures { λ _. ⌜ ((c : Config)
-        → stateOf c (now (m .exit)) ≡ waits c (stateOf c (now (m .entry)))
-        (asked (creating parent kind mode (now (name .entry)))) gatheredNone) ⌝ }
-    ensures { λ _. ⌜ length (now (m .exit)) ≡ length (now (m .entry)) ⌝ }
+    requires { ⌜ (length (now name) ≤ NAME-BYTES) × IsMemory m ⌝ }
+    ensures { λ _. ⌜ Waits m (asked (creating parent kind mode (now (name .entry)))) gatheredNone ⌝ }
 {
     let n = name.len();
     memory::stage(m, 0, name);
@@ -189,10 +183,8 @@ pub fn wait_create(m: &mut [u8], parent: u64, kind: u8, mode: u8, name: &[u8])
 }
 
 pub fn wait_open(m: &mut [u8], node: usize, rights: u8)
-    requires { ⌜ (node < NODES) × (memorySize ≤ length (now m)) ⌝ }
-    ensures { λ _. ⌜ ((c : Config)
-        → stateOf c (now (m .exit)) ≡ waits c (stateOf c (now (m .entry))) (asked (opening node rights)) gatheredNone) ⌝ }
-    ensures { λ _. ⌜ length (now (m .exit)) ≡ length (now (m .entry)) ⌝ }
+    requires { ⌜ (node < NODES) × IsMemory m ⌝ }
+    ensures { λ _. ⌜ Waits m (asked (opening node rights)) gatheredNone ⌝ }
 {
     clear(m);
     memory::put_head(m, header::CALL, calls::OPENING);
@@ -201,10 +193,8 @@ pub fn wait_open(m: &mut [u8], node: usize, rights: u8)
 }
 
 pub fn wait_close(m: &mut [u8], opened: usize)
-    requires { ⌜ (opened < openRows) × (memorySize ≤ length (now m)) ⌝ }
-    ensures { λ _. ⌜ ((c : Config)
-        → stateOf c (now (m .exit)) ≡ waits c (stateOf c (now (m .entry))) (asked (closing opened)) gatheredNone) ⌝ }
-    ensures { λ _. ⌜ length (now (m .exit)) ≡ length (now (m .entry)) ⌝ }
+    requires { ⌜ (opened < openRows) × IsMemory m ⌝ }
+    ensures { λ _. ⌜ Waits m (asked (closing opened)) gatheredNone ⌝ }
 {
     clear(m);
     memory::put_head(m, header::CALL, calls::CLOSING);
@@ -212,10 +202,8 @@ pub fn wait_close(m: &mut [u8], opened: usize)
 }
 
 pub fn wait_remove(m: &mut [u8], node: usize)
-    requires { ⌜ (node < NODES) × (memorySize ≤ length (now m)) ⌝ }
-    ensures { λ _. ⌜ ((c : Config)
-        → stateOf c (now (m .exit)) ≡ waits c (stateOf c (now (m .entry))) (asked (removing node)) gatheredNone) ⌝ }
-    ensures { λ _. ⌜ length (now (m .exit)) ≡ length (now (m .entry)) ⌝ }
+    requires { ⌜ (node < NODES) × IsMemory m ⌝ }
+    ensures { λ _. ⌜ Waits m (asked (removing node)) gatheredNone ⌝ }
 {
     clear(m);
     memory::put_head(m, header::CALL, calls::REMOVING);
@@ -223,10 +211,8 @@ pub fn wait_remove(m: &mut [u8], node: usize)
 }
 
 pub fn wait_chmod(m: &mut [u8], node: usize, mode: u8)
-    requires { ⌜ (node < NODES) × (memorySize ≤ length (now m)) ⌝ }
-    ensures { λ _. ⌜ ((c : Config)
-        → stateOf c (now (m .exit)) ≡ waits c (stateOf c (now (m .entry))) (asked (changing node mode)) gatheredNone) ⌝ }
-    ensures { λ _. ⌜ length (now (m .exit)) ≡ length (now (m .entry)) ⌝ }
+    requires { ⌜ (node < NODES) × IsMemory m ⌝ }
+    ensures { λ _. ⌜ Waits m (asked (changing node mode)) gatheredNone ⌝ }
 {
     clear(m);
     memory::put_head(m, header::CALL, calls::CHANGING);
@@ -235,10 +221,8 @@ pub fn wait_chmod(m: &mut [u8], node: usize, mode: u8)
 }
 
 pub fn wait_listing(m: &mut [u8], node: usize)
-    requires { ⌜ (node < NODES) × (memorySize ≤ length (now m)) ⌝ }
-    ensures { λ _. ⌜ ((c : Config)
-        → stateOf c (now (m .exit)) ≡ waits c (stateOf c (now (m .entry))) (asked (listing node)) gatheredNone) ⌝ }
-    ensures { λ _. ⌜ length (now (m .exit)) ≡ length (now (m .entry)) ⌝ }
+    requires { ⌜ (node < NODES) × IsMemory m ⌝ }
+    ensures { λ _. ⌜ Waits m (asked (listing node)) gatheredNone ⌝ }
 {
     clear(m);
     memory::put_head(m, header::CALL, calls::LISTING);
@@ -246,10 +230,8 @@ pub fn wait_listing(m: &mut [u8], node: usize)
 }
 
 pub fn wait_stat(m: &mut [u8], node: usize)
-    requires { ⌜ (node < NODES) × (memorySize ≤ length (now m)) ⌝ }
-    ensures { λ _. ⌜ ((c : Config)
-        → stateOf c (now (m .exit)) ≡ waits c (stateOf c (now (m .entry))) (asked (stating node)) gatheredNone) ⌝ }
-    ensures { λ _. ⌜ length (now (m .exit)) ≡ length (now (m .entry)) ⌝ }
+    requires { ⌜ (node < NODES) × IsMemory m ⌝ }
+    ensures { λ _. ⌜ Waits m (asked (stating node)) gatheredNone ⌝ }
 {
     clear(m);
     memory::put_head(m, header::CALL, calls::STATING);
@@ -258,11 +240,8 @@ pub fn wait_stat(m: &mut [u8], node: usize)
 
 // The numbers of a read that waits for a page.
 fn put_read(m: &mut [u8], node: usize, opened: usize, position: usize, count: usize, page: usize)
-    requires { ⌜ memorySize ≤ length (now m) ⌝ }
-    ensures { λ _. ⌜ memOf (now (m .exit)) ≡ withHead (set (set
-        (set (set (set (set (clearedHead (memOf (now (m .entry)) .head)) 3 8) 4 node) 5 opened) 10 position) 11 count) 13 page)
-        (memOf (now (m .entry))) ⌝ }
-    ensures { λ _. ⌜ length (now (m .exit)) ≡ length (now (m .entry)) ⌝ }
+    requires { ⌜ IsMemory m ⌝ }
+    ensures { λ _. ⌜ Becomes m (withHead (set (set (set (set (set (set (clearedHead (was m .head)) 3 8) 4 node) 5 opened) 10 position) 11 count) 13 page)) ⌝ }
 {
     clear(m);
     memory::put_head(m, header::CALL, calls::READING);
@@ -282,11 +261,8 @@ pub fn wait_read(
     count: usize,
     page: usize,
 )
-    requires { ⌜ (node < NODES) × (opened < openRows) × (position ≤ FILE-BYTES) × (count ≤ DATA-BYTES) × (page ≤ filePages)
-        × (memorySize ≤ length (now m)) ⌝ }
-    ensures { λ _. ⌜ ((c : Config)
-        → stateOf c (now (m .exit)) ≡ waits c (stateOf c (now (m .entry))) (reading node opened position count page) gatheredNone) ⌝ }
-    ensures { λ _. ⌜ length (now (m .exit)) ≡ length (now (m .entry)) ⌝ }
+    requires { ⌜ (node < NODES) × (opened < openRows) × (position ≤ FILE-BYTES) × (count ≤ DATA-BYTES) × (page ≤ filePages) × IsMemory m ⌝ }
+    ensures { λ _. ⌜ Waits m (reading node opened position count page) gatheredNone ⌝ }
 {
     put_read(m, node, opened, position, count, page);
 }
@@ -302,12 +278,8 @@ pub fn wait_page(
     bytes: usize,
     more: &[u8],
 )
-    requires { ⌜ (node < NODES) × (opened < openRows) × (position ≤ FILE-BYTES) × (count ≤ DATA-BYTES) × (page ≤ filePages)
-        × (bytes + length (now more) ≤ DATA-BYTES) × (memorySize ≤ length (now m)) ⌝ }
-    ensures { λ _. ⌜ ((c : Config)
-        → stateOf c (now (m .exit)) ≡ waits c (stateOf c (now (m .entry))) (reading node opened position count page)
-        (gatheredRead (take bytes (memOf (now (m .entry)) .staged) ++ now (more .entry)))) ⌝ }
-    ensures { λ _. ⌜ length (now (m .exit)) ≡ length (now (m .entry)) ⌝ }
+    requires { ⌜ (node < NODES) × (opened < openRows) × (position ≤ FILE-BYTES) × (count ≤ DATA-BYTES) × (page ≤ filePages) × (bytes + length (now more) ≤ DATA-BYTES) × IsMemory m ⌝ }
+    ensures { λ _. ⌜ Waits m (reading node opened position count page) (gatheredRead (take bytes (was m .staged) ++ now (more .entry))) ⌝ }
 {
     let l = bytes + more.len();
     memory::stage(m, bytes, more);
@@ -319,14 +291,10 @@ pub fn wait_page(
 
 // A write waits: its bytes are staged, and no page of it is asked yet.
 pub fn wait_write(m: &mut [u8], node: usize, opened: usize, position: usize, bytes: &[u8])
-    requires { ⌜ (node < NODES) × (opened < openRows) × (position ≤ FILE-BYTES) × (length (now bytes) ≤ DATA-BYTES)
-        × (memorySize ≤ length (now m)) ⌝ }
-    ensures { λ _. ⌜ ((c : Config)
-        → stateOf c (now (m .exit)) ≡ waits c (stateOf c (now (m .entry)))
-        (fetching node opened (writing position (now (bytes .entry))) 0) gatheredNone) ⌝ }
-    ensures { λ _. ⌜ numbersOf (memOf (now (m .exit)) .head) ≡ writeNumbers
-        (numbersOf (memOf (now (m .entry)) .head)) node opened position (length (now (bytes .entry))) ⌝ }
-    ensures { λ _. ⌜ length (now (m .exit)) ≡ length (now (m .entry)) ⌝ }
+    requires { ⌜ (node < NODES) × (opened < openRows) × (position ≤ FILE-BYTES) × (length (now bytes) ≤ DATA-BYTES) × IsMemory m ⌝ }
+    ensures { λ _. ⌜ ((c : Config) → stateOf c (now (m .exit)) ≡ waits c (stateOf c (now (m .entry))) (fetching node opened (writing position (now (bytes .entry))) 0) gatheredNone) ⌝ }
+    ensures { λ _. ⌜ numbersIn (m .exit) ≡ writeNumbers (numbersIn (m .entry)) node opened position (length (now (bytes .entry))) ⌝ }
+    ensures { λ _. ⌜ KeepsLength m ⌝ }
 {
     let n = bytes.len();
     memory::stage(m, 0, bytes);
@@ -340,11 +308,10 @@ pub fn wait_write(m: &mut [u8], node: usize, opened: usize, position: usize, byt
 
 // A truncation to a smaller size waits: nothing is asked yet.
 pub fn wait_shrink(m: &mut [u8], node: usize, opened: usize, size: usize)
-    requires { ⌜ (node < NODES) × (opened < openRows) × (size ≤ FILE-BYTES) × (memorySize ≤ length (now m)) ⌝ }
-    ensures { λ _. ⌜ ((c : Config)
-        → stateOf c (now (m .exit)) ≡ waits c (stateOf c (now (m .entry))) (fetching node opened (shrinking size) 0) gatheredNone) ⌝ }
-    ensures { λ _. ⌜ numbersOf (memOf (now (m .exit)) .head) ≡ shrinkNumbers (numbersOf (memOf (now (m .entry)) .head)) node opened size ⌝ }
-    ensures { λ _. ⌜ length (now (m .exit)) ≡ length (now (m .entry)) ⌝ }
+    requires { ⌜ (node < NODES) × (opened < openRows) × (size ≤ FILE-BYTES) × IsMemory m ⌝ }
+    ensures { λ _. ⌜ ((c : Config) → stateOf c (now (m .exit)) ≡ waits c (stateOf c (now (m .entry))) (fetching node opened (shrinking size) 0) gatheredNone) ⌝ }
+    ensures { λ _. ⌜ numbersIn (m .exit) ≡ shrinkNumbers (numbersIn (m .entry)) node opened size ⌝ }
+    ensures { λ _. ⌜ KeepsLength m ⌝ }
 {
     clear(m);
     memory::put_head(m, header::CALL, calls::SHRINK_FETCHING);
@@ -355,13 +322,8 @@ pub fn wait_shrink(m: &mut [u8], node: usize, opened: usize, size: usize)
 
 // A change goes on: what it waits for now (calls.rt), and the page that is asked.
 pub fn wait_further(m: &mut [u8], call: u64, page: usize)
-    requires { ⌜ (9 ≤ numbersOf (memOf (now m) .head) .call) × (numbersOf (memOf (now m) .head) .call ≤ 13) × (9 ≤ call) × (call ≤ 13)
-        × (page ≤ filePages) × (memorySize ≤ length (now m)) ⌝ }
-    ensures { λ _. ⌜ ((c : Config)
-        → stateOf c (now (m .exit)) ≡ waits c (stateOf c (now (m .entry)))
-        (pendingIn (goesOn call page (numbersOf (memOf (now (m .entry)) .head))) (memOf (now (m .entry)) .staged))
-        (stateOf c (now (m .entry)) .progress)) ⌝ }
-    ensures { λ _. ⌜ length (now (m .exit)) ≡ length (now (m .entry)) ⌝ }
+    requires { ⌜ (9 ≤ numbersIn m .call) × (numbersIn m .call ≤ 13) × (9 ≤ call) × (call ≤ 13) × (page ≤ filePages) × IsMemory m ⌝ }
+    ensures { λ _. ⌜ Turns m (λ c s. waits c s (pendingIn (goesOn call page (numbersIn (m .entry))) (was m .staged)) (s .progress)) ⌝ }
 {
     memory::put_head(m, header::RUNNING, 1);
     memory::put_head(m, header::CALL, call);
@@ -370,13 +332,8 @@ pub fn wait_further(m: &mut [u8], call: u64, page: usize)
 
 // The same with the digest of the page that goes out, staged behind those before.
 pub fn wait_sent(m: &mut [u8], call: u64, page: usize, digest: [u8; limits::DIGEST_BYTES])
-    requires { ⌜ (9 ≤ numbersOf (memOf (now m) .head) .call) × (numbersOf (memOf (now m) .head) .call ≤ 13) × (9 ≤ call) × (call ≤ 13)
-        × (page ≤ filePages) × (numbersOf (memOf (now m) .head) .digests < newDigests) × (memorySize ≤ length (now m)) ⌝ }
-    ensures { λ _. ⌜ ((c : Config)
-        → stateOf c (now (m .exit)) ≡ waits c (stateOf c (now (m .entry)))
-        (pendingIn (goesOn call page (numbersOf (memOf (now (m .entry)) .head))) (memOf (now (m .entry)) .staged))
-        (record { bytes = []; digests = stateOf c (now (m .entry)) .progress .digests ++ (digest ∷ []) })) ⌝ }
-    ensures { λ _. ⌜ length (now (m .exit)) ≡ length (now (m .entry)) ⌝ }
+    requires { ⌜ (9 ≤ numbersIn m .call) × (numbersIn m .call ≤ 13) × (9 ≤ call) × (call ≤ 13) × (page ≤ filePages) × (numbersIn m .digests < newDigests) × IsMemory m ⌝ }
+    ensures { λ _. ⌜ Turns m (λ c s. waits c s (pendingIn (goesOn call page (numbersIn (m .entry))) (was m .staged)) (record { bytes = []; digests = s .progress .digests ++ (digest ∷ []) })) ⌝ }
 {
     let k = number(m, header::DIGESTS, memory::NEW_DIGESTS);
     memory::stage_digest(m, k, digest);
@@ -388,20 +345,16 @@ pub fn wait_sent(m: &mut [u8], call: u64, page: usize, digest: [u8; limits::DIGE
 
 // The call is done and the tables are as they were.
 pub fn finish(m: &mut [u8])
-    requires { ⌜ memorySize ≤ length (now m) ⌝ }
-    ensures { λ _. ⌜ ((c : Config)
-        → stateOf c (now (m .exit)) ≡ ends c (stateOf c (now (m .entry))) (stateOf c (now (m .entry)) .skeleton .tables)
-        (stateOf c (now (m .entry)) .contents)) ⌝ }
-    ensures { λ _. ⌜ length (now (m .exit)) ≡ length (now (m .entry)) ⌝ }
+    requires { ⌜ IsMemory m ⌝ }
+    ensures { λ _. ⌜ Turns m (λ c s. ends c s (s .skeleton .tables) (s .contents)) ⌝ }
 {
     clear(m);
 }
 
 // The call is done, over tables that now have these counts.
 pub fn rest(m: &mut [u8], nodes: usize, opens: usize)
-    requires { ⌜ (nodes ≤ NODES) × (opens ≤ openRows) × (memorySize ≤ length (now m)) ⌝ }
-    ensures { λ _. ⌜ ((c : Config) → stateOf c (now (m .exit)) ≡ restingState c (viewOf nodes opens (memOf (now (m .entry))))) ⌝ }
-    ensures { λ _. ⌜ length (now (m .exit)) ≡ length (now (m .entry)) ⌝ }
+    requires { ⌜ (nodes ≤ NODES) × (opens ≤ openRows) × IsMemory m ⌝ }
+    ensures { λ _. ⌜ Turns m (λ c _. restingState c (viewOf nodes opens (was m))) ⌝ }
 {
     clear(m);
     memory::put_head(m, header::NODES, nodes as u64);
@@ -410,9 +363,8 @@ pub fn rest(m: &mut [u8], nodes: usize, opens: usize)
 
 // The guard stops for good; the tables are those of before the call.
 pub fn stop(m: &mut [u8])
-    requires { ⌜ memorySize ≤ length (now m) ⌝ }
-    ensures { λ _. ⌜ ((c : Config) → stateOf c (now (m .exit)) ≡ stops c (stateOf c (now (m .entry)))) ⌝ }
-    ensures { λ _. ⌜ length (now (m .exit)) ≡ length (now (m .entry)) ⌝ }
+    requires { ⌜ IsMemory m ⌝ }
+    ensures { λ _. ⌜ Turns m stops ⌝ }
 {
     clear(m);
     memory::put_head(m, header::RUNNING, 0);

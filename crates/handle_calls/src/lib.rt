@@ -3,15 +3,15 @@
 ghost use mathlib.Core.Path.{_≡_};
 ghost use mathlib.Core.Bool.{true};
 ghost use Prim.Native.Nat.{ℕ, _≤_, _<_};
-ghost use lib.ListN.{length, take};
 ghost use Rattle.filesystem.specs.Tables.{NODES, nodeAt, findId};
 ghost use Rattle.filesystem.specs.Image.{soundNodes};
-ghost use Rattle.memory.specs.Layout.{memOf, memorySize, openRows};
+ghost use Rattle.memory.specs.Layout.{openRows};
 ghost use Rattle.tables.specs.View.{tablesIn};
 ghost use Rattle.rules.specs.Calls.{close, seek, read, write, truncate};
 ghost use Rattle.rules.specs.Rules.{noRoom};
 ghost use Rattle.handle_calls.specs.Judged.{Judgement, lacksRight, endChecked};
 ghost use Rattle.handle_calls.specs.declared.Handled.the-variants.{Open};
+ghost use Rattle.memory.specs.Memories.{IsMemory, nodesOf, opensOf, was};
 
 // The places of an open file and of its node, or the number that stops the call.
 pub enum Handled {
@@ -21,16 +21,15 @@ pub enum Handled {
 
 // The place of the node of the open file in place k, which has this handle.
 fn file_place(m: &[u8], n: usize, k: usize, handle: u64) -> usize
-    requires { ⌜ (n ≤ NODES) × (k < openRows) × (memorySize ≤ length (now m)) ⌝ }
-    ensures { λ r. ⌜ ((w : ℕ) → soundNodes w (take n (memOf (now (m .entry)) .nodes)) ≡ true
-        → r ≡ findId (take n (memOf (now (m .entry)) .nodes)) handle) ⌝ }
+    requires { ⌜ (n ≤ NODES) × (k < openRows) × IsMemory m ⌝ }
+    ensures { λ r. ⌜ ((w : ℕ) → soundNodes w (nodesOf n m) ≡ true → r ≡ findId (nodesOf n m) handle) ⌝ }
 {
     tables::find_node(m, n, handle, memory::open_hint(m, k) as usize)
 }
 
 // close: 9.
 pub fn judge_close(m: &[u8], n: usize, o: usize, handle: u64) -> Handled
-    requires { ⌜ (n ≤ NODES) × (o ≤ openRows) × (memorySize ≤ length (now m)) ⌝ }
+    requires { ⌜ (n ≤ NODES) × (o ≤ openRows) × IsMemory m ⌝ }
     ensures { λ r. ⌜ Judgement (now (m .entry)) n o handle (close handle) r ⌝ }
 {
     let k = tables::find_handle(m, o, handle);
@@ -43,8 +42,8 @@ pub fn judge_close(m: &[u8], n: usize, o: usize, handle: u64) -> Handled
 
 // Whether no open file with this right stands in place k.
 fn lacks_right(m: &[u8], o: usize, k: usize, right: u8) -> bool
-    requires { ⌜ (0 < right) × (o ≤ openRows) × (memorySize ≤ length (now m)) ⌝ }
-    ensures { λ r. ⌜ r ≡ lacksRight (take o (memOf (now (m .entry)) .opens)) right k ⌝ }
+    requires { ⌜ (0 < right) × (o ≤ openRows) × IsMemory m ⌝ }
+    ensures { λ r. ⌜ r ≡ lacksRight (opensOf o m) right k ⌝ }
 {
     if o <= k {
         return true;
@@ -54,7 +53,7 @@ fn lacks_right(m: &[u8], o: usize, k: usize, right: u8) -> bool
 
 // read: 9 without right 1.
 pub fn judge_read(m: &[u8], n: usize, o: usize, handle: u64) -> Handled
-    requires { ⌜ (n ≤ NODES) × (o ≤ openRows) × (memorySize ≤ length (now m)) ⌝ }
+    requires { ⌜ (n ≤ NODES) × (o ≤ openRows) × IsMemory m ⌝ }
     ensures { λ r. ⌜ ((count : ℕ) → Judgement (now (m .entry)) n o handle (read handle count) r) ⌝ }
 {
     let k = tables::find_handle(m, o, handle);
@@ -67,8 +66,8 @@ pub fn judge_read(m: &[u8], n: usize, o: usize, handle: u64) -> Handled
 
 // The size of the node in place k; past the nodes there is none.
 pub fn size_at(m: &[u8], n: usize, k: usize) -> u32
-    requires { ⌜ (n ≤ NODES) × (memorySize ≤ length (now m)) ⌝ }
-    ensures { λ r. ⌜ r ≡ nodeAt (take n (memOf (now (m .entry)) .nodes)) k .size ⌝ }
+    requires { ⌜ (n ≤ NODES) × IsMemory m ⌝ }
+    ensures { λ r. ⌜ r ≡ nodeAt (nodesOf n m) k .size ⌝ }
 {
     if n <= k {
         return 0;
@@ -78,9 +77,8 @@ pub fn size_at(m: &[u8], n: usize, k: usize) -> u32
 
 // 22 past the end, for the open file in place k. A position that passes is at most a size, so it fits a u32.
 fn judge_end(m: &[u8], n: usize, handle: u64, k: usize, position: u64) -> Handled
-    requires { ⌜ (n ≤ NODES) × (k < openRows) × (memorySize ≤ length (now m)) ⌝ }
-    ensures { λ r. ⌜ ((w : ℕ) → soundNodes w (take n (memOf (now (m .entry)) .nodes)) ≡ true
-        → r ≡ endChecked (take n (memOf (now (m .entry)) .nodes)) handle k position) ⌝ }
+    requires { ⌜ (n ≤ NODES) × (k < openRows) × IsMemory m ⌝ }
+    ensures { λ r. ⌜ ((w : ℕ) → soundNodes w (nodesOf n m) ≡ true → r ≡ endChecked (nodesOf n m) handle k position) ⌝ }
     ensures { λ r. ⌜ ((i j : ℕ) → r ≡ Open i j → (i ≡ k) × (position < 4294967296)) ⌝ }
 {
     let node = file_place(m, n, k, handle);
@@ -92,7 +90,7 @@ fn judge_end(m: &[u8], n: usize, handle: u64, k: usize, position: u64) -> Handle
 
 // seek: 9, 22 past the end.
 pub fn judge_seek(m: &[u8], n: usize, o: usize, handle: u64, position: u64) -> Handled
-    requires { ⌜ (n ≤ NODES) × (o ≤ openRows) × (memorySize ≤ length (now m)) ⌝ }
+    requires { ⌜ (n ≤ NODES) × (o ≤ openRows) × IsMemory m ⌝ }
     ensures { λ r. ⌜ Judgement (now (m .entry)) n o handle (seek handle position) r ⌝ }
     ensures { λ r. ⌜ ((i j : ℕ) → r ≡ Open i j → position < 4294967296) ⌝ }
 {
@@ -105,7 +103,7 @@ pub fn judge_seek(m: &[u8], n: usize, o: usize, handle: u64, position: u64) -> H
 
 // truncate: 9 without right 2, 22 past the end.
 pub fn judge_truncate(m: &[u8], n: usize, o: usize, handle: u64, size: u64) -> Handled
-    requires { ⌜ (n ≤ NODES) × (o ≤ openRows) × (memorySize ≤ length (now m)) ⌝ }
+    requires { ⌜ (n ≤ NODES) × (o ≤ openRows) × IsMemory m ⌝ }
     ensures { λ r. ⌜ Judgement (now (m .entry)) n o handle (truncate handle size) r ⌝ }
 {
     let k = tables::find_handle(m, o, handle);
@@ -117,9 +115,8 @@ pub fn judge_truncate(m: &[u8], n: usize, o: usize, handle: u64, size: u64) -> H
 
 // Whether the pages would be too many if the node in place k had this size. Sound nodes have room for their own.
 fn is_full(m: &[u8], n: usize, k: usize, size: u32) -> bool
-    requires { ⌜ (n ≤ NODES) × (memorySize ≤ length (now m)) ⌝ }
-    ensures { λ r. ⌜ ((w o : ℕ) → soundNodes w (take n (memOf (now (m .entry)) .nodes)) ≡ true
-        → r ≡ noRoom (tablesIn n o (memOf (now (m .entry)))) k size) ⌝ }
+    requires { ⌜ (n ≤ NODES) × IsMemory m ⌝ }
+    ensures { λ r. ⌜ ((w o : ℕ) → soundNodes w (nodesOf n m) ≡ true → r ≡ noRoom (tablesIn n o (was m)) k size) ⌝ }
 {
     if n <= k {
         return false;
@@ -132,7 +129,7 @@ fn is_full(m: &[u8], n: usize, k: usize, size: u32) -> bool
 
 // write: 9 without right 2, 27, 28.
 pub fn judge_write(m: &[u8], n: usize, o: usize, handle: u64, bytes: &[u8]) -> Handled
-    requires { ⌜ (n ≤ NODES) × (o ≤ openRows) × (memorySize ≤ length (now m)) ⌝ }
+    requires { ⌜ (n ≤ NODES) × (o ≤ openRows) × IsMemory m ⌝ }
     ensures { λ r. ⌜ Judgement (now (m .entry)) n o handle (write handle (now (bytes .entry))) r ⌝ }
 {
     let k = tables::find_handle(m, o, handle);

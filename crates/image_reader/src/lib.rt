@@ -11,11 +11,13 @@ ghost use Rattle.lists.specs.Search.{any, every, place};
 ghost use Rattle.filesystem.specs.Tables.{ID-BYTES, NODES, PAGES, DIGEST-BYTES, FILE-BYTES, NAME-BYTES, pageTotal};
 ghost use Rattle.filesystem.specs.Paths.{componentForm};
 ghost use Rattle.filesystem.specs.Image.{isRoot, inLimits, soundNodes, parse};
-ghost use Rattle.memory.specs.Layout.{memOf, memorySize, withNodes, withDigests};
+ghost use Rattle.memory.specs.Layout.{withNodes, withDigests};
 ghost use Rattle.image_writer.specs.Width.{frontLength};
 ghost use Rattle.image_reader.specs.Records.{recordAt, recordEnd, nodesFrom, endFrom, recordsEnd, digestCount, imageDigests, formed, plainByte, isSome};
 ghost use Rattle.image_reader.specs.Loaded.{Loaded};
 ghost use Rattle.image_reader.specs.Admission.{clash, isParent, admit, admitted};
+ghost use Rattle.memory.specs.Memories.{Becomes, IsMemory, was};
+ghost use Rattle.numbers.specs.Slices.{KeepsLength};
 
 const ID_BYTES: usize = limits::ID_BYTES;
 
@@ -65,8 +67,7 @@ fn record_size(image: &[u8], at: usize) -> u32
 // The place behind the record.
 fn record_end(image: &[u8], at: usize) -> usize
     requires { ⌜ at + frontLength ID-BYTES ≤ length (now image) ⌝ }
-    ensures { λ r. ⌜ (r ≡ recordEnd ID-BYTES (now (image .entry)) at) × (at + frontLength ID-BYTES ≤ r)
-        × (r ≤ at + frontLength ID-BYTES + 255) ⌝ }
+    ensures { λ r. ⌜ (r ≡ recordEnd ID-BYTES (now (image .entry)) at) × (at + frontLength ID-BYTES ≤ r) × (r ≤ at + frontLength ID-BYTES + 255) ⌝ }
 {
     at + FRONT + image[at + 2 * ID_BYTES + 6] as usize
 }
@@ -85,9 +86,7 @@ fn record_name(image: &[u8], at: usize) -> &[u8]
 // The place behind n records, or 0 where the image ends before that.
 fn records_end(image: &[u8], n: usize) -> usize
     requires { ⌜ 4 ≤ length (now image) ⌝ }
-    ensures { λ r. ⌜ (r ≡ pick (leb (endFrom ID-BYTES (now (image .entry)) 4 n) (length (now (image .entry))))
-        (endFrom ID-BYTES (now (image .entry)) 4 n) 0)
-        × (r ≤ length (now (image .entry))) ⌝ }
+    ensures { λ r. ⌜ (r ≡ pick (leb (endFrom ID-BYTES (now (image .entry)) 4 n) (length (now (image .entry)))) (endFrom ID-BYTES (now (image .entry)) 4 n) 0) × (r ≤ length (now (image .entry))) ⌝ }
 {
     let mut at = 4;
     let mut i = 0;
@@ -245,8 +244,7 @@ fn clashes(image: &[u8], at: usize, i: usize) -> bool
 // Whether the record at a is a directory with this id.
 fn is_parent(image: &[u8], a: usize, id: u64) -> bool
     requires { ⌜ a + frontLength ID-BYTES ≤ length (now image) ⌝ }
-    ensures { λ r. ⌜ r ≡ (eqb (recordAt ID-BYTES (now (image .entry)) a .id) id && eqb
-        (recordAt ID-BYTES (now (image .entry)) a .kind) 2) ⌝ }
+    ensures { λ r. ⌜ r ≡ (eqb (recordAt ID-BYTES (now (image .entry)) a .id) id && eqb (recordAt ID-BYTES (now (image .entry)) a .kind) 2) ⌝ }
 {
     if record_id(image, a) != id {
         return false;
@@ -275,10 +273,8 @@ fn parent_place(image: &[u8], at: usize, i: usize) -> usize
 
 // The length of the path of the record at `at`, by those of the first i; `TOO_LONG` where it may not stand there.
 fn admission(image: &[u8], at: usize, i: usize, lengths: &[u8]) -> usize
-    requires { ⌜ (endFrom ID-BYTES (now image) 4 i ≤ length (now image)) × (recordEnd ID-BYTES (now image) at ≤ length (now image))
-        × (i ≤ length (now lengths)) ⌝ }
-    ensures { λ r. ⌜ r ≡ admit ID-BYTES (nodesFrom ID-BYTES (now (image .entry)) 4 i) (now (lengths .entry))
-        (recordAt ID-BYTES (now (image .entry)) at) ⌝ }
+    requires { ⌜ (endFrom ID-BYTES (now image) 4 i ≤ length (now image)) × (recordEnd ID-BYTES (now image) at ≤ length (now image)) × (i ≤ length (now lengths)) ⌝ }
+    ensures { λ r. ⌜ r ≡ admit ID-BYTES (nodesFrom ID-BYTES (now (image .entry)) 4 i) (now (lengths .entry)) (recordAt ID-BYTES (now (image .entry)) at) ⌝ }
 {
     if !is_in_limits(image, at) {
         return TOO_LONG;
@@ -300,8 +296,7 @@ fn admission(image: &[u8], at: usize, i: usize, lengths: &[u8]) -> usize
 // Whether each of the n records behind the first may stand behind those before it. The lengths of their paths are kept in `lengths`.
 fn all_admitted(image: &[u8], n: usize, lengths: &mut [u8]) -> bool
     requires { ⌜ (0 < n) × (endFrom ID-BYTES (now image) 4 n ≤ length (now image)) × (n ≤ length (now lengths)) ⌝ }
-    ensures { λ r. ⌜ r ≡ admitted ID-BYTES (recordAt ID-BYTES (now (image .entry)) 4 ∷ []) (0 ∷ [])
-        (nodesFrom ID-BYTES (now (image .entry)) (recordEnd ID-BYTES (now (image .entry)) 4) (n - 1)) ⌝ }
+    ensures { λ r. ⌜ r ≡ admitted ID-BYTES (recordAt ID-BYTES (now (image .entry)) 4 ∷ []) (0 ∷ []) (nodesFrom ID-BYTES (now (image .entry)) (recordEnd ID-BYTES (now (image .entry)) 4) (n - 1)) ⌝ }
 {
     lengths[0] = 0;
     let mut at = record_end(image, 4);
@@ -379,11 +374,8 @@ pub fn is_sound(image: &[u8]) -> bool
 
 // The record at `at` as node i of the memory.
 fn load_record(image: &[u8], at: usize, m: &mut [u8], i: usize)
-    requires { ⌜ (recordEnd ID-BYTES (now image) at ≤ length (now image)) × (length (recordAt ID-BYTES (now image) at .name) ≤ NAME-BYTES)
-        × (i < NODES) × (memorySize ≤ length (now m)) ⌝ }
-    ensures { λ _. ⌜ memOf (now (m .exit)) ≡ withNodes (set (memOf (now (m .entry)) .nodes) i (recordAt ID-BYTES (now (image .entry)) at))
-        (memOf (now (m .entry))) ⌝ }
-    ensures { λ _. ⌜ length (now (m .exit)) ≡ length (now (m .entry)) ⌝ }
+    requires { ⌜ (recordEnd ID-BYTES (now image) at ≤ length (now image)) × (length (recordAt ID-BYTES (now image) at .name) ≤ NAME-BYTES) × (i < NODES) × IsMemory m ⌝ }
+    ensures { λ _. ⌜ Becomes m (withNodes (set (was m .nodes) i (recordAt ID-BYTES (now (image .entry)) at))) ⌝ }
 {
     let name = record_name(image, at);
     let row = memory::node_row(
@@ -399,11 +391,8 @@ fn load_record(image: &[u8], at: usize, m: &mut [u8], i: usize)
 
 // The first n records, which are sound, as the memory's first nodes; the place behind them.
 fn load_records(image: &[u8], n: usize, m: &mut [u8]) -> usize
-    requires { ⌜ (soundNodes ID-BYTES (nodesFrom ID-BYTES (now image) 4 n) ≡ true) × (n ≤ NODES)
-        × (endFrom ID-BYTES (now image) 4 n ≤ length (now image)) × (memorySize ≤ length (now m)) ⌝ }
-    ensures { λ _. ⌜ memOf (now (m .exit)) ≡ withNodes (overwrite (memOf (now (m .entry)) .nodes) 0
-        (nodesFrom ID-BYTES (now (image .entry)) 4 n)) (memOf (now (m .entry))) ⌝ }
-    ensures { λ _. ⌜ length (now (m .exit)) ≡ length (now (m .entry)) ⌝ }
+    requires { ⌜ (soundNodes ID-BYTES (nodesFrom ID-BYTES (now image) 4 n) ≡ true) × (n ≤ NODES) × (endFrom ID-BYTES (now image) 4 n ≤ length (now image)) × IsMemory m ⌝ }
+    ensures { λ _. ⌜ Becomes m (withNodes (overwrite (was m .nodes) 0 (nodesFrom ID-BYTES (now (image .entry)) 4 n))) ⌝ }
     ensures { λ r. ⌜ r ≡ endFrom ID-BYTES (now (image .entry)) 4 n ⌝ }
 {
     let mut at = 4;
@@ -419,11 +408,8 @@ fn load_records(image: &[u8], n: usize, m: &mut [u8]) -> usize
 
 // The second section's digests as the memory's first digests.
 fn load_digests(image: &[u8], end: usize, m: &mut [u8])
-    requires { ⌜ (end ≡ recordsEnd ID-BYTES (now image)) × (end + 4 + digestCount ID-BYTES (now image) * DIGEST-BYTES ≡ length (now image))
-        × (digestCount ID-BYTES (now image) ≤ PAGES) × (memorySize ≤ length (now m)) ⌝ }
-    ensures { λ _. ⌜ memOf (now (m .exit)) ≡ withDigests (overwrite (memOf (now (m .entry)) .digests) 0
-        (imageDigests ID-BYTES (now (image .entry)))) (memOf (now (m .entry))) ⌝ }
-    ensures { λ _. ⌜ length (now (m .exit)) ≡ length (now (m .entry)) ⌝ }
+    requires { ⌜ (end ≡ recordsEnd ID-BYTES (now image)) × (end + 4 + digestCount ID-BYTES (now image) * DIGEST-BYTES ≡ length (now image)) × (digestCount ID-BYTES (now image) ≤ PAGES) × IsMemory m ⌝ }
+    ensures { λ _. ⌜ Becomes m (withDigests (overwrite (was m .digests) 0 (imageDigests ID-BYTES (now (image .entry))))) ⌝ }
 {
     let k = numbers::u32_at(image, end) as usize;
     let start = end + 4;
@@ -432,9 +418,9 @@ fn load_digests(image: &[u8], end: usize, m: &mut [u8])
 
 // The tables of a sound image put into the memory, in place of its nodes and digests; the number of nodes.
 pub fn load_image(image: &[u8], m: &mut [u8]) -> usize
-    requires { ⌜ (isSome (parse ID-BYTES (now image)) ≡ true) × (memorySize ≤ length (now m)) ⌝ }
+    requires { ⌜ (isSome (parse ID-BYTES (now image)) ≡ true) × IsMemory m ⌝ }
     ensures { λ r. ⌜ Loaded (now (image .entry)) (now (m .entry)) (now (m .exit)) r ⌝ }
-    ensures { λ _. ⌜ length (now (m .exit)) ≡ length (now (m .entry)) ⌝ }
+    ensures { λ _. ⌜ KeepsLength m ⌝ }
 {
     let n = numbers::u32_at(image, 0) as usize;
     let end = load_records(image, n, m);

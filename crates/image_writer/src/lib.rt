@@ -10,8 +10,9 @@ ghost use Rattle.lists.specs.Parts.{overwrite};
 ghost use Rattle.digest.specs.Sha256.{sha256};
 ghost use Rattle.filesystem.specs.Tables.{ID-BYTES, NODES, PAGES, nodeAt, pageTotal};
 ghost use Rattle.filesystem.specs.Image.{nodeForm, print, recordsLength, imageLength};
-ghost use Rattle.memory.specs.Layout.{memOf, memorySize};
+ghost use Rattle.memory.specs.Layout.{memOf};
 ghost use Rattle.image_writer.specs.Width.{nodesIn, imageIn, recordLength, middle};
+ghost use Rattle.memory.specs.Memories.{IsMemory, was};
 
 const ID_BYTES: usize = limits::ID_BYTES;
 
@@ -19,7 +20,7 @@ const ID_BYTES: usize = limits::ID_BYTES;
 
 // The bytes of the first n nodes' records.
 fn records_length(m: &[u8], n: usize) -> usize
-    requires { ⌜ (n ≤ NODES) × (memorySize ≤ length (now m)) ⌝ }
+    requires { ⌜ (n ≤ NODES) × IsMemory m ⌝ }
     ensures { λ r. ⌜ (r ≡ recordsLength ID-BYTES (nodesIn n (now (m .entry)))) × (r ≤ n * 47) ⌝ }
 {
     let mut total: usize = 0;
@@ -35,7 +36,7 @@ fn records_length(m: &[u8], n: usize) -> usize
 
 // The bytes of the image of the first n nodes.
 pub fn image_length(m: &[u8], n: usize) -> usize
-    requires { ⌜ (n ≤ NODES) × (memorySize ≤ length (now m)) ⌝ }
+    requires { ⌜ (n ≤ NODES) × IsMemory m ⌝ }
     ensures { λ r. ⌜ r ≡ imageLength ID-BYTES (nodesIn n (now (m .entry))) ⌝ }
 {
     let pages = tables::first_page(m, n);
@@ -63,11 +64,9 @@ fn write_ids(out: &mut [u8], at: usize, id: u64, parent: u64)
 
 // Node i's record, written over a part of out; the place behind it.
 pub fn write_record(m: &[u8], i: usize, out: &mut [u8], at: usize) -> usize
-    requires { ⌜ (i < NODES) × (memorySize ≤ length (now m))
-        × (at + recordLength ID-BYTES (nodeAt (memOf (now m) .nodes) i) ≤ length (now out)) ⌝ }
-    ensures { λ r. ⌜ now (out .exit) ≡ overwrite (now (out .entry)) at
-        (nodeForm ID-BYTES .put (nodeAt (memOf (now (m .entry)) .nodes) i)) ⌝ }
-    ensures { λ r. ⌜ r ≡ at + recordLength ID-BYTES (nodeAt (memOf (now (m .entry)) .nodes) i) ⌝ }
+    requires { ⌜ (i < NODES) × IsMemory m × (at + recordLength ID-BYTES (nodeAt (memOf (now m) .nodes) i) ≤ length (now out)) ⌝ }
+    ensures { λ r. ⌜ now (out .exit) ≡ overwrite (now (out .entry)) at (nodeForm ID-BYTES .put (nodeAt (was m .nodes) i)) ⌝ }
+    ensures { λ r. ⌜ r ≡ at + recordLength ID-BYTES (nodeAt (was m .nodes) i) ⌝ }
 {
     let name = memory::node_name(m, i);
     let n = name.len();
@@ -88,7 +87,7 @@ pub fn write_record(m: &[u8], i: usize, out: &mut [u8], at: usize) -> usize
 
 // The first n nodes' records, written over a part of out; the place behind them.
 pub fn write_records(m: &[u8], n: usize, out: &mut [u8], at: usize) -> usize
-    requires { ⌜ (n ≤ NODES) × (memorySize ≤ length (now m)) × (at + recordsLength ID-BYTES (nodesIn n (now m)) ≤ length (now out)) ⌝ }
+    requires { ⌜ (n ≤ NODES) × IsMemory m × (at + recordsLength ID-BYTES (nodesIn n (now m)) ≤ length (now out)) ⌝ }
     ensures { λ r. ⌜ now (out .exit) ≡ overwrite (now (out .entry)) at (put-all (nodeForm ID-BYTES) (nodesIn n (now (m .entry)))) ⌝ }
     ensures { λ r. ⌜ r ≡ at + recordsLength ID-BYTES (nodesIn n (now (m .entry))) ⌝ }
 {
@@ -104,8 +103,7 @@ pub fn write_records(m: &[u8], n: usize, out: &mut [u8], at: usize) -> usize
 
 // The image of the first n nodes, written over a part of out; the place behind it.
 pub fn write_image(m: &[u8], n: usize, out: &mut [u8], at: usize) -> usize
-    requires { ⌜ (n ≤ NODES) × (memorySize ≤ length (now m)) × (pageTotal (nodesIn n (now m)) ≤ PAGES)
-        × (at + imageLength ID-BYTES (nodesIn n (now m)) ≤ length (now out)) ⌝ }
+    requires { ⌜ (n ≤ NODES) × IsMemory m × (pageTotal (nodesIn n (now m)) ≤ PAGES) × (at + imageLength ID-BYTES (nodesIn n (now m)) ≤ length (now out)) ⌝ }
     ensures { λ r. ⌜ now (out .exit) ≡ overwrite (now (out .entry)) at (print ID-BYTES (imageIn n (now (m .entry)))) ⌝ }
     ensures { λ r. ⌜ r ≡ at + length (print ID-BYTES (imageIn n (now (m .entry)))) ⌝ }
 {

@@ -16,9 +16,7 @@ fn came(got: isize, buffer: &[u8], at: usize) -> usize
 // What stands before `at` is kept.
 pub fn read_on(fd: i32, buffer: &mut [u8], at: usize) -> usize
     requires { ⌜ at ≤ length (now buffer) ⌝ }
-    ensures { λ r. ⌜ (at + r ≤ length (now (buffer .exit)))
-        × (length (now (buffer .exit)) ≡ length (now (buffer .entry)))
-        × (take at (now (buffer .exit)) ≡ take at (now (buffer .entry))) ⌝ }
+    ensures { λ r. ⌜ (at + r ≤ length (now (buffer .exit))) × (length (now (buffer .exit)) ≡ length (now (buffer .entry))) × (take at (now (buffer .exit)) ≡ take at (now (buffer .entry))) ⌝ }
 {
     let got = libc::read(fd, &mut buffer[at..]);
     came(got, buffer, at)

@@ -1,3 +1,4 @@
 pub mod Records
 pub mod Layout
+pub mod Memories
 pub mod laws

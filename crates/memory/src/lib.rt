@@ -11,6 +11,7 @@ ghost use Rattle.lists.specs.Formats.{bytes};
 ghost use Rattle.filesystem.specs.Tables.{NODES, PAGES, NAME-BYTES, DIGEST-BYTES, nodeAt, openAt, isChild, newNode, newOpenFile, withSize, withCursor, setMode, setSize, setCursor};
 ghost use Rattle.memory.specs.Records.{nodeFront, nodeOf, openOf, openWidth, hintAt};
 ghost use Rattle.memory.specs.Layout.{memOf, memorySize, headNumbers, opensAt, openRows, digestWidth, dataSize, newDigests, stagingSize, withHead, withNodes, withOpens, withDigests, withStaged};
+ghost use Rattle.memory.specs.Memories.{Becomes, IsMemory, was};
 
 // The length that the slice needs; `least_length` says that contracts mean the same by `memorySize`.
 pub const SIZE: usize = STAGING_AT + DATA_SIZE + NEW_DIGESTS * DIGEST_WIDTH;
@@ -50,16 +51,15 @@ pub fn least_length() -> usize
 
 // Number k of the header.
 pub fn head(m: &[u8], k: usize) -> u64
-    requires { ⌜ (k < headNumbers) × (memorySize ≤ length (now m)) ⌝ }
-    ensures { λ r. ⌜ r ≡ getD (memOf (now (m .entry)) .head) k 0 ⌝ }
+    requires { ⌜ (k < headNumbers) × IsMemory m ⌝ }
+    ensures { λ r. ⌜ r ≡ getD (was m .head) k 0 ⌝ }
 {
     numbers::u64_at(m, k * 8)
 }
 
 pub fn put_head(m: &mut [u8], k: usize, x: u64)
-    requires { ⌜ (k < headNumbers) × (memorySize ≤ length (now m)) ⌝ }
-    ensures { λ _. ⌜ memOf (now (m .exit)) ≡ withHead (set (memOf (now (m .entry)) .head) k x) (memOf (now (m .entry))) ⌝ }
-    ensures { λ _. ⌜ length (now (m .exit)) ≡ length (now (m .entry)) ⌝ }
+    requires { ⌜ (k < headNumbers) × IsMemory m ⌝ }
+    ensures { λ _. ⌜ Becomes m (withHead (set (was m .head) k x)) ⌝ }
 {
     let b = numbers::bytes8(x);
     buffers::put(m, k * 8, &b);
@@ -68,36 +68,36 @@ pub fn put_head(m: &mut [u8], k: usize, x: u64)
 // ---- nodes
 
 pub fn node_id(m: &[u8], i: usize) -> u64
-    requires { ⌜ (i < NODES) × (memorySize ≤ length (now m)) ⌝ }
-    ensures { λ r. ⌜ r ≡ nodeAt (memOf (now (m .entry)) .nodes) i .id ⌝ }
+    requires { ⌜ (i < NODES) × IsMemory m ⌝ }
+    ensures { λ r. ⌜ r ≡ nodeAt (was m .nodes) i .id ⌝ }
 {
     numbers::u64_at(m, NODES_AT + i * NODE_WIDTH)
 }
 
 pub fn node_parent(m: &[u8], i: usize) -> u64
-    requires { ⌜ (i < NODES) × (memorySize ≤ length (now m)) ⌝ }
-    ensures { λ r. ⌜ r ≡ nodeAt (memOf (now (m .entry)) .nodes) i .parent ⌝ }
+    requires { ⌜ (i < NODES) × IsMemory m ⌝ }
+    ensures { λ r. ⌜ r ≡ nodeAt (was m .nodes) i .parent ⌝ }
 {
     numbers::u64_at(m, NODES_AT + i * NODE_WIDTH + 8)
 }
 
 pub fn node_kind(m: &[u8], i: usize) -> u8
-    requires { ⌜ (i < NODES) × (memorySize ≤ length (now m)) ⌝ }
-    ensures { λ r. ⌜ r ≡ nodeAt (memOf (now (m .entry)) .nodes) i .kind ⌝ }
+    requires { ⌜ (i < NODES) × IsMemory m ⌝ }
+    ensures { λ r. ⌜ r ≡ nodeAt (was m .nodes) i .kind ⌝ }
 {
     m[NODES_AT + i * NODE_WIDTH + 16]
 }
 
 pub fn node_mode(m: &[u8], i: usize) -> u8
-    requires { ⌜ (i < NODES) × (memorySize ≤ length (now m)) ⌝ }
-    ensures { λ r. ⌜ r ≡ nodeAt (memOf (now (m .entry)) .nodes) i .mode ⌝ }
+    requires { ⌜ (i < NODES) × IsMemory m ⌝ }
+    ensures { λ r. ⌜ r ≡ nodeAt (was m .nodes) i .mode ⌝ }
 {
     m[NODES_AT + i * NODE_WIDTH + 17]
 }
 
 pub fn node_size(m: &[u8], i: usize) -> u32
-    requires { ⌜ (i < NODES) × (memorySize ≤ length (now m)) ⌝ }
-    ensures { λ r. ⌜ r ≡ nodeAt (memOf (now (m .entry)) .nodes) i .size ⌝ }
+    requires { ⌜ (i < NODES) × IsMemory m ⌝ }
+    ensures { λ r. ⌜ r ≡ nodeAt (was m .nodes) i .size ⌝ }
 {
     numbers::u32_at(m, NODES_AT + i * NODE_WIDTH + 18)
 }
@@ -113,8 +113,8 @@ fn name_length(b: u8) -> usize
 }
 
 pub fn node_name(m: &[u8], i: usize) -> &[u8]
-    requires { ⌜ (i < NODES) × (memorySize ≤ length (now m)) ⌝ }
-    ensures { λ r. ⌜ (now r ≡ nodeAt (memOf (now (m .entry)) .nodes) i .name) × (length (now r) ≤ NAME-BYTES) ⌝ }
+    requires { ⌜ (i < NODES) × IsMemory m ⌝ }
+    ensures { λ r. ⌜ (now r ≡ nodeAt (was m .nodes) i .name) × (length (now r) ≤ NAME-BYTES) ⌝ }
 {
     let at = NODES_AT + i * NODE_WIDTH;
     let n = name_length(m[at + 22]);
@@ -126,8 +126,8 @@ pub fn node_name(m: &[u8], i: usize) -> &[u8]
 // Whether node i has this parent and this name. The row's own length comes last: all else hangs on the searched name's, so that a search is
 // compiled to a loop for each class of lengths.
 pub fn is_child(m: &[u8], i: usize, parent: u64, name: &[u8]) -> bool
-    requires { ⌜ (i < NODES) × (memorySize ≤ length (now m)) ⌝ }
-    ensures { λ r. ⌜ r ≡ isChild parent (now (name .entry)) (nodeAt (memOf (now (m .entry)) .nodes) i) ⌝ }
+    requires { ⌜ (i < NODES) × IsMemory m ⌝ }
+    ensures { λ r. ⌜ r ≡ isChild parent (now (name .entry)) (nodeAt (was m .nodes) i) ⌝ }
 {
     if node_parent(m, i) != parent {
         return false;
@@ -199,35 +199,30 @@ pub fn node_row(
 }
 
 pub fn put_node(m: &mut [u8], i: usize, row: [u8; NODE_WIDTH])
-    requires { ⌜ (i < NODES) × (memorySize ≤ length (now m)) ⌝ }
-    ensures { λ _. ⌜ memOf (now (m .exit)) ≡ withNodes (set (memOf (now (m .entry)) .nodes) i (nodeOf row)) (memOf (now (m .entry))) ⌝ }
-    ensures { λ _. ⌜ length (now (m .exit)) ≡ length (now (m .entry)) ⌝ }
+    requires { ⌜ (i < NODES) × IsMemory m ⌝ }
+    ensures { λ _. ⌜ Becomes m (withNodes (set (was m .nodes) i (nodeOf row))) ⌝ }
 {
     buffers::put(m, NODES_AT + i * NODE_WIDTH, &row);
 }
 
 pub fn set_mode(m: &mut [u8], i: usize, mode: u8)
-    requires { ⌜ (i < NODES) × (memorySize ≤ length (now m)) ⌝ }
-    ensures { λ _. ⌜ memOf (now (m .exit)) ≡ withNodes (setMode (memOf (now (m .entry)) .nodes) i mode) (memOf (now (m .entry))) ⌝ }
-    ensures { λ _. ⌜ length (now (m .exit)) ≡ length (now (m .entry)) ⌝ }
+    requires { ⌜ (i < NODES) × IsMemory m ⌝ }
+    ensures { λ _. ⌜ Becomes m (withNodes (setMode (was m .nodes) i mode)) ⌝ }
 {
     m[NODES_AT + i * NODE_WIDTH + 17] = mode;
 }
 
 pub fn set_size(m: &mut [u8], i: usize, size: u32)
-    requires { ⌜ (i < NODES) × (memorySize ≤ length (now m)) ⌝ }
-    ensures { λ _. ⌜ memOf (now (m .exit)) ≡ withNodes (setSize (memOf (now (m .entry)) .nodes) i size) (memOf (now (m .entry))) ⌝ }
-    ensures { λ _. ⌜ length (now (m .exit)) ≡ length (now (m .entry)) ⌝ }
+    requires { ⌜ (i < NODES) × IsMemory m ⌝ }
+    ensures { λ _. ⌜ Becomes m (withNodes (setSize (was m .nodes) i size)) ⌝ }
 {
     let b = numbers::bytes4(size);
     buffers::put(m, NODES_AT + i * NODE_WIDTH + 18, &b);
 }
 
 pub fn move_nodes(m: &mut [u8], from: usize, to: usize, n: usize)
-    requires { ⌜ (from + n ≤ NODES) × (to + n ≤ NODES) × (memorySize ≤ length (now m)) ⌝ }
-    ensures { λ _. ⌜ memOf (now (m .exit)) ≡ withNodes (overwrite (memOf (now (m .entry)) .nodes) to
-        (part from n (memOf (now (m .entry)) .nodes))) (memOf (now (m .entry))) ⌝ }
-    ensures { λ _. ⌜ length (now (m .exit)) ≡ length (now (m .entry)) ⌝ }
+    requires { ⌜ (from + n ≤ NODES) × (to + n ≤ NODES) × IsMemory m ⌝ }
+    ensures { λ _. ⌜ Becomes m (withNodes (overwrite (was m .nodes) to (part from n (was m .nodes)))) ⌝ }
 {
     buffers::shift(
         m,
@@ -240,36 +235,36 @@ pub fn move_nodes(m: &mut [u8], from: usize, to: usize, n: usize)
 // ---- open files
 
 pub fn open_handle(m: &[u8], i: usize) -> u64
-    requires { ⌜ (i < openRows) × (memorySize ≤ length (now m)) ⌝ }
-    ensures { λ r. ⌜ r ≡ openAt (memOf (now (m .entry)) .opens) i .handle ⌝ }
+    requires { ⌜ (i < openRows) × IsMemory m ⌝ }
+    ensures { λ r. ⌜ r ≡ openAt (was m .opens) i .handle ⌝ }
 {
     numbers::u64_at(m, OPENS_AT + i * OPEN_WIDTH)
 }
 
 pub fn open_descriptor(m: &[u8], i: usize) -> u32
-    requires { ⌜ (i < openRows) × (memorySize ≤ length (now m)) ⌝ }
-    ensures { λ r. ⌜ r ≡ openAt (memOf (now (m .entry)) .opens) i .descriptor ⌝ }
+    requires { ⌜ (i < openRows) × IsMemory m ⌝ }
+    ensures { λ r. ⌜ r ≡ openAt (was m .opens) i .descriptor ⌝ }
 {
     numbers::u32_at(m, OPENS_AT + i * OPEN_WIDTH + 8)
 }
 
 pub fn open_rights(m: &[u8], i: usize) -> u8
-    requires { ⌜ (i < openRows) × (memorySize ≤ length (now m)) ⌝ }
-    ensures { λ r. ⌜ r ≡ openAt (memOf (now (m .entry)) .opens) i .rights ⌝ }
+    requires { ⌜ (i < openRows) × IsMemory m ⌝ }
+    ensures { λ r. ⌜ r ≡ openAt (was m .opens) i .rights ⌝ }
 {
     m[OPENS_AT + i * OPEN_WIDTH + 12]
 }
 
 pub fn open_cursor(m: &[u8], i: usize) -> u32
-    requires { ⌜ (i < openRows) × (memorySize ≤ length (now m)) ⌝ }
-    ensures { λ r. ⌜ r ≡ openAt (memOf (now (m .entry)) .opens) i .cursor ⌝ }
+    requires { ⌜ (i < openRows) × IsMemory m ⌝ }
+    ensures { λ r. ⌜ r ≡ openAt (was m .opens) i .cursor ⌝ }
 {
     numbers::u32_at(m, OPENS_AT + i * OPEN_WIDTH + 16)
 }
 
 // Where the node of open file i stood when it was opened. A removal may have moved it, so this is where a search begins and no more.
 pub fn open_hint(m: &[u8], i: usize) -> u8
-    requires { ⌜ (i < openRows) × (memorySize ≤ length (now m)) ⌝ }
+    requires { ⌜ (i < openRows) × IsMemory m ⌝ }
     ensures { λ r. ⌜ r ≡ getD (now (m .entry)) (opensAt + i * openWidth + hintAt) 0 ⌝ }
 {
     m[OPENS_AT + i * OPEN_WIDTH + 13]
@@ -311,27 +306,23 @@ pub fn open_row(handle: u64, descriptor: u32, rights: u8, hint: u8, cursor: u32)
 }
 
 pub fn put_open(m: &mut [u8], i: usize, row: [u8; OPEN_WIDTH])
-    requires { ⌜ (i < openRows) × (memorySize ≤ length (now m)) ⌝ }
-    ensures { λ _. ⌜ memOf (now (m .exit)) ≡ withOpens (set (memOf (now (m .entry)) .opens) i (openOf row)) (memOf (now (m .entry))) ⌝ }
-    ensures { λ _. ⌜ length (now (m .exit)) ≡ length (now (m .entry)) ⌝ }
+    requires { ⌜ (i < openRows) × IsMemory m ⌝ }
+    ensures { λ _. ⌜ Becomes m (withOpens (set (was m .opens) i (openOf row))) ⌝ }
 {
     buffers::put(m, OPENS_AT + i * OPEN_WIDTH, &row);
 }
 
 pub fn set_cursor(m: &mut [u8], i: usize, cursor: u32)
-    requires { ⌜ (i < openRows) × (memorySize ≤ length (now m)) ⌝ }
-    ensures { λ _. ⌜ memOf (now (m .exit)) ≡ withOpens (setCursor (memOf (now (m .entry)) .opens) i cursor) (memOf (now (m .entry))) ⌝ }
-    ensures { λ _. ⌜ length (now (m .exit)) ≡ length (now (m .entry)) ⌝ }
+    requires { ⌜ (i < openRows) × IsMemory m ⌝ }
+    ensures { λ _. ⌜ Becomes m (withOpens (setCursor (was m .opens) i cursor)) ⌝ }
 {
     let b = numbers::bytes4(cursor);
     buffers::put(m, OPENS_AT + i * OPEN_WIDTH + 16, &b);
 }
 
 pub fn move_opens(m: &mut [u8], from: usize, to: usize, n: usize)
-    requires { ⌜ (from + n ≤ openRows) × (to + n ≤ openRows) × (memorySize ≤ length (now m)) ⌝ }
-    ensures { λ _. ⌜ memOf (now (m .exit)) ≡ withOpens (overwrite (memOf (now (m .entry)) .opens) to
-        (part from n (memOf (now (m .entry)) .opens))) (memOf (now (m .entry))) ⌝ }
-    ensures { λ _. ⌜ length (now (m .exit)) ≡ length (now (m .entry)) ⌝ }
+    requires { ⌜ (from + n ≤ openRows) × (to + n ≤ openRows) × IsMemory m ⌝ }
+    ensures { λ _. ⌜ Becomes m (withOpens (overwrite (was m .opens) to (part from n (was m .opens)))) ⌝ }
 {
     buffers::shift(
         m,
@@ -344,8 +335,8 @@ pub fn move_opens(m: &mut [u8], from: usize, to: usize, n: usize)
 // ---- digests
 
 pub fn digest(m: &[u8], k: usize) -> &[u8]
-    requires { ⌜ (k < PAGES) × (memorySize ≤ length (now m)) ⌝ }
-    ensures { λ r. ⌜ (now r ≡ getD (memOf (now (m .entry)) .digests) k []) × (length (now r) ≡ DIGEST-BYTES) ⌝ }
+    requires { ⌜ (k < PAGES) × IsMemory m ⌝ }
+    ensures { λ r. ⌜ (now r ≡ getD (was m .digests) k []) × (length (now r) ≡ DIGEST-BYTES) ⌝ }
 {
     let at = DIGESTS_AT + k * DIGEST_WIDTH;
     let end = at + DIGEST_WIDTH;
@@ -353,18 +344,15 @@ pub fn digest(m: &[u8], k: usize) -> &[u8]
 }
 
 pub fn put_digest(m: &mut [u8], k: usize, x: [u8; DIGEST_WIDTH])
-    requires { ⌜ (k < PAGES) × (memorySize ≤ length (now m)) ⌝ }
-    ensures { λ _. ⌜ memOf (now (m .exit)) ≡ withDigests (set (memOf (now (m .entry)) .digests) k x) (memOf (now (m .entry))) ⌝ }
-    ensures { λ _. ⌜ length (now (m .exit)) ≡ length (now (m .entry)) ⌝ }
+    requires { ⌜ (k < PAGES) × IsMemory m ⌝ }
+    ensures { λ _. ⌜ Becomes m (withDigests (set (was m .digests) k x)) ⌝ }
 {
     buffers::put(m, DIGESTS_AT + k * DIGEST_WIDTH, &x);
 }
 
 pub fn move_digests(m: &mut [u8], from: usize, to: usize, n: usize)
-    requires { ⌜ (from + n ≤ PAGES) × (to + n ≤ PAGES) × (memorySize ≤ length (now m)) ⌝ }
-    ensures { λ _. ⌜ memOf (now (m .exit)) ≡ withDigests (overwrite (memOf (now (m .entry)) .digests) to
-        (part from n (memOf (now (m .entry)) .digests))) (memOf (now (m .entry))) ⌝ }
-    ensures { λ _. ⌜ length (now (m .exit)) ≡ length (now (m .entry)) ⌝ }
+    requires { ⌜ (from + n ≤ PAGES) × (to + n ≤ PAGES) × IsMemory m ⌝ }
+    ensures { λ _. ⌜ Becomes m (withDigests (overwrite (was m .digests) to (part from n (was m .digests)))) ⌝ }
 {
     buffers::shift(
         m,
@@ -376,9 +364,8 @@ pub fn move_digests(m: &mut [u8], from: usize, to: usize, n: usize)
 
 // The first n digests, one behind the other.
 pub fn digests(m: &[u8], n: usize) -> &[u8]
-    requires { ⌜ (n ≤ PAGES) × (memorySize ≤ length (now m)) ⌝ }
-    ensures { λ r. ⌜ (now r ≡ put-all (bytes digestWidth) (take n (memOf (now (m .entry)) .digests)))
-        × (length (now r) ≡ n * digestWidth) ⌝ }
+    requires { ⌜ (n ≤ PAGES) × IsMemory m ⌝ }
+    ensures { λ r. ⌜ (now r ≡ put-all (bytes digestWidth) (take n (was m .digests))) × (length (now r) ≡ n * digestWidth) ⌝ }
 {
     let at = DIGESTS_AT;
     let end = at + n * DIGEST_WIDTH;
@@ -387,10 +374,8 @@ pub fn digests(m: &[u8], n: usize) -> &[u8]
 
 // n digests that stand one behind the other, kept as the first n.
 pub fn put_digests(m: &mut [u8], n: usize, x: &[u8])
-    requires { ⌜ (n ≤ PAGES) × (length (now x) ≡ n * digestWidth) × (memorySize ≤ length (now m)) ⌝ }
-    ensures { λ _. ⌜ memOf (now (m .exit)) ≡ withDigests (overwrite (memOf (now (m .entry)) .digests) 0
-        (rows digestWidth n (now (x .entry)))) (memOf (now (m .entry))) ⌝ }
-    ensures { λ _. ⌜ length (now (m .exit)) ≡ length (now (m .entry)) ⌝ }
+    requires { ⌜ (n ≤ PAGES) × (length (now x) ≡ n * digestWidth) × IsMemory m ⌝ }
+    ensures { λ _. ⌜ Becomes m (withDigests (overwrite (was m .digests) 0 (rows digestWidth n (now (x .entry))))) ⌝ }
 {
     buffers::put(m, DIGESTS_AT, x);
 }
@@ -398,8 +383,8 @@ pub fn put_digests(m: &mut [u8], n: usize, x: &[u8])
 // ---- the staging area
 
 pub fn staged(m: &[u8], at: usize, n: usize) -> &[u8]
-    requires { ⌜ (at + n ≤ stagingSize) × (memorySize ≤ length (now m)) ⌝ }
-    ensures { λ r. ⌜ (now r ≡ part at n (memOf (now (m .entry)) .staged)) × (length (now r) ≡ n) ⌝ }
+    requires { ⌜ (at + n ≤ stagingSize) × IsMemory m ⌝ }
+    ensures { λ r. ⌜ (now r ≡ part at n (was m .staged)) × (length (now r) ≡ n) ⌝ }
 {
     let start = STAGING_AT + at;
     let end = start + n;
@@ -407,30 +392,24 @@ pub fn staged(m: &[u8], at: usize, n: usize) -> &[u8]
 }
 
 pub fn stage(m: &mut [u8], at: usize, x: &[u8])
-    requires { ⌜ (at + length (now x) ≤ stagingSize) × (memorySize ≤ length (now m)) ⌝ }
-    ensures { λ _. ⌜ memOf (now (m .exit)) ≡ withStaged (overwrite (memOf (now (m .entry)) .staged) at (now (x .entry)))
-        (memOf (now (m .entry))) ⌝ }
-    ensures { λ _. ⌜ length (now (m .exit)) ≡ length (now (m .entry)) ⌝ }
+    requires { ⌜ (at + length (now x) ≤ stagingSize) × IsMemory m ⌝ }
+    ensures { λ _. ⌜ Becomes m (withStaged (overwrite (was m .staged) at (now (x .entry)))) ⌝ }
 {
     buffers::put(m, STAGING_AT + at, x);
 }
 
 // Digest k of the new ones in the staging area.
 pub fn stage_digest(m: &mut [u8], k: usize, x: [u8; DIGEST_WIDTH])
-    requires { ⌜ (k < newDigests) × (memorySize ≤ length (now m)) ⌝ }
-    ensures { λ _. ⌜ memOf (now (m .exit)) ≡ withStaged (overwrite (memOf (now (m .entry)) .staged) (dataSize + k * digestWidth) x)
-        (memOf (now (m .entry))) ⌝ }
-    ensures { λ _. ⌜ length (now (m .exit)) ≡ length (now (m .entry)) ⌝ }
+    requires { ⌜ (k < newDigests) × IsMemory m ⌝ }
+    ensures { λ _. ⌜ Becomes m (withStaged (overwrite (was m .staged) (dataSize + k * digestWidth) x)) ⌝ }
 {
     buffers::put(m, STAGING_AT + (DATA_SIZE + k * DIGEST_WIDTH), &x);
 }
 
 // The first n new digests, kept from digest i on.
 pub fn keep_digests(m: &mut [u8], i: usize, n: usize)
-    requires { ⌜ (i + n ≤ PAGES) × (n ≤ newDigests) × (memorySize ≤ length (now m)) ⌝ }
-    ensures { λ _. ⌜ memOf (now (m .exit)) ≡ withDigests (overwrite (memOf (now (m .entry)) .digests) i
-        (rows digestWidth n (part dataSize (n * digestWidth) (memOf (now (m .entry)) .staged)))) (memOf (now (m .entry))) ⌝ }
-    ensures { λ _. ⌜ length (now (m .exit)) ≡ length (now (m .entry)) ⌝ }
+    requires { ⌜ (i + n ≤ PAGES) × (n ≤ newDigests) × IsMemory m ⌝ }
+    ensures { λ _. ⌜ Becomes m (withDigests (overwrite (was m .digests) i (rows digestWidth n (part dataSize (n * digestWidth) (was m .staged))))) ⌝ }
 {
     buffers::shift(
         m,

@@ -3,8 +3,9 @@ ghost use mathlib.Core.Path.{_≡_};
 ghost use Prim.Native.Nat.{_+_, _-_, _<_, _≤_, min, max};
 ghost use lib.ListN.{length};
 ghost use Rattle.lists.specs.LittleEndian.{encode, decode};
-ghost use Rattle.lists.specs.Parts.{part, overwrite};
+ghost use Rattle.lists.specs.Parts.{part};
 ghost use Rattle.lists.specs.Signed.{signed};
+ghost use Rattle.numbers.specs.Slices.{Overwritten};
 
 fn wide(b: u8) -> u64
     ensures { λ r. ⌜ (r ≡ b) × (r < 256) ⌝ }
@@ -111,7 +112,7 @@ pub fn number_at(b: &[u8], at: usize, w: usize) -> u64
 // The w low bytes of a number, written over a part of m.
 pub fn put_number(m: &mut [u8], at: usize, w: usize, x: u64)
     requires { ⌜ at + w ≤ length (now m) ⌝ }
-    ensures { λ _. ⌜ now (m .exit) ≡ overwrite (now (m .entry)) at (encode w x) ⌝ }
+    ensures { λ _. ⌜ Overwritten m at (encode w x) ⌝ }
 {
     let mut y = x;
     let mut i = 0;

@@ -3,10 +3,14 @@
 use mathlib.Core.Path.{_≡_}
 use mathlib.Core.List.{List}
 use Prim.Native.Nat.{ℕ}
+use lib.ListN.{length}
+use denote.Ref.{now}
+use Rattle.numbers.specs.Slices.{Lent, KeepsLength}
+use Rattle.rules.specs.Requests.{Pending}
 use Rattle.rules.specs.Skeleton.{Config, answerBytes, requestBytes, atFront}
 use Rattle.machine.specs.Machine.{State, Result, guard as digestStore}
-use Rattle.guard_state.specs.State.{stateOf}
-use Rattle.guard_state.specs.Waits.{stops}
+use Rattle.guard_state.specs.State.{stateOf, gatheredNone}
+use Rattle.guard_state.specs.Waits.{waits, stops}
 use Rattle.outcomes.specs.declared.Outcome.{Outcome}
 use Rattle.outcomes.specs.declared.Outcome.the-variants.{Done, Ask, Refused, Stopped}
 use Rattle.outcomes.specs.Values.{lengthOf, bytesIn, answerIn}
@@ -39,3 +43,10 @@ pub record Leaves (c : Config) (x : Result (digestStore c)) (r : Outcome) (m a a
   pub count : lengthOf r ≡ bytesIn (x .outcome .answer)
   pub filled : a′ ≡ atFront (answerBytes (x .outcome .answer)) a
   pub request : q′ ≡ atFront (requestBytes (x .outcome .answer)) q
+
+-- a call waits as p, and its request x goes out
+abbrev pub Asks : (m q : Lent) → Pending → (x : List ℕ) → Outcome → Type 0
+Asks m q p x r = ((c : Config) → stateOf c (now (m .exit)) ≡ waits c (stateOf c (now (m .entry))) p gatheredNone)
+    × KeepsLength m
+    × (now (q .exit) ≡ atFront x (now (q .entry)))
+    × (r ≡ Ask (length x))

@@ -2,9 +2,8 @@
 // changed here.
 ghost use mathlib.Core.Path.{_≡_};
 ghost use Prim.Native.Nat.{ℕ, _<_, _≤_};
-ghost use lib.ListN.{length, take};
 ghost use Rattle.filesystem.specs.Tables.{NODES};
-ghost use Rattle.memory.specs.Layout.{memOf, memorySize, openRows};
+ghost use Rattle.memory.specs.Layout.{openRows};
 ghost use Rattle.tables.specs.View.{tablesIn};
 ghost use Rattle.rules.specs.Calls.{create, openAs, remove, rmdir, readdir, stat};
 ghost use Rattle.paths.specs.Parts.{componentsOf};
@@ -12,6 +11,7 @@ ghost use Rattle.paths.specs.Walks.{childStep};
 ghost use Rattle.path_calls.specs.Judged.{nodeFor, wayFor, placeFor};
 ghost use Rattle.path_calls.specs.Reached.{wayOf, walkedBoth};
 ghost use Rattle.path_calls.specs.Own.{openOwn, readdirOwn, removeOwn, rmdirOwn, nameOwn, newOwn};
+ghost use Rattle.memory.specs.Memories.{IsMemory, nodesOf, was};
 
 // Where a path leads: the places of its node and of the directory that holds it, or the number that stops the call.
 pub enum Way {
@@ -21,8 +21,8 @@ pub enum Way {
 
 // chmod and stat: 22, 36, then the walk's 20, 13, 2.
 pub fn judge_reach(m: &[u8], n: usize, path: &[u8]) -> paths::Walked
-    requires { ⌜ (0 < n) × (n ≤ NODES) × (memorySize ≤ length (now m)) ⌝ }
-    ensures { λ r. ⌜ ((o : ℕ) → r ≡ nodeFor (tablesIn n o (memOf (now (m .entry)))) (now (path .entry)) stat) ⌝ }
+    requires { ⌜ (0 < n) × (n ≤ NODES) × IsMemory m ⌝ }
+    ensures { λ r. ⌜ ((o : ℕ) → r ≡ nodeFor (tablesIn n o (was m)) (now (path .entry)) stat) ⌝ }
 {
     let f = paths::form(path);
     match f {
@@ -36,8 +36,8 @@ pub fn judge_reach(m: &[u8], n: usize, path: &[u8]) -> paths::Walked
 
 // open on node k: 21, 13, 16, 24.
 fn open_own(m: &[u8], n: usize, o: usize, k: usize, rights: u8) -> paths::Walked
-    requires { ⌜ (k < n) × (n ≤ NODES) × (o ≤ openRows) × (memorySize ≤ length (now m)) ⌝ }
-    ensures { λ r. ⌜ r ≡ openOwn (tablesIn n o (memOf (now (m .entry)))) k rights ⌝ }
+    requires { ⌜ (k < n) × (n ≤ NODES) × (o ≤ openRows) × IsMemory m ⌝ }
+    ensures { λ r. ⌜ r ≡ openOwn (tablesIn n o (was m)) k rights ⌝ }
 {
     if memory::node_kind(m, k) == 2 {
         return paths::Walked::Refused(21);
@@ -56,8 +56,8 @@ fn open_own(m: &[u8], n: usize, o: usize, k: usize, rights: u8) -> paths::Walked
 
 // open: stat's numbers, then its own.
 pub fn judge_open(m: &[u8], n: usize, o: usize, path: &[u8], rights: u8) -> paths::Walked
-    requires { ⌜ (0 < n) × (n ≤ NODES) × (o ≤ openRows) × (memorySize ≤ length (now m)) ⌝ }
-    ensures { λ r. ⌜ r ≡ nodeFor (tablesIn n o (memOf (now (m .entry)))) (now (path .entry)) (openAs rights) ⌝ }
+    requires { ⌜ (0 < n) × (n ≤ NODES) × (o ≤ openRows) × IsMemory m ⌝ }
+    ensures { λ r. ⌜ r ≡ nodeFor (tablesIn n o (was m)) (now (path .entry)) (openAs rights) ⌝ }
 {
     let w = judge_reach(m, n, path);
     match w {
@@ -68,8 +68,8 @@ pub fn judge_open(m: &[u8], n: usize, o: usize, path: &[u8], rights: u8) -> path
 
 // readdir on node k: 20, 13 (bit 4).
 fn readdir_own(m: &[u8], n: usize, k: usize) -> paths::Walked
-    requires { ⌜ (k < n) × (n ≤ NODES) × (memorySize ≤ length (now m)) ⌝ }
-    ensures { λ r. ⌜ r ≡ readdirOwn (take n (memOf (now (m .entry)) .nodes)) k ⌝ }
+    requires { ⌜ (k < n) × (n ≤ NODES) × IsMemory m ⌝ }
+    ensures { λ r. ⌜ r ≡ readdirOwn (nodesOf n m) k ⌝ }
 {
     if memory::node_kind(m, k) != 2 {
         return paths::Walked::Refused(20);
@@ -82,8 +82,8 @@ fn readdir_own(m: &[u8], n: usize, k: usize) -> paths::Walked
 
 // readdir: stat's numbers, then its own.
 pub fn judge_readdir(m: &[u8], n: usize, path: &[u8]) -> paths::Walked
-    requires { ⌜ (0 < n) × (n ≤ NODES) × (memorySize ≤ length (now m)) ⌝ }
-    ensures { λ r. ⌜ ((o : ℕ) → r ≡ nodeFor (tablesIn n o (memOf (now (m .entry)))) (now (path .entry)) readdir) ⌝ }
+    requires { ⌜ (0 < n) × (n ≤ NODES) × IsMemory m ⌝ }
+    ensures { λ r. ⌜ ((o : ℕ) → r ≡ nodeFor (tablesIn n o (was m)) (now (path .entry)) readdir) ⌝ }
 {
     let w = judge_reach(m, n, path);
     match w {
@@ -96,8 +96,8 @@ pub fn judge_readdir(m: &[u8], n: usize, path: &[u8]) -> paths::Walked
 
 // The last step of a walk, from the directory in place `parent`.
 fn step_from(m: &[u8], n: usize, parent: usize, name: &[u8]) -> Way
-    requires { ⌜ (parent < n) × (n ≤ NODES) × (memorySize ≤ length (now m)) ⌝ }
-    ensures { λ r. ⌜ r ≡ wayOf parent (childStep (take n (memOf (now (m .entry)) .nodes)) parent (now (name .entry))) ⌝ }
+    requires { ⌜ (parent < n) × (n ≤ NODES) × IsMemory m ⌝ }
+    ensures { λ r. ⌜ r ≡ wayOf parent (childStep (nodesOf n m) parent (now (name .entry))) ⌝ }
 {
     let w = paths::last_step(m, n, parent, name);
     match w {
@@ -108,8 +108,8 @@ fn step_from(m: &[u8], n: usize, parent: usize, name: &[u8]) -> Way
 
 // A walk that keeps the directory of its last step.
 fn walk_both(m: &[u8], n: usize, path: &[u8]) -> Way
-    requires { ⌜ (0 < n) × (n ≤ NODES) × (memorySize ≤ length (now m)) ⌝ }
-    ensures { λ r. ⌜ r ≡ walkedBoth (take n (memOf (now (m .entry)) .nodes)) (componentsOf (now (path .entry))) ⌝ }
+    requires { ⌜ (0 < n) × (n ≤ NODES) × IsMemory m ⌝ }
+    ensures { λ r. ⌜ r ≡ walkedBoth (nodesOf n m) (componentsOf (now (path .entry))) ⌝ }
 {
     let w = paths::walk_parent(m, n, path);
     match w {
@@ -121,8 +121,8 @@ fn walk_both(m: &[u8], n: usize, path: &[u8]) -> Way
 
 // The same as a call is judged: 22 and 36 first.
 fn judge_way(m: &[u8], n: usize, path: &[u8]) -> Way
-    requires { ⌜ (0 < n) × (n ≤ NODES) × (memorySize ≤ length (now m)) ⌝ }
-    ensures { λ r. ⌜ ((o : ℕ) → r ≡ wayFor (tablesIn n o (memOf (now (m .entry)))) (now (path .entry)) stat) ⌝ }
+    requires { ⌜ (0 < n) × (n ≤ NODES) × IsMemory m ⌝ }
+    ensures { λ r. ⌜ ((o : ℕ) → r ≡ wayFor (tablesIn n o (was m)) (now (path .entry)) stat) ⌝ }
 {
     let f = paths::form(path);
     match f {
@@ -134,8 +134,8 @@ fn judge_way(m: &[u8], n: usize, path: &[u8]) -> Way
 
 // remove of node k in directory d: 21, 13 (the directory's bit 2), 16.
 fn remove_own(m: &[u8], n: usize, o: usize, k: usize, d: usize) -> paths::Walked
-    requires { ⌜ (k < n) × (d < n) × (n ≤ NODES) × (o ≤ openRows) × (memorySize ≤ length (now m)) ⌝ }
-    ensures { λ r. ⌜ r ≡ removeOwn (tablesIn n o (memOf (now (m .entry)))) k d ⌝ }
+    requires { ⌜ (k < n) × (d < n) × (n ≤ NODES) × (o ≤ openRows) × IsMemory m ⌝ }
+    ensures { λ r. ⌜ r ≡ removeOwn (tablesIn n o (was m)) k d ⌝ }
 {
     if memory::node_kind(m, k) == 2 {
         return paths::Walked::Refused(21);
@@ -151,8 +151,8 @@ fn remove_own(m: &[u8], n: usize, o: usize, k: usize, d: usize) -> paths::Walked
 
 // remove: stat's numbers, then its own.
 pub fn judge_remove(m: &[u8], n: usize, o: usize, path: &[u8]) -> paths::Walked
-    requires { ⌜ (0 < n) × (n ≤ NODES) × (o ≤ openRows) × (memorySize ≤ length (now m)) ⌝ }
-    ensures { λ r. ⌜ r ≡ nodeFor (tablesIn n o (memOf (now (m .entry)))) (now (path .entry)) remove ⌝ }
+    requires { ⌜ (0 < n) × (n ≤ NODES) × (o ≤ openRows) × IsMemory m ⌝ }
+    ensures { λ r. ⌜ r ≡ nodeFor (tablesIn n o (was m)) (now (path .entry)) remove ⌝ }
 {
     let w = judge_way(m, n, path);
     match w {
@@ -163,8 +163,8 @@ pub fn judge_remove(m: &[u8], n: usize, o: usize, path: &[u8]) -> paths::Walked
 
 // rmdir of node k in directory d: 16 (the root), 20, 13 (the directory's bit 2), 39.
 fn rmdir_own(m: &[u8], n: usize, k: usize, d: usize) -> paths::Walked
-    requires { ⌜ (k < n) × (d < n) × (n ≤ NODES) × (memorySize ≤ length (now m)) ⌝ }
-    ensures { λ r. ⌜ r ≡ rmdirOwn (take n (memOf (now (m .entry)) .nodes)) k d ⌝ }
+    requires { ⌜ (k < n) × (d < n) × (n ≤ NODES) × IsMemory m ⌝ }
+    ensures { λ r. ⌜ r ≡ rmdirOwn (nodesOf n m) k d ⌝ }
 {
     if k == 0 {
         return paths::Walked::Refused(16);
@@ -183,8 +183,8 @@ fn rmdir_own(m: &[u8], n: usize, k: usize, d: usize) -> paths::Walked
 
 // rmdir: stat's numbers, then its own.
 pub fn judge_rmdir(m: &[u8], n: usize, path: &[u8]) -> paths::Walked
-    requires { ⌜ (0 < n) × (n ≤ NODES) × (memorySize ≤ length (now m)) ⌝ }
-    ensures { λ r. ⌜ ((o : ℕ) → r ≡ nodeFor (tablesIn n o (memOf (now (m .entry)))) (now (path .entry)) rmdir) ⌝ }
+    requires { ⌜ (0 < n) × (n ≤ NODES) × IsMemory m ⌝ }
+    ensures { λ r. ⌜ ((o : ℕ) → r ≡ nodeFor (tablesIn n o (was m)) (now (path .entry)) rmdir) ⌝ }
 {
     let w = judge_way(m, n, path);
     match w {
@@ -197,8 +197,8 @@ pub fn judge_rmdir(m: &[u8], n: usize, path: &[u8]) -> paths::Walked
 
 // A new name in directory d, from `at` on in the path's bytes: 17, 13 (the directory's bit 2), 28.
 fn name_own(m: &[u8], n: usize, d: usize, at: usize, name: &[u8]) -> paths::Placed
-    requires { ⌜ (d < n) × (n ≤ NODES) × (memorySize ≤ length (now m)) ⌝ }
-    ensures { λ r. ⌜ r ≡ nameOwn (take n (memOf (now (m .entry)) .nodes)) d at (now (name .entry)) ⌝ }
+    requires { ⌜ (d < n) × (n ≤ NODES) × IsMemory m ⌝ }
+    ensures { λ r. ⌜ r ≡ nameOwn (nodesOf n m) d at (now (name .entry)) ⌝ }
 {
     if tables::find_child(m, n, memory::node_id(m, d), name) < n {
         return paths::Placed::Refused(17);
@@ -217,8 +217,8 @@ fn name_own(m: &[u8], n: usize, d: usize, at: usize, name: &[u8]) -> paths::Plac
 
 // The same from the way to that directory on; the root is there already.
 fn new_own(m: &[u8], n: usize, path: &[u8]) -> paths::Placed
-    requires { ⌜ (0 < n) × (n ≤ NODES) × (memorySize ≤ length (now m)) ⌝ }
-    ensures { λ r. ⌜ r ≡ newOwn (take n (memOf (now (m .entry)) .nodes)) (now (path .entry)) ⌝ }
+    requires { ⌜ (0 < n) × (n ≤ NODES) × IsMemory m ⌝ }
+    ensures { λ r. ⌜ r ≡ newOwn (nodesOf n m) (now (path .entry)) ⌝ }
 {
     let w = paths::walk_parent(m, n, path);
     match w {
@@ -230,8 +230,8 @@ fn new_own(m: &[u8], n: usize, path: &[u8]) -> paths::Placed
 
 // create and mkdir: 22, 36, the way's 20, 13, 2, then their own.
 pub fn judge_new(m: &[u8], n: usize, path: &[u8]) -> paths::Placed
-    requires { ⌜ (0 < n) × (n ≤ NODES) × (memorySize ≤ length (now m)) ⌝ }
-    ensures { λ r. ⌜ ((o mode : ℕ) → r ≡ placeFor (tablesIn n o (memOf (now (m .entry)))) (now (path .entry)) (create mode)) ⌝ }
+    requires { ⌜ (0 < n) × (n ≤ NODES) × IsMemory m ⌝ }
+    ensures { λ r. ⌜ ((o mode : ℕ) → r ≡ placeFor (tablesIn n o (was m)) (now (path .entry)) (create mode)) ⌝ }
 {
     let f = paths::form(path);
     match f {

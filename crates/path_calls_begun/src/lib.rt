@@ -3,27 +3,30 @@ ghost use mathlib.Core.Path.{_≡_};
 ghost use Prim.Native.Nat.{_<_, _≤_};
 ghost use lib.ListN.{length, drop};
 ghost use Rattle.filesystem.specs.Tables.{NODES, NAME-BYTES, PATH-BYTES, nodeAt};
-ghost use Rattle.memory.specs.Layout.{memOf, memorySize, openRows};
+ghost use Rattle.memory.specs.Layout.{openRows};
 ghost use Rattle.tables.specs.View.{tablesIn};
-ghost use Rattle.rules.specs.Requests.{asked, creating, storeLength};
-ghost use Rattle.rules.specs.Skeleton.{Config, atFront};
+ghost use Rattle.rules.specs.Requests.{asked, creating};
+ghost use Rattle.rules.specs.Skeleton.{Config};
 ghost use Rattle.path_calls.specs.Judged.{nodeFor};
 ghost use Rattle.call_reader.specs.Meaning.{madeBy, NumberFits};
 ghost use Rattle.requests.specs.PathRequests.{pathRequest};
 ghost use Rattle.outcomes.specs.declared.Outcome.the-variants.{Ask};
 ghost use Rattle.guard_state.specs.State.{stateOf, gatheredNone};
-ghost use Rattle.guard_state.specs.Waits.{waits};
-ghost use Rattle.outcomes.specs.Sent.{Sends};
+ghost use Rattle.guard_state.specs.Waits.{waits, Waits};
+ghost use Rattle.outcomes.specs.Sent.{Sends, Asks};
 ghost use Rattle.path_calls_begun.specs.Begun.{begun, questionOf, plainQuestion};
 ghost use Rattle.path_calls_begun.specs.OnNode.{OnNode};
+ghost use Rattle.memory.specs.Memories.{IsMemory, was};
+ghost use Rattle.numbers.specs.Slices.{KeepsLength};
+ghost use Rattle.requests.specs.Room.{HoldsRequest};
 use guard_state::Guard;
 
 // ---- a node that is there
 
 // The numbers of a call on a node, by its kind: open 3, remove 9, rmdir 10, chmod 11, readdir 12, stat 13.
 fn judge(m: &[u8], n: usize, o: usize, kind: u8, number: u8, path: &[u8]) -> paths::Walked
-    requires { ⌜ OnNode kind × (0 < n) × (n ≤ NODES) × (o ≤ openRows) × (memorySize ≤ length (now m)) ⌝ }
-    ensures { λ r. ⌜ r ≡ nodeFor (tablesIn n o (memOf (now (m .entry)))) (now (path .entry)) (madeBy kind number) ⌝ }
+    requires { ⌜ OnNode kind × (0 < n) × (n ≤ NODES) × (o ≤ openRows) × IsMemory m ⌝ }
+    ensures { λ r. ⌜ r ≡ nodeFor (tablesIn n o (was m)) (now (path .entry)) (madeBy kind number) ⌝ }
 {
     if kind == 3 {
         return path_calls::judge_open(m, n, o, path, number);
@@ -42,10 +45,8 @@ fn judge(m: &[u8], n: usize, o: usize, kind: u8, number: u8, path: &[u8]) -> pat
 
 // The call waits for its reply.
 fn wait(m: &mut [u8], kind: u8, number: u8, k: usize)
-    requires { ⌜ (k < NODES) × (memorySize ≤ length (now m)) ⌝ }
-    ensures { λ _. ⌜ ((c : Config)
-        → stateOf c (now (m .exit)) ≡ waits c (stateOf c (now (m .entry))) (asked (questionOf kind number k)) gatheredNone) ⌝ }
-    ensures { λ _. ⌜ length (now (m .exit)) ≡ length (now (m .entry)) ⌝ }
+    requires { ⌜ (k < NODES) × IsMemory m ⌝ }
+    ensures { λ _. ⌜ Waits m (asked (questionOf kind number k)) gatheredNone ⌝ }
 {
     if kind == 3 {
         guard_state::wait_open(m, k, number);
@@ -64,10 +65,8 @@ fn wait(m: &mut [u8], kind: u8, number: u8, k: usize)
 
 // remove and rmdir; else stat.
 fn wait_plain(m: &mut [u8], kind: u8, k: usize)
-    requires { ⌜ (k < NODES) × (memorySize ≤ length (now m)) ⌝ }
-    ensures { λ _. ⌜ ((c : Config)
-        → stateOf c (now (m .exit)) ≡ waits c (stateOf c (now (m .entry))) (asked (plainQuestion kind k)) gatheredNone) ⌝ }
-    ensures { λ _. ⌜ length (now (m .exit)) ≡ length (now (m .entry)) ⌝ }
+    requires { ⌜ (k < NODES) × IsMemory m ⌝ }
+    ensures { λ _. ⌜ Waits m (asked (plainQuestion kind k)) gatheredNone ⌝ }
 {
     if kind == 9 {
         guard_state::wait_remove(m, k);
@@ -89,12 +88,8 @@ fn send(
     path: &[u8],
     request: &mut [u8],
 ) -> outcomes::Outcome
-    requires { ⌜ (k < NODES) × (length (now path) ≤ PATH-BYTES) × (memorySize ≤ length (now m)) × (storeLength ≤ length (now request)) ⌝ }
-    ensures { λ _. ⌜ ((c : Config)
-        → stateOf c (now (m .exit)) ≡ waits c (stateOf c (now (m .entry))) (asked (questionOf kind number k)) gatheredNone) ⌝ }
-    ensures { λ _. ⌜ length (now (m .exit)) ≡ length (now (m .entry)) ⌝ }
-    ensures { λ r. ⌜ (now (request .exit) ≡ atFront (pathRequest kind number (now (path .entry))) (now (request .entry)))
-        × (r ≡ Ask (length (pathRequest kind number (now (path .entry))))) ⌝ }
+    requires { ⌜ (k < NODES) × (length (now path) ≤ PATH-BYTES) × IsMemory m × HoldsRequest request ⌝ }
+    ensures { λ r. ⌜ Asks m request (asked (questionOf kind number k)) (pathRequest kind number (now (path .entry))) r ⌝ }
 {
     wait(m, kind, number, k);
     let l = requests::write_path(request, kind, number, path);
@@ -110,11 +105,9 @@ pub fn begin_on_node(
     path: &[u8],
     request: &mut [u8],
 ) -> outcomes::Outcome
-    requires { ⌜ NumberFits kind number × (2 < kind) × (memorySize ≤ length (now m)) × (storeLength ≤ length (now request)) ⌝ }
-    ensures { λ r. ⌜ ((c : Config) → 0 < length (stateOf c (now (m .entry)) .skeleton .tables .nodes)
-        → Sends c (begun c (stateOf c (now (m .entry))) (now (path .entry)) (madeBy kind number)) r (now (m .exit)) (now (request .entry))
-        (now (request .exit))) ⌝ }
-    ensures { λ _. ⌜ length (now (m .exit)) ≡ length (now (m .entry)) ⌝ }
+    requires { ⌜ NumberFits kind number × (2 < kind) × IsMemory m × HoldsRequest request ⌝ }
+    ensures { λ r. ⌜ ((c : Config) → 0 < length (stateOf c (now (m .entry)) .skeleton .tables .nodes) → Sends c (begun c (stateOf c (now (m .entry))) (now (path .entry)) (madeBy kind number)) r (now (m .exit)) (now (request .entry)) (now (request .exit))) ⌝ }
+    ensures { λ _. ⌜ KeepsLength m ⌝ }
 {
     let g = Guard::load(m);
     let n = g.nodes;
@@ -140,15 +133,8 @@ fn send_new(
     start: usize,
     request: &mut [u8],
 ) -> outcomes::Outcome
-    requires { ⌜ (parent < NODES) × (start ≤ length (now path)) × (length (drop start (now path)) ≤ NAME-BYTES)
-        × (length (now path) ≤ PATH-BYTES) × (memorySize ≤ length (now m)) × (storeLength ≤ length (now request)) ⌝ }
-    ensures { λ _. ⌜ ((c : Config)
-        → stateOf c (now (m .exit)) ≡ waits c (stateOf c (now (m .entry)))
-        (asked (creating (nodeAt (memOf (now (m .entry)) .nodes) parent .id) kind number
-        (drop start (now (path .entry))))) gatheredNone) ⌝ }
-    ensures { λ _. ⌜ length (now (m .exit)) ≡ length (now (m .entry)) ⌝ }
-    ensures { λ r. ⌜ (now (request .exit) ≡ atFront (pathRequest kind number (now (path .entry))) (now (request .entry)))
-        × (r ≡ Ask (length (pathRequest kind number (now (path .entry))))) ⌝ }
+    requires { ⌜ (parent < NODES) × (start ≤ length (now path)) × (length (drop start (now path)) ≤ NAME-BYTES) × (length (now path) ≤ PATH-BYTES) × IsMemory m × HoldsRequest request ⌝ }
+    ensures { λ r. ⌜ Asks m request (asked (creating (nodeAt (was m .nodes) parent .id) kind number (drop start (now (path .entry))))) (pathRequest kind number (now (path .entry))) r ⌝ }
 {
     let id = memory::node_id(m, parent);
     guard_state::wait_create(m, id, kind, number, &path[start..]);
@@ -164,11 +150,9 @@ pub fn begin_new(
     path: &[u8],
     request: &mut [u8],
 ) -> outcomes::Outcome
-    requires { ⌜ (1 ≤ kind) × (kind ≤ 2) × (memorySize ≤ length (now m)) × (storeLength ≤ length (now request)) ⌝ }
-    ensures { λ r. ⌜ ((c : Config) → 0 < length (stateOf c (now (m .entry)) .skeleton .tables .nodes)
-        → Sends c (begun c (stateOf c (now (m .entry))) (now (path .entry)) (madeBy kind number)) r (now (m .exit)) (now (request .entry))
-        (now (request .exit))) ⌝ }
-    ensures { λ _. ⌜ length (now (m .exit)) ≡ length (now (m .entry)) ⌝ }
+    requires { ⌜ (1 ≤ kind) × (kind ≤ 2) × IsMemory m × HoldsRequest request ⌝ }
+    ensures { λ r. ⌜ ((c : Config) → 0 < length (stateOf c (now (m .entry)) .skeleton .tables .nodes) → Sends c (begun c (stateOf c (now (m .entry))) (now (path .entry)) (madeBy kind number)) r (now (m .exit)) (now (request .entry)) (now (request .exit))) ⌝ }
+    ensures { λ _. ⌜ KeepsLength m ⌝ }
 {
     let g = Guard::load(m);
     let n = g.nodes;

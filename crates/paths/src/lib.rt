@@ -4,15 +4,15 @@ ghost use mathlib.Core.Path.{_≡_};
 ghost use mathlib.Core.Bool.{_||_};
 ghost use Prim.Native.Nat.{_+_, _-_, _*_, _<_, _≤_};
 ghost use lib.Dec.{ltb};
-ghost use lib.ListN.{length, take, drop};
+ghost use lib.ListN.{length, drop};
 ghost use Rattle.lists.specs.Search.{place};
 ghost use Rattle.filesystem.specs.Tables.{NODES, NAME-BYTES, PATH-BYTES};
 ghost use Rattle.filesystem.specs.Rights as table;
 ghost use Rattle.filesystem.specs.Paths.{split};
-ghost use Rattle.memory.specs.Layout.{memOf, memorySize};
 ghost use Rattle.paths.specs.Parts.{isSlash, isEnd, componentsOf};
 ghost use Rattle.paths.specs.PathForms.{formOf, partsForm, isName};
 ghost use Rattle.paths.specs.Walks.{walked, placed, searchNumber, childStep};
+ghost use Rattle.memory.specs.Memories.{IsMemory, nodesOf};
 
 // What is wrong with a path's bytes: the form (22), else a length (36), else nothing.
 pub enum PathForm {
@@ -203,8 +203,8 @@ pub fn form(path: &[u8]) -> PathForm
 
 // 0 where node d is a directory that may be searched, else 20 or 13.
 fn search_number(m: &[u8], n: usize, d: usize) -> u8
-    requires { ⌜ (d < n) × (n ≤ NODES) × (memorySize ≤ length (now m)) ⌝ }
-    ensures { λ r. ⌜ r ≡ searchNumber (take n (memOf (now (m .entry)) .nodes)) d ⌝ }
+    requires { ⌜ (d < n) × (n ≤ NODES) × IsMemory m ⌝ }
+    ensures { λ r. ⌜ r ≡ searchNumber (nodesOf n m) d ⌝ }
 {
     if memory::node_kind(m, d) != 2 {
         return 20;
@@ -217,8 +217,8 @@ fn search_number(m: &[u8], n: usize, d: usize) -> u8
 
 // The last step of a walk: the child with this name of node d, or 2.
 pub fn last_step(m: &[u8], n: usize, d: usize, name: &[u8]) -> Walked
-    requires { ⌜ (d < n) × (n ≤ NODES) × (memorySize ≤ length (now m)) ⌝ }
-    ensures { λ r. ⌜ r ≡ childStep (take n (memOf (now (m .entry)) .nodes)) d (now (name .entry)) ⌝ }
+    requires { ⌜ (d < n) × (n ≤ NODES) × IsMemory m ⌝ }
+    ensures { λ r. ⌜ r ≡ childStep (nodesOf n m) d (now (name .entry)) ⌝ }
 {
     let k = tables::find_child(m, n, memory::node_id(m, d), name);
     if n <= k {
@@ -229,8 +229,8 @@ pub fn last_step(m: &[u8], n: usize, d: usize, name: &[u8]) -> Walked
 
 // The way to the directory that holds the last component, which may be absent itself.
 pub fn walk_parent(m: &[u8], n: usize, path: &[u8]) -> Placed
-    requires { ⌜ (0 < n) × (n ≤ NODES) × (memorySize ≤ length (now m)) ⌝ }
-    ensures { λ r. ⌜ r ≡ placed (take n (memOf (now (m .entry)) .nodes)) (now (path .entry)) ⌝ }
+    requires { ⌜ (0 < n) × (n ≤ NODES) × IsMemory m ⌝ }
+    ensures { λ r. ⌜ r ≡ placed (nodesOf n m) (now (path .entry)) ⌝ }
 {
     if path.len() < 2 {
         return Placed::Root;
@@ -264,8 +264,8 @@ pub fn walk_parent(m: &[u8], n: usize, path: &[u8]) -> Placed
 
 // The node at the end of a path, or the number that stops the walk: at each component from the left 20, 13, 2.
 pub fn walk(m: &[u8], n: usize, path: &[u8]) -> Walked
-    requires { ⌜ (0 < n) × (n ≤ NODES) × (memorySize ≤ length (now m)) ⌝ }
-    ensures { λ r. ⌜ r ≡ walked (take n (memOf (now (m .entry)) .nodes)) (componentsOf (now (path .entry))) ⌝ }
+    requires { ⌜ (0 < n) × (n ≤ NODES) × IsMemory m ⌝ }
+    ensures { λ r. ⌜ r ≡ walked (nodesOf n m) (componentsOf (now (path .entry))) ⌝ }
 {
     let way = walk_parent(m, n, path);
     match way {

@@ -6,21 +6,24 @@ ghost use Prim.Native.Nat.{ℕ, _+_, _*_, _<_, _≤_};
 ghost use lib.ListN.{length, take};
 ghost use Rattle.digest.specs.Sha256.{sha256};
 ghost use Rattle.filesystem.specs.Tables.{NODES, PAGE-BYTES, FILE-BYTES, DATA-BYTES, nodeAt, openAt};
-ghost use Rattle.memory.specs.Layout.{memOf, memorySize, openRows};
+ghost use Rattle.memory.specs.Layout.{openRows};
 ghost use Rattle.rules.specs.Calls.{read};
 ghost use Rattle.rules.specs.Pages.{pageAt, pagePart};
-ghost use Rattle.rules.specs.Requests.{reading, fetchRequest, storeLength};
+ghost use Rattle.rules.specs.Requests.{reading, fetchRequest};
 ghost use Rattle.rules.specs.Skeleton.{Config, atFront};
 ghost use Rattle.machine.specs.Machine.{apply, readOn, guard as digestStore};
 ghost use Rattle.machine.specs.Consistent.{Consistent};
-ghost use Rattle.guard_state.specs.State.{numbersOf, stateOf, gatheredNone, gatheredRead, filePages};
-ghost use Rattle.guard_state.specs.Waits.{waits, ends};
+ghost use Rattle.guard_state.specs.State.{stateOf, gatheredRead, filePages, numbersIn};
+ghost use Rattle.guard_state.specs.Waits.{waits, ends, Turns};
 ghost use Rattle.outcomes.specs.declared.Outcome.the-variants.{Ask};
-ghost use Rattle.outcomes.specs.Sent.{Fills, Sends, Leaves};
+ghost use Rattle.outcomes.specs.Sent.{Fills, Sends, Leaves, Asks};
 ghost use Rattle.outcomes.specs.Started.{startedBy};
 ghost use Rattle.outcomes.specs.Answered.{answered};
 ghost use Rattle.reads.specs.Begun.{readOf, leftOf, cursorTo};
 ghost use Rattle.reads.specs.Taken.{InRead};
+ghost use Rattle.memory.specs.Memories.{IsMemory, was};
+ghost use Rattle.numbers.specs.Slices.{KeepsLength};
+ghost use Rattle.requests.specs.Room.{HoldsRequest};
 use guard_state::Guard;
 
 // The read waits for the page that its position lies in, and asks for it.
@@ -32,15 +35,8 @@ fn fetch(
     count: usize,
     request: &mut [u8],
 ) -> outcomes::Outcome
-    requires { ⌜ (node < NODES) × (opened < openRows) × (position ≤ FILE-BYTES) × (count ≤ DATA-BYTES) × (memorySize ≤ length (now m))
-        × (storeLength ≤ length (now request)) ⌝ }
-    ensures { λ _. ⌜ ((c : Config)
-        → stateOf c (now (m .exit)) ≡ waits c (stateOf c (now (m .entry)))
-        (reading node opened position count (pageAt position)) gatheredNone) ⌝ }
-    ensures { λ _. ⌜ length (now (m .exit)) ≡ length (now (m .entry)) ⌝ }
-    ensures { λ r. ⌜ (now (request .exit) ≡ atFront (fetchRequest (openAt (memOf (now (m .entry)) .opens) opened .descriptor)
-        (pageAt position)) (now (request .entry)))
-        × (r ≡ Ask (length (fetchRequest (openAt (memOf (now (m .entry)) .opens) opened .descriptor) (pageAt position)))) ⌝ }
+    requires { ⌜ (node < NODES) × (opened < openRows) × (position ≤ FILE-BYTES) × (count ≤ DATA-BYTES) × IsMemory m × HoldsRequest request ⌝ }
+    ensures { λ r. ⌜ Asks m request (reading node opened position count (pageAt position)) (fetchRequest (openAt (was m .opens) opened .descriptor) (pageAt position)) r ⌝ }
 {
     let descriptor = memory::open_descriptor(m, opened);
     let page = position / Guard::PAGE_BYTES;
@@ -58,14 +54,9 @@ fn read_at(
     count: usize,
     request: &mut [u8],
 ) -> outcomes::Outcome
-    requires { ⌜ (n ≡ numbersOf (memOf (now m) .head) .nodes) × (opened < numbersOf (memOf (now m) .head) .opens) × (n ≤ NODES)
-        × (opened < openRows) × (count ≤ DATA-BYTES) × (memorySize ≤ length (now m)) × (storeLength ≤ length (now request)) ⌝ }
-    ensures { λ r. ⌜ ((c : Config) → nodeAt (stateOf c (now (m .entry)) .skeleton .tables .nodes) node .size ≤ FILE-BYTES
-        → Sends c (apply c (digestStore c) (stateOf c (now (m .entry)))
-        (readOf (stateOf c (now (m .entry)) .skeleton .tables) opened node
-        (leftOf (stateOf c (now (m .entry)) .skeleton .tables) opened node count))) r (now (m .exit)) (now (request .entry))
-        (now (request .exit))) ⌝ }
-    ensures { λ _. ⌜ length (now (m .exit)) ≡ length (now (m .entry)) ⌝ }
+    requires { ⌜ (n ≡ numbersIn m .nodes) × (opened < numbersIn m .opens) × (n ≤ NODES) × (opened < openRows) × (count ≤ DATA-BYTES) × IsMemory m × HoldsRequest request ⌝ }
+    ensures { λ r. ⌜ ((c : Config) → nodeAt (stateOf c (now (m .entry)) .skeleton .tables .nodes) node .size ≤ FILE-BYTES → Sends c (apply c (digestStore c) (stateOf c (now (m .entry))) (readOf (stateOf c (now (m .entry)) .skeleton .tables) opened node (leftOf (stateOf c (now (m .entry)) .skeleton .tables) opened node count))) r (now (m .exit)) (now (request .entry)) (now (request .exit))) ⌝ }
+    ensures { λ _. ⌜ KeepsLength m ⌝ }
 {
     let cursor = memory::open_cursor(m, opened) as usize;
     let size = handle_calls::size_at(m, n, node) as usize;
@@ -85,11 +76,9 @@ fn read_at(
 
 // read: at most count bytes from the cursor on, of the open file with this handle.
 pub fn begin_read(m: &mut [u8], handle: u64, count: usize, request: &mut [u8]) -> outcomes::Outcome
-    requires { ⌜ (count ≤ DATA-BYTES) × (memorySize ≤ length (now m)) × (storeLength ≤ length (now request)) ⌝ }
-    ensures { λ r. ⌜ ((c : Config) → Consistent c (stateOf c (now (m .entry)))
-        → Sends c (startedBy c (stateOf c (now (m .entry))) (read handle count)) r (now (m .exit)) (now (request .entry))
-        (now (request .exit))) ⌝ }
-    ensures { λ _. ⌜ length (now (m .exit)) ≡ length (now (m .entry)) ⌝ }
+    requires { ⌜ (count ≤ DATA-BYTES) × IsMemory m × HoldsRequest request ⌝ }
+    ensures { λ r. ⌜ ((c : Config) → Consistent c (stateOf c (now (m .entry))) → Sends c (startedBy c (stateOf c (now (m .entry))) (read handle count)) r (now (m .exit)) (now (request .entry)) (now (request .exit))) ⌝ }
+    ensures { λ _. ⌜ KeepsLength m ⌝ }
 {
     let g = Guard::load(m);
     let n = g.nodes;
@@ -114,15 +103,9 @@ fn next_page(
     more: &[u8],
     request: &mut [u8],
 ) -> outcomes::Outcome
-    requires { ⌜ (opened < numbersOf (memOf (now m) .head) .opens) × (page * PAGE-BYTES + PAGE-BYTES < position + count)
-        × (bytes + length (now more) ≤ DATA-BYTES) × (node < NODES) × (opened < openRows) × (position ≤ FILE-BYTES) × (count ≤ DATA-BYTES)
-        × (page < filePages) × (memorySize ≤ length (now m)) × (storeLength ≤ length (now request)) ⌝ }
-    ensures { λ r. ⌜ ((c : Config) (x : List ℕ) → now (more .entry) ≡ pagePart x position count page
-        → stateOf c (now (m .entry)) .progress ≡ gatheredRead (take bytes (memOf (now (m .entry)) .staged))
-        → Sends c (readOn c (digestStore c) (stateOf c (now (m .entry))) node opened position count page
-        (digestStore c .gather (stateOf c (now (m .entry)) .progress) position count page x)) r (now (m .exit)) (now (request .entry))
-        (now (request .exit))) ⌝ }
-    ensures { λ _. ⌜ length (now (m .exit)) ≡ length (now (m .entry)) ⌝ }
+    requires { ⌜ (opened < numbersIn m .opens) × (page * PAGE-BYTES + PAGE-BYTES < position + count) × (bytes + length (now more) ≤ DATA-BYTES) × (node < NODES) × (opened < openRows) × (position ≤ FILE-BYTES) × (count ≤ DATA-BYTES) × (page < filePages) × IsMemory m × HoldsRequest request ⌝ }
+    ensures { λ r. ⌜ ((c : Config) (x : List ℕ) → now (more .entry) ≡ pagePart x position count page → stateOf c (now (m .entry)) .progress ≡ gatheredRead (take bytes (was m .staged)) → Sends c (readOn c (digestStore c) (stateOf c (now (m .entry))) node opened position count page (digestStore c .gather (stateOf c (now (m .entry)) .progress) position count page x)) r (now (m .exit)) (now (request .entry)) (now (request .exit))) ⌝ }
+    ensures { λ _. ⌜ KeepsLength m ⌝ }
 {
     let descriptor = memory::open_descriptor(m, opened);
     let next = page + 1;
@@ -133,9 +116,8 @@ fn next_page(
 
 // The bytes of a read that is done, over the front of the answer buffer: those that are staged, and those of the last page.
 fn put_answer(m: &[u8], bytes: usize, more: &[u8], answer: &mut [u8])
-    requires { ⌜ (bytes + length (now more) ≤ DATA-BYTES) × (DATA-BYTES ≤ length (now answer)) × (memorySize ≤ length (now m)) ⌝ }
-    ensures { λ _. ⌜ now (answer .exit) ≡ atFront (take bytes (memOf (now (m .entry)) .staged) ++ now (more .entry))
-        (now (answer .entry)) ⌝ }
+    requires { ⌜ (bytes + length (now more) ≤ DATA-BYTES) × (DATA-BYTES ≤ length (now answer)) × IsMemory m ⌝ }
+    ensures { λ _. ⌜ now (answer .exit) ≡ atFront (take bytes (was m .staged) ++ now (more .entry)) (now (answer .entry)) ⌝ }
 {
     let b = memory::staged(m, 0, bytes);
     buffers::put(answer, 0, b);
@@ -144,12 +126,8 @@ fn put_answer(m: &[u8], bytes: usize, more: &[u8], answer: &mut [u8])
 
 // The read is done: its cursor stands behind what it gave.
 fn end_read(m: &mut [u8], opened: usize, end: usize)
-    requires { ⌜ (opened < numbersOf (memOf (now m) .head) .opens) × (opened < openRows) × (end ≤ FILE-BYTES + DATA-BYTES)
-        × (memorySize ≤ length (now m)) ⌝ }
-    ensures { λ _. ⌜ ((c : Config)
-        → stateOf c (now (m .exit)) ≡ ends c (stateOf c (now (m .entry)))
-        (cursorTo (stateOf c (now (m .entry)) .skeleton .tables) opened end) (stateOf c (now (m .entry)) .contents)) ⌝ }
-    ensures { λ _. ⌜ length (now (m .exit)) ≡ length (now (m .entry)) ⌝ }
+    requires { ⌜ (opened < numbersIn m .opens) × (opened < openRows) × (end ≤ FILE-BYTES + DATA-BYTES) × IsMemory m ⌝ }
+    ensures { λ _. ⌜ Turns m (λ c s. ends c s (cursorTo (s .skeleton .tables) opened end) (s .contents)) ⌝ }
 {
     memory::set_cursor(m, opened, end as u32);
     guard_state::finish(m);
@@ -165,15 +143,9 @@ fn last_page(
     more: &[u8],
     answer: &mut [u8],
 ) -> outcomes::Outcome
-    requires { ⌜ (opened < numbersOf (memOf (now m) .head) .opens) × (opened < openRows) × (position ≤ FILE-BYTES) × (count ≤ DATA-BYTES)
-        × (bytes + length (now more) ≤ DATA-BYTES) × (DATA-BYTES ≤ length (now answer)) × (memorySize ≤ length (now m)) ⌝ }
-    ensures { λ r. ⌜ ((c : Config) (k i : ℕ) (x : List ℕ) → position + count ≤ i * PAGE-BYTES + PAGE-BYTES
-        → now (more .entry) ≡ pagePart x position count i
-        → stateOf c (now (m .entry)) .progress ≡ gatheredRead (take bytes (memOf (now (m .entry)) .staged))
-        → Fills c (readOn c (digestStore c) (stateOf c (now (m .entry))) k opened position count i
-        (digestStore c .gather (stateOf c (now (m .entry)) .progress) position count i x)) r (now (m .exit)) (now (answer .entry))
-        (now (answer .exit))) ⌝ }
-    ensures { λ _. ⌜ length (now (m .exit)) ≡ length (now (m .entry)) ⌝ }
+    requires { ⌜ (opened < numbersIn m .opens) × (opened < openRows) × (position ≤ FILE-BYTES) × (count ≤ DATA-BYTES) × (bytes + length (now more) ≤ DATA-BYTES) × (DATA-BYTES ≤ length (now answer)) × IsMemory m ⌝ }
+    ensures { λ r. ⌜ ((c : Config) (k i : ℕ) (x : List ℕ) → position + count ≤ i * PAGE-BYTES + PAGE-BYTES → now (more .entry) ≡ pagePart x position count i → stateOf c (now (m .entry)) .progress ≡ gatheredRead (take bytes (was m .staged)) → Fills c (readOn c (digestStore c) (stateOf c (now (m .entry))) k opened position count i (digestStore c .gather (stateOf c (now (m .entry)) .progress) position count i x)) r (now (m .exit)) (now (answer .entry)) (now (answer .exit))) ⌝ }
+    ensures { λ _. ⌜ KeepsLength m ⌝ }
 {
     let l = bytes + more.len();
     let end = position + count;
@@ -187,8 +159,7 @@ fn last_page(
 
 // The bytes of a page that lie in the read.
 fn page_part(reply: &[u8], position: usize, count: usize, page: usize) -> &[u8]
-    requires { ⌜ (length (now reply) ≡ PAGE-BYTES) × (position ≤ FILE-BYTES) × (count ≤ DATA-BYTES) × (page ≤ filePages)
-        × (page * PAGE-BYTES < position + count) × (position < page * PAGE-BYTES + PAGE-BYTES) ⌝ }
+    requires { ⌜ (length (now reply) ≡ PAGE-BYTES) × (position ≤ FILE-BYTES) × (count ≤ DATA-BYTES) × (page ≤ filePages) × (page * PAGE-BYTES < position + count) × (position < page * PAGE-BYTES + PAGE-BYTES) ⌝ }
     ensures { λ r. ⌜ (now r ≡ pagePart (now (reply .entry)) position count page) × (length (now r) ≤ count) ⌝ }
 {
     let at = page * Guard::PAGE_BYTES;
@@ -226,15 +197,9 @@ fn take_page(
     answer: &mut [u8],
     request: &mut [u8],
 ) -> outcomes::Outcome
-    requires { ⌜ (opened < numbersOf (memOf (now m) .head) .opens) × (InRead position count page) × (length (now reply) ≡ PAGE-BYTES)
-        × (bytes ≤ DATA-BYTES) × (node < NODES) × (opened < openRows) × (count ≤ DATA-BYTES) × (DATA-BYTES ≤ length (now answer))
-        × (memorySize ≤ length (now m)) × (storeLength ≤ length (now request)) ⌝ }
-    ensures { λ r. ⌜ ((c : Config) → bytes + length (pagePart (now (reply .entry)) position count page) ≤ DATA-BYTES
-        → stateOf c (now (m .entry)) .progress ≡ gatheredRead (take bytes (memOf (now (m .entry)) .staged))
-        → Leaves c (readOn c (digestStore c) (stateOf c (now (m .entry))) node opened position count page
-        (digestStore c .gather (stateOf c (now (m .entry)) .progress) position count page (now (reply .entry)))) r (now (m .exit))
-        (now (answer .entry)) (now (answer .exit)) (now (request .entry)) (now (request .exit))) ⌝ }
-    ensures { λ _. ⌜ length (now (m .exit)) ≡ length (now (m .entry)) ⌝ }
+    requires { ⌜ (opened < numbersIn m .opens) × (InRead position count page) × (length (now reply) ≡ PAGE-BYTES) × (bytes ≤ DATA-BYTES) × (node < NODES) × (opened < openRows) × (count ≤ DATA-BYTES) × (DATA-BYTES ≤ length (now answer)) × IsMemory m × HoldsRequest request ⌝ }
+    ensures { λ r. ⌜ ((c : Config) → bytes + length (pagePart (now (reply .entry)) position count page) ≤ DATA-BYTES → stateOf c (now (m .entry)) .progress ≡ gatheredRead (take bytes (was m .staged)) → Leaves c (readOn c (digestStore c) (stateOf c (now (m .entry))) node opened position count page (digestStore c .gather (stateOf c (now (m .entry)) .progress) position count page (now (reply .entry)))) r (now (m .exit)) (now (answer .entry)) (now (answer .exit)) (now (request .entry)) (now (request .exit))) ⌝ }
+    ensures { λ _. ⌜ KeepsLength m ⌝ }
 {
     let more = page_part(reply, position, count, page);
     if Guard::DATA_BYTES < bytes + more.len() {
@@ -253,12 +218,9 @@ pub fn accept_page(
     answer: &mut [u8],
     request: &mut [u8],
 ) -> outcomes::Outcome
-    requires { ⌜ (numbersOf (memOf (now m) .head) .call ≡ 8) × (DATA-BYTES ≤ length (now answer)) × (memorySize ≤ length (now m))
-        × (storeLength ≤ length (now request)) ⌝ }
-    ensures { λ r. ⌜ ((c : Config) → c .digest ≡ sha256 → Consistent c (stateOf c (now (m .entry)))
-        → Leaves c (answered c (stateOf c (now (m .entry))) (now (reply .entry))) r (now (m .exit)) (now (answer .entry))
-        (now (answer .exit)) (now (request .entry)) (now (request .exit))) ⌝ }
-    ensures { λ _. ⌜ length (now (m .exit)) ≡ length (now (m .entry)) ⌝ }
+    requires { ⌜ (numbersIn m .call ≡ 8) × (DATA-BYTES ≤ length (now answer)) × IsMemory m × HoldsRequest request ⌝ }
+    ensures { λ r. ⌜ ((c : Config) → c .digest ≡ sha256 → Consistent c (stateOf c (now (m .entry))) → Leaves c (answered c (stateOf c (now (m .entry))) (now (reply .entry))) r (now (m .exit)) (now (answer .entry)) (now (answer .exit)) (now (request .entry)) (now (request .exit))) ⌝ }
+    ensures { λ _. ⌜ KeepsLength m ⌝ }
 {
     let g = Guard::load(m);
     let b = replies::judge_page(m, g.nodes, g.node, g.page, reply);

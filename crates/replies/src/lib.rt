@@ -3,15 +3,16 @@ ghost use mathlib.Core.Path.{_≡_};
 ghost use Prim.Native.Nat.{ℕ, _≤_, _<_};
 ghost use mathlib.Core.List.{List, [], _∷_, _++_};
 ghost use mathlib.Core.Bool.{true};
-ghost use lib.ListN.{length, getD, take};
+ghost use lib.ListN.{length, getD};
 ghost use Rattle.lists.specs.LittleEndian.{encode};
 ghost use Rattle.filesystem.specs.Tables.{NODES, PAGES, PAGE-BYTES, ID-BYTES, nodeAt, pagesFor, pageTotal};
 ghost use Rattle.filesystem.specs.Image.{soundNodes, divide};
-ghost use Rattle.memory.specs.Layout.{memOf, memorySize, openRows};
+ghost use Rattle.memory.specs.Layout.{openRows};
 ghost use Rattle.tables.specs.View.{tablesIn};
 ghost use Rattle.rules.specs.Requests.{asked, creating, opening, stating, listing};
 ghost use Rattle.replies.specs.Judged.{reasonFor, statusOf, pageReason};
 ghost use Rattle.replies.specs.Listing.{entryAt, entryEnd, endWithin, entryPlace};
+ghost use Rattle.memory.specs.Memories.{IsMemory, nodesOf, was};
 use guard_state::Guard;
 
 // A status: 1 of another length, 2 where it is not the expected one (specs/laws/JudgedLaws.antt: of which requests).
@@ -29,9 +30,8 @@ pub fn judge_status(reply: &[u8], expected: i32) -> u8
 
 // A new node's id: 1 of another length, 3 where it is 0 or a node has it.
 pub fn judge_id(m: &[u8], n: usize, reply: &[u8]) -> u8
-    requires { ⌜ (n ≤ NODES) × (memorySize ≤ length (now m)) ⌝ }
-    ensures { λ r. ⌜ ((parent kind mode : ℕ) (name : List ℕ) (o : ℕ)
-        → r ≡ reasonFor (tablesIn n o (memOf (now (m .entry)))) (now (reply .entry)) (asked (creating parent kind mode name))) ⌝ }
+    requires { ⌜ (n ≤ NODES) × IsMemory m ⌝ }
+    ensures { λ r. ⌜ ((parent kind mode : ℕ) (name : List ℕ) (o : ℕ) → r ≡ reasonFor (tablesIn n o (was m)) (now (reply .entry)) (asked (creating parent kind mode name))) ⌝ }
 {
     if reply.len() != Guard::ID_BYTES {
         return 1;
@@ -48,9 +48,8 @@ pub fn judge_id(m: &[u8], n: usize, reply: &[u8]) -> u8
 
 // A new descriptor: 1 of another length, 4 where it is out of range or an open file has it.
 pub fn judge_descriptor(m: &[u8], o: usize, reply: &[u8]) -> u8
-    requires { ⌜ (o ≤ openRows) × (memorySize ≤ length (now m)) ⌝ }
-    ensures { λ r. ⌜ ((k rights n : ℕ)
-        → r ≡ reasonFor (tablesIn n o (memOf (now (m .entry)))) (now (reply .entry)) (asked (opening k rights))) ⌝ }
+    requires { ⌜ (o ≤ openRows) × IsMemory m ⌝ }
+    ensures { λ r. ⌜ ((k rights n : ℕ) → r ≡ reasonFor (tablesIn n o (was m)) (now (reply .entry)) (asked (opening k rights))) ⌝ }
 {
     if reply.len() != 4 {
         return 1;
@@ -84,8 +83,8 @@ fn stat_row(id: u64, kind: u8, mode: u8, size: u32) -> [u8; STAT_BYTES]
 
 // The stat of node k: 1 of another length, 6 where a field differs.
 pub fn judge_stat(m: &[u8], n: usize, k: usize, reply: &[u8]) -> u8
-    requires { ⌜ (k < n) × (n ≤ NODES) × (memorySize ≤ length (now m)) ⌝ }
-    ensures { λ r. ⌜ ((o : ℕ) → r ≡ reasonFor (tablesIn n o (memOf (now (m .entry)))) (now (reply .entry)) (asked (stating k))) ⌝ }
+    requires { ⌜ (k < n) × (n ≤ NODES) × IsMemory m ⌝ }
+    ensures { λ r. ⌜ ((o : ℕ) → r ≡ reasonFor (tablesIn n o (was m)) (now (reply .entry)) (asked (stating k))) ⌝ }
 {
     if reply.len() != STAT_BYTES {
         return 1;
@@ -104,11 +103,8 @@ pub fn judge_stat(m: &[u8], n: usize, k: usize, reply: &[u8]) -> u8
 
 // Page i of the node in place k as a reply: 1 of another length, 5 where its digest is not the kept one, else 0. No valid table lacks the page.
 pub fn judge_page(m: &[u8], n: usize, k: usize, i: usize, reply: &[u8]) -> u8
-    requires { ⌜ (n ≤ NODES) × (memorySize ≤ length (now m)) ⌝ }
-    ensures { λ r. ⌜ (k < n → i < pagesFor (nodeAt (memOf (now (m .entry)) .nodes) k .size)
-        → pageTotal (take n (memOf (now (m .entry)) .nodes)) ≤ PAGES
-        → r ≡ pageReason (getD (getD (divide (take n (memOf (now (m .entry)) .nodes)) (memOf (now (m .entry)) .digests)) k []) i [])
-        (now (reply .entry))) ⌝ }
+    requires { ⌜ (n ≤ NODES) × IsMemory m ⌝ }
+    ensures { λ r. ⌜ (k < n → i < pagesFor (nodeAt (was m .nodes) k .size) → pageTotal (nodesOf n m) ≤ PAGES → r ≡ pageReason (getD (getD (divide (nodesOf n m) (was m .digests)) k []) i []) (now (reply .entry))) ⌝ }
     ensures { λ r. ⌜ (r ≡ 0 → length (now (reply .entry)) ≡ PAGE-BYTES) ⌝ }
 {
     if reply.len() != Guard::PAGE_BYTES {
@@ -155,9 +151,8 @@ fn entry_place(
     end: usize,
     next: usize,
 ) -> usize
-    requires { ⌜ (n ≤ NODES) × (memorySize ≤ length (now m)) × (end ≡ entryEnd ID-BYTES (now reply) at) × (end ≤ length (now reply)) ⌝ }
-    ensures { λ r. ⌜ (soundNodes ID-BYTES (take n (memOf (now (m .entry)) .nodes)) ≡ true
-        → r ≡ entryPlace (take n (memOf (now (m .entry)) .nodes)) id (entryAt ID-BYTES (now (reply .entry)) at)) ⌝ }
+    requires { ⌜ (n ≤ NODES) × IsMemory m × (end ≡ entryEnd ID-BYTES (now reply) at) × (end ≤ length (now reply)) ⌝ }
+    ensures { λ r. ⌜ (soundNodes ID-BYTES (nodesOf n m) ≡ true → r ≡ entryPlace (nodesOf n m) id (entryAt ID-BYTES (now (reply .entry)) at)) ⌝ }
 {
     let k = tables::find_node(m, n, numbers::number_at(reply, at, Guard::ID_BYTES), next);
     if n <= k {
@@ -176,10 +171,8 @@ fn entry_place(
 // A listing of the children of the node with this id: 7 unless each has one entry. Ids differ among sound nodes, so each entry has one place.
 // `next` is the place behind the last entry's: children that stand together, listed in their order, need one search.
 pub fn judge_listing(m: &[u8], n: usize, id: u64, reply: &[u8]) -> u8
-    requires { ⌜ (n ≤ NODES) × (memorySize ≤ length (now m)) ⌝ }
-    ensures { λ r. ⌜ (soundNodes ID-BYTES (take n (memOf (now (m .entry)) .nodes)) ≡ true → (k o : ℕ)
-        → nodeAt (take n (memOf (now (m .entry)) .nodes)) k .id ≡ id
-        → r ≡ reasonFor (tablesIn n o (memOf (now (m .entry)))) (now (reply .entry)) (asked (listing k))) ⌝ }
+    requires { ⌜ (n ≤ NODES) × IsMemory m ⌝ }
+    ensures { λ r. ⌜ (soundNodes ID-BYTES (nodesOf n m) ≡ true → (k o : ℕ) → nodeAt (nodesOf n m) k .id ≡ id → r ≡ reasonFor (tablesIn n o (was m)) (now (reply .entry)) (asked (listing k))) ⌝ }
 {
     let mut seen = [0u8; Guard::NODES];
     let mut count = 0;

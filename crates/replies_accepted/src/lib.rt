@@ -5,21 +5,21 @@ ghost use mathlib.Core.List.{List};
 ghost use Prim.Native.Nat.{ℕ, _<_, _≤_};
 ghost use lib.ListN.{length};
 ghost use Rattle.filesystem.specs.Tables.{NODES, PAGES, NAME-BYTES, ID-BYTES, pageTotal};
-ghost use Rattle.memory.specs.Layout.{memOf, memorySize, openRows};
+ghost use Rattle.memory.specs.Layout.{openRows};
 ghost use Rattle.rules.specs.Skeleton.{Config, answerLength};
 ghost use Rattle.rules.specs.Valid.{ValidNodes};
-ghost use Rattle.guard_state.specs.State.{numbersOf, stateOf};
+ghost use Rattle.guard_state.specs.State.{stateOf, numbersIn};
 ghost use Rattle.outcomes.specs.Sent.{Sends, Fills};
 ghost use Rattle.outcomes.specs.Answered.{answered};
+ghost use Rattle.memory.specs.Memories.{IsMemory};
+ghost use Rattle.numbers.specs.Slices.{KeepsLength};
 use guard_state::Guard;
 
 // close: the open file is taken out.
 pub fn accept_close(m: &mut [u8], reply: &[u8]) -> outcomes::Outcome
-    requires { ⌜ (numbersOf (memOf (now m) .head) .call ≡ 3) × (memorySize ≤ length (now m)) ⌝ }
-    ensures { λ r. ⌜ ((c : Config) → c .width ≡ ID-BYTES
-        → numbersOf (memOf (now (m .entry)) .head) .opened < numbersOf (memOf (now (m .entry)) .head) .opens → (q : List ℕ)
-        → Sends c (answered c (stateOf c (now (m .entry))) (now (reply .entry))) r (now (m .exit)) q q) ⌝ }
-    ensures { λ _. ⌜ length (now (m .exit)) ≡ length (now (m .entry)) ⌝ }
+    requires { ⌜ (numbersIn m .call ≡ 3) × IsMemory m ⌝ }
+    ensures { λ r. ⌜ ((c : Config) → c .width ≡ ID-BYTES → numbersIn (m .entry) .opened < numbersIn (m .entry) .opens → (q : List ℕ) → Sends c (answered c (stateOf c (now (m .entry))) (now (reply .entry))) r (now (m .exit)) q q) ⌝ }
+    ensures { λ _. ⌜ KeepsLength m ⌝ }
 {
     let b = replies::judge_status(reply, 0);
     if b != 0 {
@@ -41,12 +41,9 @@ pub fn accept_close(m: &mut [u8], reply: &[u8]) -> outcomes::Outcome
 
 // chmod: the node has the new mode.
 pub fn accept_chmod(m: &mut [u8], reply: &[u8]) -> outcomes::Outcome
-    requires { ⌜ (numbersOf (memOf (now m) .head) .call ≡ 5) × (memorySize ≤ length (now m)) ⌝ }
-    ensures { λ r. ⌜ ((c : Config) → c .width ≡ ID-BYTES
-        → numbersOf (memOf (now (m .entry)) .head) .node < numbersOf (memOf (now (m .entry)) .head) .nodes
-        → numbersOf (memOf (now (m .entry)) .head) .mode < 256 → (q : List ℕ)
-        → Sends c (answered c (stateOf c (now (m .entry))) (now (reply .entry))) r (now (m .exit)) q q) ⌝ }
-    ensures { λ _. ⌜ length (now (m .exit)) ≡ length (now (m .entry)) ⌝ }
+    requires { ⌜ (numbersIn m .call ≡ 5) × IsMemory m ⌝ }
+    ensures { λ r. ⌜ ((c : Config) → c .width ≡ ID-BYTES → numbersIn (m .entry) .node < numbersIn (m .entry) .nodes → numbersIn (m .entry) .mode < 256 → (q : List ℕ) → Sends c (answered c (stateOf c (now (m .entry))) (now (reply .entry))) r (now (m .exit)) q q) ⌝ }
+    ensures { λ _. ⌜ KeepsLength m ⌝ }
 {
     let b = replies::judge_status(reply, 0);
     if b != 0 {
@@ -63,12 +60,9 @@ pub fn accept_chmod(m: &mut [u8], reply: &[u8]) -> outcomes::Outcome
 
 // remove and rmdir: the node is taken out, and its digests.
 pub fn accept_remove(m: &mut [u8], reply: &[u8]) -> outcomes::Outcome
-    requires { ⌜ (numbersOf (memOf (now m) .head) .call ≡ 4) × (memorySize ≤ length (now m)) ⌝ }
-    ensures { λ r. ⌜ ((c : Config) → c .width ≡ ID-BYTES
-        → numbersOf (memOf (now (m .entry)) .head) .node < numbersOf (memOf (now (m .entry)) .head) .nodes
-        → pageTotal (stateOf c (now (m .entry)) .skeleton .tables .nodes) ≤ PAGES → (q : List ℕ)
-        → Sends c (answered c (stateOf c (now (m .entry))) (now (reply .entry))) r (now (m .exit)) q q) ⌝ }
-    ensures { λ _. ⌜ length (now (m .exit)) ≡ length (now (m .entry)) ⌝ }
+    requires { ⌜ (numbersIn m .call ≡ 4) × IsMemory m ⌝ }
+    ensures { λ r. ⌜ ((c : Config) → c .width ≡ ID-BYTES → numbersIn (m .entry) .node < numbersIn (m .entry) .nodes → pageTotal (stateOf c (now (m .entry)) .skeleton .tables .nodes) ≤ PAGES → (q : List ℕ) → Sends c (answered c (stateOf c (now (m .entry))) (now (reply .entry))) r (now (m .exit)) q q) ⌝ }
+    ensures { λ _. ⌜ KeepsLength m ⌝ }
 {
     let b = replies::judge_status(reply, 0);
     if b != 0 {
@@ -93,12 +87,9 @@ pub fn accept_remove(m: &mut [u8], reply: &[u8]) -> outcomes::Outcome
 
 // open: one more open file, at its beginning; done with its id, which is its handle.
 pub fn accept_open(m: &mut [u8], reply: &[u8]) -> outcomes::Outcome
-    requires { ⌜ (numbersOf (memOf (now m) .head) .call ≡ 2) × (memorySize ≤ length (now m)) ⌝ }
-    ensures { λ r. ⌜ ((c : Config) → c .width ≡ ID-BYTES
-        → numbersOf (memOf (now (m .entry)) .head) .node < numbersOf (memOf (now (m .entry)) .head) .nodes
-        → numbersOf (memOf (now (m .entry)) .head) .opens < openRows → numbersOf (memOf (now (m .entry)) .head) .rights < 256 → (q : List ℕ)
-        → Sends c (answered c (stateOf c (now (m .entry))) (now (reply .entry))) r (now (m .exit)) q q) ⌝ }
-    ensures { λ _. ⌜ length (now (m .exit)) ≡ length (now (m .entry)) ⌝ }
+    requires { ⌜ (numbersIn m .call ≡ 2) × IsMemory m ⌝ }
+    ensures { λ r. ⌜ ((c : Config) → c .width ≡ ID-BYTES → numbersIn (m .entry) .node < numbersIn (m .entry) .nodes → numbersIn (m .entry) .opens < openRows → numbersIn (m .entry) .rights < 256 → (q : List ℕ) → Sends c (answered c (stateOf c (now (m .entry))) (now (reply .entry))) r (now (m .exit)) q q) ⌝ }
+    ensures { λ _. ⌜ KeepsLength m ⌝ }
 {
     let g = Guard::load(m);
     let o = g.opens;
@@ -127,12 +118,9 @@ pub fn accept_open(m: &mut [u8], reply: &[u8]) -> outcomes::Outcome
 
 // create and mkdir: one more node, behind the others, with the staged name; done with its id.
 pub fn accept_create(m: &mut [u8], reply: &[u8]) -> outcomes::Outcome
-    requires { ⌜ (numbersOf (memOf (now m) .head) .call ≡ 1) × (memorySize ≤ length (now m)) ⌝ }
-    ensures { λ r. ⌜ ((c : Config) → c .width ≡ ID-BYTES → numbersOf (memOf (now (m .entry)) .head) .nodes < NODES
-        → numbersOf (memOf (now (m .entry)) .head) .bytes ≤ NAME-BYTES → numbersOf (memOf (now (m .entry)) .head) .kind < 256
-        → numbersOf (memOf (now (m .entry)) .head) .mode < 256 → (q : List ℕ)
-        → Sends c (answered c (stateOf c (now (m .entry))) (now (reply .entry))) r (now (m .exit)) q q) ⌝ }
-    ensures { λ _. ⌜ length (now (m .exit)) ≡ length (now (m .entry)) ⌝ }
+    requires { ⌜ (numbersIn m .call ≡ 1) × IsMemory m ⌝ }
+    ensures { λ r. ⌜ ((c : Config) → c .width ≡ ID-BYTES → numbersIn (m .entry) .nodes < NODES → numbersIn (m .entry) .bytes ≤ NAME-BYTES → numbersIn (m .entry) .kind < 256 → numbersIn (m .entry) .mode < 256 → (q : List ℕ) → Sends c (answered c (stateOf c (now (m .entry))) (now (reply .entry))) r (now (m .exit)) q q) ⌝ }
+    ensures { λ _. ⌜ KeepsLength m ⌝ }
 {
     let g = Guard::load(m);
     let n = g.nodes;
@@ -165,13 +153,9 @@ pub fn accept_create(m: &mut [u8], reply: &[u8]) -> outcomes::Outcome
 
 // stat: done with the size, and the reply's bytes.
 pub fn accept_stat(m: &mut [u8], reply: &[u8], answer: &mut [u8]) -> outcomes::Outcome
-    requires { ⌜ (numbersOf (memOf (now m) .head) .call ≡ 7) × (memorySize ≤ length (now m)) ⌝ }
-    ensures { λ r. ⌜ ((c : Config) → c .width ≡ ID-BYTES
-        → numbersOf (memOf (now (m .entry)) .head) .node < numbersOf (memOf (now (m .entry)) .head) .nodes
-        → answerLength c ≤ length (now (answer .entry))
-        → Fills c (answered c (stateOf c (now (m .entry))) (now (reply .entry))) r (now (m .exit)) (now (answer .entry))
-        (now (answer .exit))) ⌝ }
-    ensures { λ _. ⌜ length (now (m .exit)) ≡ length (now (m .entry)) ⌝ }
+    requires { ⌜ (numbersIn m .call ≡ 7) × IsMemory m ⌝ }
+    ensures { λ r. ⌜ ((c : Config) → c .width ≡ ID-BYTES → numbersIn (m .entry) .node < numbersIn (m .entry) .nodes → answerLength c ≤ length (now (answer .entry)) → Fills c (answered c (stateOf c (now (m .entry))) (now (reply .entry))) r (now (m .exit)) (now (answer .entry)) (now (answer .exit))) ⌝ }
+    ensures { λ _. ⌜ KeepsLength m ⌝ }
 {
     let g = Guard::load(m);
     let n = g.nodes;
@@ -197,13 +181,9 @@ pub fn accept_stat(m: &mut [u8], reply: &[u8], answer: &mut [u8]) -> outcomes::O
 
 // readdir: done with the number of entries, and the reply's bytes. A right listing is no longer than the answer buffer.
 pub fn accept_listing(m: &mut [u8], reply: &[u8], answer: &mut [u8]) -> outcomes::Outcome
-    requires { ⌜ (numbersOf (memOf (now m) .head) .call ≡ 6) × (memorySize ≤ length (now m)) ⌝ }
-    ensures { λ r. ⌜ ((c : Config) → c .width ≡ ID-BYTES → ValidNodes ID-BYTES (stateOf c (now (m .entry)) .skeleton .tables .nodes)
-        → numbersOf (memOf (now (m .entry)) .head) .node < numbersOf (memOf (now (m .entry)) .head) .nodes
-        → answerLength c ≤ length (now (answer .entry))
-        → Fills c (answered c (stateOf c (now (m .entry))) (now (reply .entry))) r (now (m .exit)) (now (answer .entry))
-        (now (answer .exit))) ⌝ }
-    ensures { λ _. ⌜ length (now (m .exit)) ≡ length (now (m .entry)) ⌝ }
+    requires { ⌜ (numbersIn m .call ≡ 6) × IsMemory m ⌝ }
+    ensures { λ r. ⌜ ((c : Config) → c .width ≡ ID-BYTES → ValidNodes ID-BYTES (stateOf c (now (m .entry)) .skeleton .tables .nodes) → numbersIn (m .entry) .node < numbersIn (m .entry) .nodes → answerLength c ≤ length (now (answer .entry)) → Fills c (answered c (stateOf c (now (m .entry))) (now (reply .entry))) r (now (m .exit)) (now (answer .entry)) (now (answer .exit))) ⌝ }
+    ensures { λ _. ⌜ KeepsLength m ⌝ }
 {
     let g = Guard::load(m);
     let n = g.nodes;

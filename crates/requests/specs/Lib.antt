@@ -1,3 +1,4 @@
 pub mod StoredPages
 pub mod PathRequests
+pub mod Room
 pub mod laws

@@ -4,13 +4,14 @@ ghost use mathlib.Core.List.{_∷_, _++_};
 ghost use Prim.Native.Nat.{_+_, _≤_};
 ghost use lib.ListN.{length};
 ghost use Rattle.lists.specs.LittleEndian.{encode};
-ghost use Rattle.lists.specs.Parts.{overwrite};
 ghost use Rattle.filesystem.specs.Tables.{PAGE-BYTES, FILE-BYTES, PATH-BYTES};
 ghost use Rattle.rules.specs.Pages.{writing, shrinking, resized, fill};
 ghost use Rattle.rules.specs.Requests.{closeRequest, fetchRequest, storeRequest, storeLength, cutRequest};
 ghost use Rattle.rules.specs.Skeleton.{atFront};
 ghost use Rattle.requests.specs.PathRequests.{hasNumber, pathRequest};
 ghost use Rattle.requests.specs.StoredPages.{zeros};
+ghost use Rattle.numbers.specs.Slices.{Overwritten};
+ghost use Rattle.requests.specs.Room.{HoldsRequest};
 
 // A store: kind, descriptor, page, size, and the page's bytes.
 pub const STORE_LENGTH: usize = STORE_FRONT + limits::PAGE_BYTES;
@@ -20,7 +21,7 @@ pub const STORE_FRONT: usize = 13;
 // The kind of a request and the descriptor, with which all begin.
 fn put_head(out: &mut [u8], kind: u8, descriptor: u32)
     requires { ⌜ 5 ≤ length (now out) ⌝ }
-    ensures { λ _. ⌜ now (out .exit) ≡ overwrite (now (out .entry)) 0 (kind ∷ encode 4 descriptor) ⌝ }
+    ensures { λ _. ⌜ Overwritten out 0 (kind ∷ encode 4 descriptor) ⌝ }
 {
     numbers::put_number(out, 1, 4, descriptor as u64);
     out[0] = kind;
@@ -29,7 +30,7 @@ fn put_head(out: &mut [u8], kind: u8, descriptor: u32)
 // The same with a number of four bytes behind.
 fn put_longer(out: &mut [u8], kind: u8, descriptor: u32, number: u64)
     requires { ⌜ 9 ≤ length (now out) ⌝ }
-    ensures { λ _. ⌜ now (out .exit) ≡ overwrite (now (out .entry)) 0 (kind ∷ (encode 4 descriptor ++ encode 4 number)) ⌝ }
+    ensures { λ _. ⌜ Overwritten out 0 (kind ∷ (encode 4 descriptor ++ encode 4 number)) ⌝ }
 {
     put_head(out, kind, descriptor);
     numbers::put_number(out, 5, 4, number);
@@ -47,8 +48,7 @@ fn put_plain(out: &mut [u8], kind: u8, path: &[u8]) -> usize
 
 fn put_numbered(out: &mut [u8], kind: u8, number: u8, path: &[u8]) -> usize
     requires { ⌜ 2 + length (now path) ≤ length (now out) ⌝ }
-    ensures { λ r. ⌜ (now (out .exit) ≡ atFront (kind ∷ number ∷ now (path .entry)) (now (out .entry)))
-        × (r ≡ 2 + length (now (path .entry))) ⌝ }
+    ensures { λ r. ⌜ (now (out .exit) ≡ atFront (kind ∷ number ∷ now (path .entry)) (now (out .entry))) × (r ≡ 2 + length (now (path .entry))) ⌝ }
 {
     let front = [kind, number];
     buffers::put(out, 0, &front);
@@ -68,9 +68,8 @@ fn has_number(kind: u8) -> bool
 
 // A call by path sends itself: its kind, its mode or rights where it has one, and the path.
 pub fn write_path(out: &mut [u8], kind: u8, number: u8, path: &[u8]) -> usize
-    requires { ⌜ (length (now path) ≤ PATH-BYTES) × (storeLength ≤ length (now out)) ⌝ }
-    ensures { λ r. ⌜ (now (out .exit) ≡ atFront (pathRequest kind number (now (path .entry))) (now (out .entry)))
-        × (r ≡ length (pathRequest kind number (now (path .entry)))) ⌝ }
+    requires { ⌜ (length (now path) ≤ PATH-BYTES) × HoldsRequest out ⌝ }
+    ensures { λ r. ⌜ (now (out .exit) ≡ atFront (pathRequest kind number (now (path .entry))) (now (out .entry))) × (r ≡ length (pathRequest kind number (now (path .entry)))) ⌝ }
 {
     if has_number(kind) {
         return put_numbered(out, kind, number, path);
@@ -80,7 +79,7 @@ pub fn write_path(out: &mut [u8], kind: u8, number: u8, path: &[u8]) -> usize
 
 // close: the descriptor.
 pub fn write_close(out: &mut [u8], descriptor: u32) -> usize
-    requires { ⌜ storeLength ≤ length (now out) ⌝ }
+    requires { ⌜ HoldsRequest out ⌝ }
     ensures { λ r. ⌜ (now (out .exit) ≡ atFront (closeRequest descriptor) (now (out .entry))) × (r ≡ length (closeRequest descriptor)) ⌝ }
 {
     put_head(out, 4, descriptor);
@@ -89,9 +88,8 @@ pub fn write_close(out: &mut [u8], descriptor: u32) -> usize
 
 // fetch: the descriptor and the page.
 pub fn write_fetch(out: &mut [u8], descriptor: u32, page: u32) -> usize
-    requires { ⌜ storeLength ≤ length (now out) ⌝ }
-    ensures { λ r. ⌜ (now (out .exit) ≡ atFront (fetchRequest descriptor page) (now (out .entry)))
-        × (r ≡ length (fetchRequest descriptor page)) ⌝ }
+    requires { ⌜ HoldsRequest out ⌝ }
+    ensures { λ r. ⌜ (now (out .exit) ≡ atFront (fetchRequest descriptor page) (now (out .entry))) × (r ≡ length (fetchRequest descriptor page)) ⌝ }
 {
     put_longer(out, 6, descriptor, page as u64);
     9
@@ -99,9 +97,8 @@ pub fn write_fetch(out: &mut [u8], descriptor: u32, page: u32) -> usize
 
 // cut: the descriptor and the size.
 pub fn write_cut(out: &mut [u8], descriptor: u32, size: u32) -> usize
-    requires { ⌜ storeLength ≤ length (now out) ⌝ }
-    ensures { λ r. ⌜ (now (out .exit) ≡ atFront (cutRequest descriptor size) (now (out .entry)))
-        × (r ≡ length (cutRequest descriptor size)) ⌝ }
+    requires { ⌜ HoldsRequest out ⌝ }
+    ensures { λ r. ⌜ (now (out .exit) ≡ atFront (cutRequest descriptor size) (now (out .entry))) × (r ≡ length (cutRequest descriptor size)) ⌝ }
 {
     put_longer(out, 8, descriptor, size as u64);
     9
@@ -109,7 +106,7 @@ pub fn write_cut(out: &mut [u8], descriptor: u32, size: u32) -> usize
 
 fn put_zeros(out: &mut [u8], at: usize, n: usize)
     requires { ⌜ at + n ≤ length (now out) ⌝ }
-    ensures { λ _. ⌜ now (out .exit) ≡ overwrite (now (out .entry)) at (zeros n) ⌝ }
+    ensures { λ _. ⌜ Overwritten out at (zeros n) ⌝ }
 {
     let mut i = 0;
     // i zeros are written
@@ -122,7 +119,7 @@ fn put_zeros(out: &mut [u8], at: usize, n: usize)
 // A page over a part of out: the bytes that there are, zeros behind.
 fn put_page(out: &mut [u8], at: usize, page: &[u8])
     requires { ⌜ (at + PAGE-BYTES ≤ length (now out)) × (length (now page) ≤ PAGE-BYTES) ⌝ }
-    ensures { λ _. ⌜ now (out .exit) ≡ overwrite (now (out .entry)) at (resized (now (page .entry)) PAGE-BYTES) ⌝ }
+    ensures { λ _. ⌜ Overwritten out at (resized (now (page .entry)) PAGE-BYTES) ⌝ }
 {
     let n = page.len();
     buffers::put(out, at, page);
@@ -132,8 +129,7 @@ fn put_page(out: &mut [u8], at: usize, page: &[u8])
 // Page i as a write stores it, over a part of out.
 fn put_written(out: &mut [u8], at: usize, page: &[u8], position: usize, bytes: &[u8], i: usize)
     requires { ⌜ (at + PAGE-BYTES ≤ length (now out)) × (length (now page) ≤ PAGE-BYTES) × (position ≤ FILE-BYTES) × (i ≤ 64) ⌝ }
-    ensures { λ _. ⌜ now (out .exit) ≡ overwrite (now (out .entry)) at
-        (fill (writing position (now (bytes .entry))) i (now (page .entry))) ⌝ }
+    ensures { λ _. ⌜ Overwritten out at (fill (writing position (now (bytes .entry))) i (now (page .entry))) ⌝ }
 {
     put_page(out, at, page);
     let start = i * limits::PAGE_BYTES;
@@ -152,7 +148,7 @@ fn put_written(out: &mut [u8], at: usize, page: &[u8], position: usize, bytes: &
 // Page i as a truncation stores it, over a part of out.
 fn put_cut(out: &mut [u8], at: usize, page: &[u8], size: usize, i: usize)
     requires { ⌜ (at + PAGE-BYTES ≤ length (now out)) × (length (now page) ≤ PAGE-BYTES) × (size ≤ FILE-BYTES) × (i ≤ 64) ⌝ }
-    ensures { λ _. ⌜ now (out .exit) ≡ overwrite (now (out .entry)) at (fill (shrinking size) i (now (page .entry))) ⌝ }
+    ensures { λ _. ⌜ Overwritten out at (fill (shrinking size) i (now (page .entry))) ⌝ }
 {
     let n = numbers::smaller(page.len(), numbers::excess(size, i * limits::PAGE_BYTES));
     put_page(out, at, &page[..n]);
@@ -161,7 +157,7 @@ fn put_cut(out: &mut [u8], at: usize, page: &[u8], size: usize, i: usize)
 // store, before its page: the descriptor, the page's number, the file's size.
 fn put_store(out: &mut [u8], descriptor: u32, i: usize, size: u32)
     requires { ⌜ 13 ≤ length (now out) ⌝ }
-    ensures { λ _. ⌜ now (out .exit) ≡ overwrite (now (out .entry)) 0 (7 ∷ (encode 4 descriptor ++ (encode 4 i ++ encode 4 size))) ⌝ }
+    ensures { λ _. ⌜ Overwritten out 0 (7 ∷ (encode 4 descriptor ++ (encode 4 i ++ encode 4 size))) ⌝ }
 {
     put_longer(out, 7, descriptor, i as u64);
     numbers::put_number(out, 9, 4, size as u64);
@@ -177,10 +173,8 @@ pub fn write_store(
     position: usize,
     bytes: &[u8],
 ) -> usize
-    requires { ⌜ (storeLength ≤ length (now out)) × (length (now page) ≤ PAGE-BYTES) × (position ≤ FILE-BYTES) × (i ≤ 64) ⌝ }
-    ensures { λ r. ⌜ (now (out .exit) ≡ atFront (storeRequest descriptor i size
-        (fill (writing position (now (bytes .entry))) i (now (page .entry)))) (now (out .entry)))
-        × (r ≡ storeLength) ⌝ }
+    requires { ⌜ HoldsRequest out × (length (now page) ≤ PAGE-BYTES) × (position ≤ FILE-BYTES) × (i ≤ 64) ⌝ }
+    ensures { λ r. ⌜ (now (out .exit) ≡ atFront (storeRequest descriptor i size (fill (writing position (now (bytes .entry))) i (now (page .entry)))) (now (out .entry))) × (r ≡ storeLength) ⌝ }
 {
     put_store(out, descriptor, i, size);
     put_written(out, STORE_FRONT, page, position, bytes, i);
@@ -196,10 +190,8 @@ pub fn write_store_cut(
     page: &[u8],
     to: usize,
 ) -> usize
-    requires { ⌜ (storeLength ≤ length (now out)) × (length (now page) ≤ PAGE-BYTES) × (to ≤ FILE-BYTES) × (i ≤ 64) ⌝ }
-    ensures { λ r. ⌜ (now (out .exit) ≡ atFront (storeRequest descriptor i size (fill (shrinking to) i (now (page .entry))))
-        (now (out .entry)))
-        × (r ≡ storeLength) ⌝ }
+    requires { ⌜ HoldsRequest out × (length (now page) ≤ PAGE-BYTES) × (to ≤ FILE-BYTES) × (i ≤ 64) ⌝ }
+    ensures { λ r. ⌜ (now (out .exit) ≡ atFront (storeRequest descriptor i size (fill (shrinking to) i (now (page .entry)))) (now (out .entry))) × (r ≡ storeLength) ⌝ }
 {
     put_store(out, descriptor, i, size);
     put_cut(out, STORE_FRONT, page, to, i);

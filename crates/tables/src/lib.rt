@@ -12,15 +12,17 @@ ghost use Rattle.digest.specs.Sha256.{sha256};
 ghost use Rattle.filesystem.specs.Tables.{NODES, PAGES, findId, findChild, children, findHandle, findDescriptor, nodeAt, pagesFor, pageTotal, setSize};
 ghost use Rattle.filesystem.specs.Image.{soundNodes, divide};
 ghost use Rattle.memory.specs.Records.{nodeOf, openOf};
-ghost use Rattle.memory.specs.Layout.{memOf, memorySize, openRows};
+ghost use Rattle.memory.specs.Layout.{memOf, openRows};
 ghost use Rattle.tables.specs.View.{viewOf, withNode, withoutNode, withOpen, withoutOpen, withChange, stagedDigests, Changeable, Spans, Room};
+ghost use Rattle.memory.specs.Memories.{IsMemory, nodesOf, opensOf, was};
+ghost use Rattle.numbers.specs.Slices.{KeepsLength};
 
 // ---- searches
 
 // The place of the node with this id, or n.
 pub fn find_id(m: &[u8], n: usize, id: u64) -> usize
-    requires { ⌜ (n ≤ NODES) × (memorySize ≤ length (now m)) ⌝ }
-    ensures { λ r. ⌜ r ≡ findId (take n (memOf (now (m .entry)) .nodes)) id ⌝ }
+    requires { ⌜ (n ≤ NODES) × IsMemory m ⌝ }
+    ensures { λ r. ⌜ r ≡ findId (nodesOf n m) id ⌝ }
 {
     let mut i = 0;
     // none before i has it
@@ -35,9 +37,8 @@ pub fn find_id(m: &[u8], n: usize, id: u64) -> usize
 
 // The same, with a place that is tried first: ids differ among sound nodes, so where it has the id, the search would find it too.
 pub fn find_node(m: &[u8], n: usize, id: u64, hint: usize) -> usize
-    requires { ⌜ (n ≤ NODES) × (memorySize ≤ length (now m)) ⌝ }
-    ensures { λ r. ⌜ ((w : ℕ) → soundNodes w (take n (memOf (now (m .entry)) .nodes)) ≡ true
-        → r ≡ findId (take n (memOf (now (m .entry)) .nodes)) id) ⌝ }
+    requires { ⌜ (n ≤ NODES) × IsMemory m ⌝ }
+    ensures { λ r. ⌜ ((w : ℕ) → soundNodes w (nodesOf n m) ≡ true → r ≡ findId (nodesOf n m) id) ⌝ }
 {
     if hint < n {
         if memory::node_id(m, hint) == id {
@@ -49,8 +50,8 @@ pub fn find_node(m: &[u8], n: usize, id: u64, hint: usize) -> usize
 
 // The place of the node with this parent and this name, or the count of nodes.
 pub fn find_child(m: &[u8], nodes: usize, parent: u64, name: &[u8]) -> usize
-    requires { ⌜ (nodes ≤ NODES) × (memorySize ≤ length (now m)) ⌝ }
-    ensures { λ r. ⌜ r ≡ findChild (take nodes (memOf (now (m .entry)) .nodes)) parent (now (name .entry)) ⌝ }
+    requires { ⌜ (nodes ≤ NODES) × IsMemory m ⌝ }
+    ensures { λ r. ⌜ r ≡ findChild (nodesOf nodes m) parent (now (name .entry)) ⌝ }
 {
     let mut i = 0;
     // none before i is it
@@ -65,8 +66,8 @@ pub fn find_child(m: &[u8], nodes: usize, parent: u64, name: &[u8]) -> usize
 
 // How many nodes have this parent.
 pub fn count_children(m: &[u8], n: usize, parent: u64) -> usize
-    requires { ⌜ (n ≤ NODES) × (memorySize ≤ length (now m)) ⌝ }
-    ensures { λ r. ⌜ r ≡ length (children (take n (memOf (now (m .entry)) .nodes)) parent) ⌝ }
+    requires { ⌜ (n ≤ NODES) × IsMemory m ⌝ }
+    ensures { λ r. ⌜ r ≡ length (children (nodesOf n m) parent) ⌝ }
 {
     let mut c = 0;
     let mut i = 0;
@@ -82,8 +83,8 @@ pub fn count_children(m: &[u8], n: usize, parent: u64) -> usize
 
 // The place of the open file with this handle, or o.
 pub fn find_handle(m: &[u8], o: usize, handle: u64) -> usize
-    requires { ⌜ (o ≤ openRows) × (memorySize ≤ length (now m)) ⌝ }
-    ensures { λ r. ⌜ r ≡ findHandle (take o (memOf (now (m .entry)) .opens)) handle ⌝ }
+    requires { ⌜ (o ≤ openRows) × IsMemory m ⌝ }
+    ensures { λ r. ⌜ r ≡ findHandle (opensOf o m) handle ⌝ }
 {
     let mut i = 0;
     // none before i has it
@@ -98,8 +99,8 @@ pub fn find_handle(m: &[u8], o: usize, handle: u64) -> usize
 
 // The place of the open file with this descriptor, or o: no open file has it.
 pub fn find_descriptor(m: &[u8], o: usize, descriptor: u32) -> usize
-    requires { ⌜ (o ≤ openRows) × (memorySize ≤ length (now m)) ⌝ }
-    ensures { λ r. ⌜ r ≡ findDescriptor (take o (memOf (now (m .entry)) .opens)) descriptor ⌝ }
+    requires { ⌜ (o ≤ openRows) × IsMemory m ⌝ }
+    ensures { λ r. ⌜ r ≡ findDescriptor (opensOf o m) descriptor ⌝ }
 {
     let mut i = 0;
     // none before i has it
@@ -125,9 +126,8 @@ pub fn pages_for(size: u32) -> usize
 
 // How many pages the first n nodes have, where the first k have s.
 fn pages_on(m: &[u8], k: usize, s: usize, n: usize) -> usize
-    requires { ⌜ (k ≤ n) × (n ≤ NODES) × (s ≡ pageTotal (take k (memOf (now m) .nodes))) × (s ≤ k * 4194304)
-        × (memorySize ≤ length (now m)) ⌝ }
-    ensures { λ r. ⌜ (r ≡ pageTotal (take n (memOf (now (m .entry)) .nodes))) × (r ≤ n * 4194304) ⌝ }
+    requires { ⌜ (k ≤ n) × (n ≤ NODES) × (s ≡ pageTotal (take k (memOf (now m) .nodes))) × (s ≤ k * 4194304) × IsMemory m ⌝ }
+    ensures { λ r. ⌜ (r ≡ pageTotal (nodesOf n m)) × (r ≤ n * 4194304) ⌝ }
 {
     let mut t = s;
     let mut i = k;
@@ -141,8 +141,8 @@ fn pages_on(m: &[u8], k: usize, s: usize, n: usize) -> usize
 
 // How many pages the first k nodes have: where the digests of node k begin.
 pub fn first_page(m: &[u8], k: usize) -> usize
-    requires { ⌜ (k ≤ NODES) × (memorySize ≤ length (now m)) ⌝ }
-    ensures { λ r. ⌜ (r ≡ pageTotal (take k (memOf (now (m .entry)) .nodes))) × (r ≤ k * 4194304) ⌝ }
+    requires { ⌜ (k ≤ NODES) × IsMemory m ⌝ }
+    ensures { λ r. ⌜ (r ≡ pageTotal (nodesOf k m)) × (r ≤ k * 4194304) ⌝ }
 {
     pages_on(m, 0, 0, k)
 }
@@ -156,8 +156,8 @@ struct Span {
 
 // The same of node k among the first n.
 fn pages_of(m: &[u8], n: usize, k: usize) -> Span
-    requires { ⌜ (k < n) × (n ≤ NODES) × (memorySize ≤ length (now m)) ⌝ }
-    ensures { λ r. ⌜ Spans (memOf (now (m .entry)) .nodes) n k r × (r .total ≤ n * 4194304) ⌝ }
+    requires { ⌜ (k < n) × (n ≤ NODES) × IsMemory m ⌝ }
+    ensures { λ r. ⌜ Spans (was m .nodes) n k r × (r .total ≤ n * 4194304) ⌝ }
 {
     let first = first_page(m, k);
     let end = first + pages_for(memory::node_size(m, k));
@@ -169,18 +169,18 @@ fn pages_of(m: &[u8], n: usize, k: usize) -> Span
 
 // One more node, behind the others; it has no pages.
 pub fn add_node(m: &mut [u8], n: usize, row: [u8; memory::NODE_WIDTH])
-    requires { ⌜ (n < NODES) × (nodeOf row .size ≡ 0) × (memorySize ≤ length (now m)) ⌝ }
-    ensures { λ _. ⌜ ((o : ℕ) → viewOf (n + 1) o (memOf (now (m .exit))) ≡ withNode (nodeOf row) (viewOf n o (memOf (now (m .entry))))) ⌝ }
-    ensures { λ _. ⌜ length (now (m .exit)) ≡ length (now (m .entry)) ⌝ }
+    requires { ⌜ (n < NODES) × (nodeOf row .size ≡ 0) × IsMemory m ⌝ }
+    ensures { λ _. ⌜ ((o : ℕ) → viewOf (n + 1) o (memOf (now (m .exit))) ≡ withNode (nodeOf row) (viewOf n o (was m))) ⌝ }
+    ensures { λ _. ⌜ KeepsLength m ⌝ }
 {
     memory::put_node(m, n, row);
 }
 
 // Node k is taken out; those behind it move up, and so do their digests.
 pub fn remove_node(m: &mut [u8], n: usize, k: usize)
-    requires { ⌜ (k < n) × (n ≤ NODES) × (pageTotal (take n (memOf (now m) .nodes)) ≤ PAGES) × (memorySize ≤ length (now m)) ⌝ }
-    ensures { λ _. ⌜ ((o : ℕ) → viewOf (n - 1) o (memOf (now (m .exit))) ≡ withoutNode k (viewOf n o (memOf (now (m .entry))))) ⌝ }
-    ensures { λ _. ⌜ length (now (m .exit)) ≡ length (now (m .entry)) ⌝ }
+    requires { ⌜ (k < n) × (n ≤ NODES) × (pageTotal (take n (memOf (now m) .nodes)) ≤ PAGES) × IsMemory m ⌝ }
+    ensures { λ _. ⌜ ((o : ℕ) → viewOf (n - 1) o (memOf (now (m .exit))) ≡ withoutNode k (viewOf n o (was m))) ⌝ }
+    ensures { λ _. ⌜ KeepsLength m ⌝ }
 {
     let s = pages_of(m, n, k);
     memory::move_digests(m, s.end, s.first, s.total - s.end);
@@ -189,29 +189,26 @@ pub fn remove_node(m: &mut [u8], n: usize, k: usize)
 
 // One more open file, behind the others.
 pub fn add_open(m: &mut [u8], o: usize, row: [u8; memory::OPEN_WIDTH])
-    requires { ⌜ (o < openRows) × (memorySize ≤ length (now m)) ⌝ }
-    ensures { λ _. ⌜ ((n : ℕ) → viewOf n (o + 1) (memOf (now (m .exit))) ≡ withOpen (openOf row) (viewOf n o (memOf (now (m .entry))))) ⌝ }
-    ensures { λ _. ⌜ length (now (m .exit)) ≡ length (now (m .entry)) ⌝ }
+    requires { ⌜ (o < openRows) × IsMemory m ⌝ }
+    ensures { λ _. ⌜ ((n : ℕ) → viewOf n (o + 1) (memOf (now (m .exit))) ≡ withOpen (openOf row) (viewOf n o (was m))) ⌝ }
+    ensures { λ _. ⌜ KeepsLength m ⌝ }
 {
     memory::put_open(m, o, row);
 }
 
 // Open file k is taken out; those behind it move up.
 pub fn remove_open(m: &mut [u8], o: usize, k: usize)
-    requires { ⌜ (k < o) × (o ≤ openRows) × (memorySize ≤ length (now m)) ⌝ }
-    ensures { λ _. ⌜ ((n : ℕ) → viewOf n (o - 1) (memOf (now (m .exit))) ≡ withoutOpen k (viewOf n o (memOf (now (m .entry))))) ⌝ }
-    ensures { λ _. ⌜ length (now (m .exit)) ≡ length (now (m .entry)) ⌝ }
+    requires { ⌜ (k < o) × (o ≤ openRows) × IsMemory m ⌝ }
+    ensures { λ _. ⌜ ((n : ℕ) → viewOf n (o - 1) (memOf (now (m .exit))) ≡ withoutOpen k (viewOf n o (was m))) ⌝ }
+    ensures { λ _. ⌜ KeepsLength m ⌝ }
 {
     memory::move_opens(m, k + 1, k, o - (k + 1));
 }
 
 // Whether these bytes are page i of node k: their SHA-256 is the kept one. Where no digest can stand, none is kept.
 pub fn is_page(m: &[u8], k: usize, i: usize, page: &[u8]) -> bool
-    requires { ⌜ (k < NODES) × (i < 4194304) × (memorySize ≤ length (now m)) ⌝ }
-    ensures { λ r. ⌜ ((n : ℕ) → k < n → n ≤ NODES → i < pagesFor (nodeAt (memOf (now (m .entry)) .nodes) k .size)
-        → pageTotal (take n (memOf (now (m .entry)) .nodes)) ≤ PAGES
-        → r ≡ equal (sha256 (now (page .entry))) (getD (getD (divide (take n (memOf (now (m .entry)) .nodes))
-        (memOf (now (m .entry)) .digests)) k []) i [])) ⌝ }
+    requires { ⌜ (k < NODES) × (i < 4194304) × IsMemory m ⌝ }
+    ensures { λ r. ⌜ ((n : ℕ) → k < n → n ≤ NODES → i < pagesFor (nodeAt (was m .nodes) k .size) → pageTotal (nodesOf n m) ≤ PAGES → r ≡ equal (sha256 (now (page .entry))) (getD (getD (divide (nodesOf n m) (was m .digests)) k []) i [])) ⌝ }
 {
     let at = first_page(m, k) + i;
     if limits::PAGES <= at {
@@ -223,8 +220,8 @@ pub fn is_page(m: &[u8], k: usize, i: usize, page: &[u8]) -> bool
 
 // How many pages all files have where node k is of this size.
 pub fn pages_with(m: &[u8], n: usize, k: usize, size: u32) -> usize
-    requires { ⌜ (k < n) × (n ≤ NODES) × (memorySize ≤ length (now m)) ⌝ }
-    ensures { λ r. ⌜ r ≡ pageTotal (setSize (take n (memOf (now (m .entry)) .nodes)) k size) ⌝ }
+    requires { ⌜ (k < n) × (n ≤ NODES) × IsMemory m ⌝ }
+    ensures { λ r. ⌜ r ≡ pageTotal (setSize (nodesOf n m) k size) ⌝ }
 {
     let s = pages_of(m, n, k);
     s.first + pages_for(size) + (s.total - s.end)
@@ -233,9 +230,8 @@ pub fn pages_with(m: &[u8], n: usize, k: usize, size: u32) -> usize
 // How many rows of digests stand behind those of node k, which end at `end`. Where the file keeps its count of pages none is moved, and none is
 // counted.
 fn rows_moved(m: &[u8], n: usize, k: usize, end: usize, old: usize, new: usize) -> usize
-    requires { ⌜ (k < n) × (n ≤ NODES) × (end ≡ pageTotal (take (k + 1) (memOf (now m) .nodes))) × (end ≤ (k + 1) * 4194304)
-        × (memorySize ≤ length (now m)) ⌝ }
-    ensures { λ r. ⌜ (r ≡ pick (eqb old new) 0 (pageTotal (take n (memOf (now (m .entry)) .nodes)) - end)) × (r ≤ n * 4194304) ⌝ }
+    requires { ⌜ (k < n) × (n ≤ NODES) × (end ≡ pageTotal (take (k + 1) (memOf (now m) .nodes))) × (end ≤ (k + 1) * 4194304) × IsMemory m ⌝ }
+    ensures { λ r. ⌜ (r ≡ pick (eqb old new) 0 (pageTotal (nodesOf n m) - end)) × (r ≤ n * 4194304) ⌝ }
 {
     if old == new {
         return 0;
@@ -266,12 +262,10 @@ fn has_room(first: usize, old: usize, new: usize, behind: usize, from: usize, co
 // A change of file k that can be done: its size, and the `count` staged digests for its pages from `from` on. The rows behind its pages move to
 // where these end.
 pub fn change_file(m: &mut [u8], n: usize, k: usize, size: u32, from: usize, count: usize) -> bool
-    requires { ⌜ (n ≤ NODES) × (memorySize ≤ length (now m)) ⌝ }
-    ensures { λ r. ⌜ (Changeable (take n (memOf (now (m .entry)) .nodes)) k size from count → (r ≡ true)
-        × ((blank : List ℕ) (o : ℕ) → viewOf n o (memOf (now (m .exit))) ≡ withChange blank k size from
-        (stagedDigests count (memOf (now (m .entry)) .staged)) (viewOf n o (memOf (now (m .entry)))))) ⌝ }
+    requires { ⌜ (n ≤ NODES) × IsMemory m ⌝ }
+    ensures { λ r. ⌜ (Changeable (nodesOf n m) k size from count → (r ≡ true) × ((blank : List ℕ) (o : ℕ) → viewOf n o (memOf (now (m .exit))) ≡ withChange blank k size from (stagedDigests count (was m .staged)) (viewOf n o (was m)))) ⌝ }
     ensures { λ r. ⌜ (r ≡ false → now (m .exit) ≡ now (m .entry)) ⌝ }
-    ensures { λ _. ⌜ length (now (m .exit)) ≡ length (now (m .entry)) ⌝ }
+    ensures { λ _. ⌜ KeepsLength m ⌝ }
 {
     if n <= k {
         return false;

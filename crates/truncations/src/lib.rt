@@ -6,31 +6,29 @@ ghost use Prim.Native.Nat.{ℕ, _/_, _<_, _≤_};
 ghost use lib.ListN.{length};
 ghost use Rattle.digest.specs.Sha256.{sha256};
 ghost use Rattle.filesystem.specs.Tables.{PAGE-BYTES, ID-BYTES};
-ghost use Rattle.memory.specs.Layout.{memOf, memorySize, openRows, newDigests};
+ghost use Rattle.memory.specs.Layout.{openRows, newDigests};
 ghost use Rattle.rules.specs.Calls.{truncate};
-ghost use Rattle.rules.specs.Requests.{storeLength};
 ghost use Rattle.rules.specs.Skeleton.{Config};
 ghost use Rattle.rules.specs.Rules.{callAction};
 ghost use Rattle.machine.specs.Machine.{askStore, pagesStored, pagesFrom, apply, guard as digestStore};
 ghost use Rattle.machine.specs.Consistent.{Consistent};
 ghost use Rattle.handle_calls.specs.Passed.{PassedAt};
-ghost use Rattle.guard_state.specs.State.{numbersOf, stateOf};
+ghost use Rattle.guard_state.specs.State.{stateOf, numbersIn};
 ghost use Rattle.outcomes.specs.Sent.{Sends};
 ghost use Rattle.outcomes.specs.Started.{startedBy};
 ghost use Rattle.outcomes.specs.Answered.{answered};
 ghost use Rattle.changes.specs.Sending.{Sending};
 ghost use Rattle.truncations.specs.Shrinking.{Shrinking, shrinkIn};
+ghost use Rattle.memory.specs.Memories.{IsMemory};
+ghost use Rattle.numbers.specs.Slices.{KeepsLength};
+ghost use Rattle.requests.specs.Room.{HoldsRequest};
 use guard_state::Guard;
 
 // The pending truncation asks for the cut.
 fn ask_cut(m: &mut [u8], request: &mut [u8]) -> outcomes::Outcome
-    requires { ⌜ Shrinking (numbersOf (memOf (now m) .head) .call) × (memorySize ≤ length (now m))
-        × (storeLength ≤ length (now request)) ⌝ }
-    ensures { λ r. ⌜ ((c : Config) → numbersOf (memOf (now (m .entry)) .head) .opened < numbersOf (memOf (now (m .entry)) .head) .opens
-        → Sends c (pagesStored c (digestStore c) (stateOf c (now (m .entry))) (numbersOf (memOf (now (m .entry)) .head) .node)
-        (numbersOf (memOf (now (m .entry)) .head) .opened) (shrinkIn (now (m .entry)))) r (now (m .exit)) (now (request .entry))
-        (now (request .exit))) ⌝ }
-    ensures { λ _. ⌜ length (now (m .exit)) ≡ length (now (m .entry)) ⌝ }
+    requires { ⌜ Shrinking (numbersIn m .call) × IsMemory m × HoldsRequest request ⌝ }
+    ensures { λ r. ⌜ ((c : Config) → numbersIn (m .entry) .opened < numbersIn (m .entry) .opens → Sends c (pagesStored c (digestStore c) (stateOf c (now (m .entry))) (numbersIn (m .entry) .node) (numbersIn (m .entry) .opened) (shrinkIn (now (m .entry)))) r (now (m .exit)) (now (request .entry)) (now (request .exit))) ⌝ }
+    ensures { λ _. ⌜ KeepsLength m ⌝ }
 {
     let g = Guard::load(m);
     let d = memory::open_descriptor(m, g.opened);
@@ -41,14 +39,9 @@ fn ask_cut(m: &mut [u8], request: &mut [u8]) -> outcomes::Outcome
 
 // The page that the new end lies in goes out, with zeros from there on.
 fn store_page(m: &mut [u8], fetched: &[u8], request: &mut [u8]) -> outcomes::Outcome
-    requires { ⌜ Shrinking (numbersOf (memOf (now m) .head) .call) × (numbersOf (memOf (now m) .head) .digests < newDigests)
-        × (length (now fetched) ≤ PAGE-BYTES) × (memorySize ≤ length (now m)) × (storeLength ≤ length (now request)) ⌝ }
-    ensures { λ r. ⌜ ((c : Config) → c .digest ≡ sha256
-        → Sending c (now (m .entry)) (shrinkIn (now (m .entry))) (numbersOf (memOf (now (m .entry)) .head) .page)
-        → Sends c (askStore c (digestStore c) (stateOf c (now (m .entry))) (numbersOf (memOf (now (m .entry)) .head) .node)
-        (numbersOf (memOf (now (m .entry)) .head) .opened) (shrinkIn (now (m .entry))) (numbersOf (memOf (now (m .entry)) .head) .page)
-        (now (fetched .entry))) r (now (m .exit)) (now (request .entry)) (now (request .exit))) ⌝ }
-    ensures { λ _. ⌜ length (now (m .exit)) ≡ length (now (m .entry)) ⌝ }
+    requires { ⌜ Shrinking (numbersIn m .call) × (numbersIn m .digests < newDigests) × (length (now fetched) ≤ PAGE-BYTES) × IsMemory m × HoldsRequest request ⌝ }
+    ensures { λ r. ⌜ ((c : Config) → c .digest ≡ sha256 → Sending c (now (m .entry)) (shrinkIn (now (m .entry))) (numbersIn (m .entry) .page) → Sends c (askStore c (digestStore c) (stateOf c (now (m .entry))) (numbersIn (m .entry) .node) (numbersIn (m .entry) .opened) (shrinkIn (now (m .entry))) (numbersIn (m .entry) .page) (now (fetched .entry))) r (now (m .exit)) (now (request .entry)) (now (request .exit))) ⌝ }
+    ensures { λ _. ⌜ KeepsLength m ⌝ }
 {
     let g = Guard::load(m);
     let size = memory::node_size(m, g.node);
@@ -60,13 +53,9 @@ fn store_page(m: &mut [u8], fetched: &[u8], request: &mut [u8]) -> outcomes::Out
 
 // The pending truncation asks for its first page, or, on a page's edge, for the cut.
 fn start(m: &mut [u8], request: &mut [u8]) -> outcomes::Outcome
-    requires { ⌜ Shrinking (numbersOf (memOf (now m) .head) .call) × (memorySize ≤ length (now m))
-        × (storeLength ≤ length (now request)) ⌝ }
-    ensures { λ r. ⌜ ((c : Config) → numbersOf (memOf (now (m .entry)) .head) .opened < numbersOf (memOf (now (m .entry)) .head) .opens
-        → Sends c (pagesFrom c (digestStore c) (stateOf c (now (m .entry))) (numbersOf (memOf (now (m .entry)) .head) .node)
-        (numbersOf (memOf (now (m .entry)) .head) .opened) (shrinkIn (now (m .entry)))
-        (numbersOf (memOf (now (m .entry)) .head) .size / PAGE-BYTES)) r (now (m .exit)) (now (request .entry)) (now (request .exit))) ⌝ }
-    ensures { λ _. ⌜ length (now (m .exit)) ≡ length (now (m .entry)) ⌝ }
+    requires { ⌜ Shrinking (numbersIn m .call) × IsMemory m × HoldsRequest request ⌝ }
+    ensures { λ r. ⌜ ((c : Config) → numbersIn (m .entry) .opened < numbersIn (m .entry) .opens → Sends c (pagesFrom c (digestStore c) (stateOf c (now (m .entry))) (numbersIn (m .entry) .node) (numbersIn (m .entry) .opened) (shrinkIn (now (m .entry))) (numbersIn (m .entry) .size / PAGE-BYTES)) r (now (m .exit)) (now (request .entry)) (now (request .exit))) ⌝ }
+    ensures { λ _. ⌜ KeepsLength m ⌝ }
 {
     let g = Guard::load(m);
     if g.size % Guard::PAGE_BYTES == 0 {
@@ -88,13 +77,9 @@ fn truncate_at(
     size: usize,
     request: &mut [u8],
 ) -> outcomes::Outcome
-    requires { ⌜ (opened < openRows) × (memorySize ≤ length (now m)) × (storeLength ≤ length (now request)) ⌝ }
-    ensures { λ r. ⌜ ((c : Config) → Consistent c (stateOf c (now (m .entry))) → (handle : ℕ)
-        → PassedAt (stateOf c (now (m .entry)) .skeleton .tables) handle (truncate handle size) opened node
-        → Sends c (apply c (digestStore c) (stateOf c (now (m .entry)))
-        (callAction (stateOf c (now (m .entry)) .skeleton .tables) (c .width) (truncate handle size))) r (now (m .exit))
-        (now (request .entry)) (now (request .exit))) ⌝ }
-    ensures { λ _. ⌜ length (now (m .exit)) ≡ length (now (m .entry)) ⌝ }
+    requires { ⌜ (opened < openRows) × IsMemory m × HoldsRequest request ⌝ }
+    ensures { λ r. ⌜ ((c : Config) → Consistent c (stateOf c (now (m .entry))) → (handle : ℕ) → PassedAt (stateOf c (now (m .entry)) .skeleton .tables) handle (truncate handle size) opened node → Sends c (apply c (digestStore c) (stateOf c (now (m .entry))) (callAction (stateOf c (now (m .entry)) .skeleton .tables) (c .width) (truncate handle size))) r (now (m .exit)) (now (request .entry)) (now (request .exit))) ⌝ }
+    ensures { λ _. ⌜ KeepsLength m ⌝ }
 {
     // no valid table has such a place or such a size
     if Guard::NODES <= node {
@@ -116,11 +101,9 @@ fn truncate_at(
 
 // truncate: the open file with this handle has this size.
 pub fn begin_truncate(m: &mut [u8], handle: u64, size: u64, request: &mut [u8]) -> outcomes::Outcome
-    requires { ⌜ (memorySize ≤ length (now m)) × (storeLength ≤ length (now request)) ⌝ }
-    ensures { λ r. ⌜ ((c : Config) → Consistent c (stateOf c (now (m .entry)))
-        → Sends c (startedBy c (stateOf c (now (m .entry))) (truncate handle size)) r (now (m .exit)) (now (request .entry))
-        (now (request .exit))) ⌝ }
-    ensures { λ _. ⌜ length (now (m .exit)) ≡ length (now (m .entry)) ⌝ }
+    requires { ⌜ IsMemory m × HoldsRequest request ⌝ }
+    ensures { λ r. ⌜ ((c : Config) → Consistent c (stateOf c (now (m .entry))) → Sends c (startedBy c (stateOf c (now (m .entry))) (truncate handle size)) r (now (m .exit)) (now (request .entry)) (now (request .exit))) ⌝ }
+    ensures { λ _. ⌜ KeepsLength m ⌝ }
 {
     let g = Guard::load(m);
     let j = handle_calls::judge_truncate(m, g.nodes, g.opens, handle, size);
@@ -140,11 +123,9 @@ pub fn begin_truncate(m: &mut [u8], handle: u64, size: u64, request: &mut [u8]) 
 
 // The page that the truncation fetched came.
 pub fn accept_fetched(m: &mut [u8], reply: &[u8], request: &mut [u8]) -> outcomes::Outcome
-    requires { ⌜ (numbersOf (memOf (now m) .head) .call ≡ 11) × (memorySize ≤ length (now m)) × (storeLength ≤ length (now request)) ⌝ }
-    ensures { λ r. ⌜ ((c : Config) → c .digest ≡ sha256 → Consistent c (stateOf c (now (m .entry)))
-        → Sends c (answered c (stateOf c (now (m .entry))) (now (reply .entry))) r (now (m .exit)) (now (request .entry))
-        (now (request .exit))) ⌝ }
-    ensures { λ _. ⌜ length (now (m .exit)) ≡ length (now (m .entry)) ⌝ }
+    requires { ⌜ (numbersIn m .call ≡ 11) × IsMemory m × HoldsRequest request ⌝ }
+    ensures { λ r. ⌜ ((c : Config) → c .digest ≡ sha256 → Consistent c (stateOf c (now (m .entry))) → Sends c (answered c (stateOf c (now (m .entry))) (now (reply .entry))) r (now (m .exit)) (now (request .entry)) (now (request .exit))) ⌝ }
+    ensures { λ _. ⌜ KeepsLength m ⌝ }
 {
     let g = Guard::load(m);
     let b = replies::judge_page(m, g.nodes, g.node, g.page, reply);
@@ -159,11 +140,9 @@ pub fn accept_fetched(m: &mut [u8], reply: &[u8], request: &mut [u8]) -> outcome
 
 // The page that the truncation stored is taken: the file is cut.
 pub fn accept_stored(m: &mut [u8], reply: &[u8], request: &mut [u8]) -> outcomes::Outcome
-    requires { ⌜ (numbersOf (memOf (now m) .head) .call ≡ 12) × (memorySize ≤ length (now m)) × (storeLength ≤ length (now request)) ⌝ }
-    ensures { λ r. ⌜ ((c : Config) → c .width ≡ ID-BYTES → Consistent c (stateOf c (now (m .entry)))
-        → Sends c (answered c (stateOf c (now (m .entry))) (now (reply .entry))) r (now (m .exit)) (now (request .entry))
-        (now (request .exit))) ⌝ }
-    ensures { λ _. ⌜ length (now (m .exit)) ≡ length (now (m .entry)) ⌝ }
+    requires { ⌜ (numbersIn m .call ≡ 12) × IsMemory m × HoldsRequest request ⌝ }
+    ensures { λ r. ⌜ ((c : Config) → c .width ≡ ID-BYTES → Consistent c (stateOf c (now (m .entry))) → Sends c (answered c (stateOf c (now (m .entry))) (now (reply .entry))) r (now (m .exit)) (now (request .entry)) (now (request .exit))) ⌝ }
+    ensures { λ _. ⌜ KeepsLength m ⌝ }
 {
     let b = replies::judge_status(reply, Guard::PAGE_BYTES as i32);
     if b != 0 {
@@ -174,10 +153,9 @@ pub fn accept_stored(m: &mut [u8], reply: &[u8], request: &mut [u8]) -> outcomes
 
 // The file is cut: the truncation is done.
 pub fn accept_cut(m: &mut [u8], reply: &[u8]) -> outcomes::Outcome
-    requires { ⌜ (numbersOf (memOf (now m) .head) .call ≡ 13) × (memorySize ≤ length (now m)) ⌝ }
-    ensures { λ r. ⌜ ((c : Config) → c .width ≡ ID-BYTES → Consistent c (stateOf c (now (m .entry))) → (q : List ℕ)
-        → Sends c (answered c (stateOf c (now (m .entry))) (now (reply .entry))) r (now (m .exit)) q q) ⌝ }
-    ensures { λ _. ⌜ length (now (m .exit)) ≡ length (now (m .entry)) ⌝ }
+    requires { ⌜ (numbersIn m .call ≡ 13) × IsMemory m ⌝ }
+    ensures { λ r. ⌜ ((c : Config) → c .width ≡ ID-BYTES → Consistent c (stateOf c (now (m .entry))) → (q : List ℕ) → Sends c (answered c (stateOf c (now (m .entry))) (now (reply .entry))) r (now (m .exit)) q q) ⌝ }
+    ensures { λ _. ⌜ KeepsLength m ⌝ }
 {
     let b = replies::judge_status(reply, 0);
     if b != 0 {

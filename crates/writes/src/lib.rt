@@ -5,21 +5,23 @@ ghost use Prim.Native.Nat.{ℕ, _+_, _*_, _<_, _≤_};
 ghost use lib.ListN.{length};
 ghost use Rattle.digest.specs.Sha256.{sha256};
 ghost use Rattle.filesystem.specs.Tables.{PAGE-BYTES, DATA-BYTES, ID-BYTES};
-ghost use Rattle.memory.specs.Layout.{memOf, memorySize, openRows, newDigests};
+ghost use Rattle.memory.specs.Layout.{openRows, newDigests};
 ghost use Rattle.rules.specs.Calls.{write};
 ghost use Rattle.rules.specs.Pages.{writing, fetches};
-ghost use Rattle.rules.specs.Requests.{storeLength};
 ghost use Rattle.rules.specs.Skeleton.{Config};
 ghost use Rattle.rules.specs.Rules.{callAction};
 ghost use Rattle.machine.specs.Machine.{askStore, onPage, pagesFrom, finishChange, apply, guard as digestStore};
 ghost use Rattle.machine.specs.Consistent.{Consistent};
 ghost use Rattle.handle_calls.specs.Passed.{PassedAt};
-ghost use Rattle.guard_state.specs.State.{numbersOf, stateOf, filePages};
+ghost use Rattle.guard_state.specs.State.{stateOf, filePages, numbersIn};
 ghost use Rattle.outcomes.specs.Sent.{Sends};
 ghost use Rattle.outcomes.specs.Started.{startedBy};
 ghost use Rattle.outcomes.specs.Answered.{answered};
 ghost use Rattle.changes.specs.Sending.{Sending};
 ghost use Rattle.writes.specs.Writing.{Writing, writeIn};
+ghost use Rattle.memory.specs.Memories.{IsMemory};
+ghost use Rattle.numbers.specs.Slices.{KeepsLength};
+ghost use Rattle.requests.specs.Room.{HoldsRequest};
 use guard_state::Guard;
 
 const FILE_PAGES: usize = Guard::FILE_BYTES / Guard::PAGE_BYTES;
@@ -41,14 +43,9 @@ fn is_fetched(position: usize, end: usize, size: usize, page: usize) -> bool
 
 // A page of the pending write goes out, made from the one that was fetched or from none.
 fn store_page(m: &mut [u8], page: usize, fetched: &[u8], request: &mut [u8]) -> outcomes::Outcome
-    requires { ⌜ Writing (numbersOf (memOf (now m) .head) .call) × (numbersOf (memOf (now m) .head) .digests < newDigests)
-        × (page ≤ filePages) × (length (now fetched) ≤ PAGE-BYTES) × (memorySize ≤ length (now m))
-        × (storeLength ≤ length (now request)) ⌝ }
-    ensures { λ r. ⌜ ((c : Config) → c .digest ≡ sha256 → Sending c (now (m .entry)) (writeIn (now (m .entry))) page
-        → Sends c (askStore c (digestStore c) (stateOf c (now (m .entry))) (numbersOf (memOf (now (m .entry)) .head) .node)
-        (numbersOf (memOf (now (m .entry)) .head) .opened) (writeIn (now (m .entry))) page (now (fetched .entry))) r (now (m .exit))
-        (now (request .entry)) (now (request .exit))) ⌝ }
-    ensures { λ _. ⌜ length (now (m .exit)) ≡ length (now (m .entry)) ⌝ }
+    requires { ⌜ Writing (numbersIn m .call) × (numbersIn m .digests < newDigests) × (page ≤ filePages) × (length (now fetched) ≤ PAGE-BYTES) × IsMemory m × HoldsRequest request ⌝ }
+    ensures { λ r. ⌜ ((c : Config) → c .digest ≡ sha256 → Sending c (now (m .entry)) (writeIn (now (m .entry))) page → Sends c (askStore c (digestStore c) (stateOf c (now (m .entry))) (numbersIn (m .entry) .node) (numbersIn (m .entry) .opened) (writeIn (now (m .entry))) page (now (fetched .entry))) r (now (m .exit)) (now (request .entry)) (now (request .exit))) ⌝ }
+    ensures { λ _. ⌜ KeepsLength m ⌝ }
 {
     let g = Guard::load(m);
     let end = g.position + g.bytes;
@@ -62,13 +59,9 @@ fn store_page(m: &mut [u8], page: usize, fetched: &[u8], request: &mut [u8]) -> 
 
 // The pending write is done: the file's size, its digests and the cursor.
 fn end_write(m: &mut [u8]) -> outcomes::Outcome
-    requires { ⌜ Writing (numbersOf (memOf (now m) .head) .call) × (memorySize ≤ length (now m)) ⌝ }
-    ensures { λ r. ⌜ ((c : Config) (i : ℕ) → Sending c (now (m .entry)) (writeIn (now (m .entry))) i
-        → numbersOf (memOf (now (m .entry)) .head) .position + numbersOf (memOf (now (m .entry)) .head) .bytes ≤ i * PAGE-BYTES
-        → (b : List ℕ)
-        → Sends c (finishChange c (digestStore c) (stateOf c (now (m .entry))) (numbersOf (memOf (now (m .entry)) .head) .node)
-        (numbersOf (memOf (now (m .entry)) .head) .opened) (writeIn (now (m .entry)))) r (now (m .exit)) b b) ⌝ }
-    ensures { λ _. ⌜ length (now (m .exit)) ≡ length (now (m .entry)) ⌝ }
+    requires { ⌜ Writing (numbersIn m .call) × IsMemory m ⌝ }
+    ensures { λ r. ⌜ ((c : Config) (i : ℕ) → Sending c (now (m .entry)) (writeIn (now (m .entry))) i → numbersIn (m .entry) .position + numbersIn (m .entry) .bytes ≤ i * PAGE-BYTES → (b : List ℕ) → Sends c (finishChange c (digestStore c) (stateOf c (now (m .entry))) (numbersIn (m .entry) .node) (numbersIn (m .entry) .opened) (writeIn (now (m .entry)))) r (now (m .exit)) b b) ⌝ }
+    ensures { λ _. ⌜ KeepsLength m ⌝ }
 {
     let g = Guard::load(m);
     let end = (g.position + g.bytes) as u32;
@@ -87,13 +80,9 @@ fn end_write(m: &mut [u8]) -> outcomes::Outcome
 
 // A page of the pending write: it is fetched, or goes out at once.
 fn on_page(m: &mut [u8], page: usize, request: &mut [u8]) -> outcomes::Outcome
-    requires { ⌜ Writing (numbersOf (memOf (now m) .head) .call) × (numbersOf (memOf (now m) .head) .digests < newDigests)
-        × (page ≤ filePages) × (memorySize ≤ length (now m)) × (storeLength ≤ length (now request)) ⌝ }
-    ensures { λ r. ⌜ ((c : Config) → c .digest ≡ sha256 → Sending c (now (m .entry)) (writeIn (now (m .entry))) page
-        → Sends c (onPage c (digestStore c) (stateOf c (now (m .entry))) (numbersOf (memOf (now (m .entry)) .head) .node)
-        (numbersOf (memOf (now (m .entry)) .head) .opened) (writeIn (now (m .entry))) page) r (now (m .exit)) (now (request .entry))
-        (now (request .exit))) ⌝ }
-    ensures { λ _. ⌜ length (now (m .exit)) ≡ length (now (m .entry)) ⌝ }
+    requires { ⌜ Writing (numbersIn m .call) × (numbersIn m .digests < newDigests) × (page ≤ filePages) × IsMemory m × HoldsRequest request ⌝ }
+    ensures { λ r. ⌜ ((c : Config) → c .digest ≡ sha256 → Sending c (now (m .entry)) (writeIn (now (m .entry))) page → Sends c (onPage c (digestStore c) (stateOf c (now (m .entry))) (numbersIn (m .entry) .node) (numbersIn (m .entry) .opened) (writeIn (now (m .entry))) page) r (now (m .exit)) (now (request .entry)) (now (request .exit))) ⌝ }
+    ensures { λ _. ⌜ KeepsLength m ⌝ }
 {
     let g = Guard::load(m);
     let end = g.position + g.bytes;
@@ -106,13 +95,9 @@ fn on_page(m: &mut [u8], page: usize, request: &mut [u8]) -> outcomes::Outcome
 
 // The pending write goes on with this page, or is done. No consistent write has more digests than there is room for.
 fn carry_on(m: &mut [u8], page: usize, request: &mut [u8]) -> outcomes::Outcome
-    requires { ⌜ Writing (numbersOf (memOf (now m) .head) .call) × (page ≤ filePages) × (memorySize ≤ length (now m))
-        × (storeLength ≤ length (now request)) ⌝ }
-    ensures { λ r. ⌜ ((c : Config) → c .digest ≡ sha256 → Sending c (now (m .entry)) (writeIn (now (m .entry))) page
-        → Sends c (pagesFrom c (digestStore c) (stateOf c (now (m .entry))) (numbersOf (memOf (now (m .entry)) .head) .node)
-        (numbersOf (memOf (now (m .entry)) .head) .opened) (writeIn (now (m .entry))) page) r (now (m .exit)) (now (request .entry))
-        (now (request .exit))) ⌝ }
-    ensures { λ _. ⌜ length (now (m .exit)) ≡ length (now (m .entry)) ⌝ }
+    requires { ⌜ Writing (numbersIn m .call) × (page ≤ filePages) × IsMemory m × HoldsRequest request ⌝ }
+    ensures { λ r. ⌜ ((c : Config) → c .digest ≡ sha256 → Sending c (now (m .entry)) (writeIn (now (m .entry))) page → Sends c (pagesFrom c (digestStore c) (stateOf c (now (m .entry))) (numbersIn (m .entry) .node) (numbersIn (m .entry) .opened) (writeIn (now (m .entry))) page) r (now (m .exit)) (now (request .entry)) (now (request .exit))) ⌝ }
+    ensures { λ _. ⌜ KeepsLength m ⌝ }
 {
     let g = Guard::load(m);
     if g.position + g.bytes <= page * Guard::PAGE_BYTES {
@@ -132,14 +117,9 @@ fn write_at(
     bytes: &[u8],
     request: &mut [u8],
 ) -> outcomes::Outcome
-    requires { ⌜ (opened < openRows) × (length (now bytes) ≤ DATA-BYTES) × (memorySize ≤ length (now m))
-        × (storeLength ≤ length (now request)) ⌝ }
-    ensures { λ r. ⌜ ((c : Config) → c .digest ≡ sha256 → Consistent c (stateOf c (now (m .entry))) → (handle : ℕ)
-        → PassedAt (stateOf c (now (m .entry)) .skeleton .tables) handle (write handle (now (bytes .entry))) opened node
-        → Sends c (apply c (digestStore c) (stateOf c (now (m .entry)))
-        (callAction (stateOf c (now (m .entry)) .skeleton .tables) (c .width) (write handle (now (bytes .entry))))) r (now (m .exit))
-        (now (request .entry)) (now (request .exit))) ⌝ }
-    ensures { λ _. ⌜ length (now (m .exit)) ≡ length (now (m .entry)) ⌝ }
+    requires { ⌜ (opened < openRows) × (length (now bytes) ≤ DATA-BYTES) × IsMemory m × HoldsRequest request ⌝ }
+    ensures { λ r. ⌜ ((c : Config) → c .digest ≡ sha256 → Consistent c (stateOf c (now (m .entry))) → (handle : ℕ) → PassedAt (stateOf c (now (m .entry)) .skeleton .tables) handle (write handle (now (bytes .entry))) opened node → Sends c (apply c (digestStore c) (stateOf c (now (m .entry))) (callAction (stateOf c (now (m .entry)) .skeleton .tables) (c .width) (write handle (now (bytes .entry))))) r (now (m .exit)) (now (request .entry)) (now (request .exit))) ⌝ }
+    ensures { λ _. ⌜ KeepsLength m ⌝ }
 {
     if bytes.len() == 0 {
         guard_state::finish(m);
@@ -162,11 +142,9 @@ fn write_at(
 
 // write: these bytes at the cursor of the open file with this handle.
 pub fn begin_write(m: &mut [u8], handle: u64, bytes: &[u8], request: &mut [u8]) -> outcomes::Outcome
-    requires { ⌜ (length (now bytes) ≤ DATA-BYTES) × (memorySize ≤ length (now m)) × (storeLength ≤ length (now request)) ⌝ }
-    ensures { λ r. ⌜ ((c : Config) → c .digest ≡ sha256 → Consistent c (stateOf c (now (m .entry)))
-        → Sends c (startedBy c (stateOf c (now (m .entry))) (write handle (now (bytes .entry)))) r (now (m .exit)) (now (request .entry))
-        (now (request .exit))) ⌝ }
-    ensures { λ _. ⌜ length (now (m .exit)) ≡ length (now (m .entry)) ⌝ }
+    requires { ⌜ (length (now bytes) ≤ DATA-BYTES) × IsMemory m × HoldsRequest request ⌝ }
+    ensures { λ r. ⌜ ((c : Config) → c .digest ≡ sha256 → Consistent c (stateOf c (now (m .entry))) → Sends c (startedBy c (stateOf c (now (m .entry))) (write handle (now (bytes .entry)))) r (now (m .exit)) (now (request .entry)) (now (request .exit))) ⌝ }
+    ensures { λ _. ⌜ KeepsLength m ⌝ }
 {
     let g = Guard::load(m);
     let j = handle_calls::judge_write(m, g.nodes, g.opens, handle, bytes);
@@ -180,11 +158,9 @@ pub fn begin_write(m: &mut [u8], handle: u64, bytes: &[u8], request: &mut [u8]) 
 
 // The page that the write fetched came.
 pub fn accept_fetched(m: &mut [u8], reply: &[u8], request: &mut [u8]) -> outcomes::Outcome
-    requires { ⌜ (numbersOf (memOf (now m) .head) .call ≡ 9) × (memorySize ≤ length (now m)) × (storeLength ≤ length (now request)) ⌝ }
-    ensures { λ r. ⌜ ((c : Config) → c .digest ≡ sha256 → Consistent c (stateOf c (now (m .entry)))
-        → Sends c (answered c (stateOf c (now (m .entry))) (now (reply .entry))) r (now (m .exit)) (now (request .entry))
-        (now (request .exit))) ⌝ }
-    ensures { λ _. ⌜ length (now (m .exit)) ≡ length (now (m .entry)) ⌝ }
+    requires { ⌜ (numbersIn m .call ≡ 9) × IsMemory m × HoldsRequest request ⌝ }
+    ensures { λ r. ⌜ ((c : Config) → c .digest ≡ sha256 → Consistent c (stateOf c (now (m .entry))) → Sends c (answered c (stateOf c (now (m .entry))) (now (reply .entry))) r (now (m .exit)) (now (request .entry)) (now (request .exit))) ⌝ }
+    ensures { λ _. ⌜ KeepsLength m ⌝ }
 {
     let g = Guard::load(m);
     let b = replies::judge_page(m, g.nodes, g.node, g.page, reply);
@@ -199,11 +175,9 @@ pub fn accept_fetched(m: &mut [u8], reply: &[u8], request: &mut [u8]) -> outcome
 
 // The page that the write stored is taken: 1,024 bytes of it.
 pub fn accept_stored(m: &mut [u8], reply: &[u8], request: &mut [u8]) -> outcomes::Outcome
-    requires { ⌜ (numbersOf (memOf (now m) .head) .call ≡ 10) × (memorySize ≤ length (now m)) × (storeLength ≤ length (now request)) ⌝ }
-    ensures { λ r. ⌜ ((c : Config) → c .digest ≡ sha256 → c .width ≡ ID-BYTES → Consistent c (stateOf c (now (m .entry)))
-        → Sends c (answered c (stateOf c (now (m .entry))) (now (reply .entry))) r (now (m .exit)) (now (request .entry))
-        (now (request .exit))) ⌝ }
-    ensures { λ _. ⌜ length (now (m .exit)) ≡ length (now (m .entry)) ⌝ }
+    requires { ⌜ (numbersIn m .call ≡ 10) × IsMemory m × HoldsRequest request ⌝ }
+    ensures { λ r. ⌜ ((c : Config) → c .digest ≡ sha256 → c .width ≡ ID-BYTES → Consistent c (stateOf c (now (m .entry))) → Sends c (answered c (stateOf c (now (m .entry))) (now (reply .entry))) r (now (m .exit)) (now (request .entry)) (now (request .exit))) ⌝ }
+    ensures { λ _. ⌜ KeepsLength m ⌝ }
 {
     let b = replies::judge_status(reply, Guard::PAGE_BYTES as i32);
     if b != 0 {

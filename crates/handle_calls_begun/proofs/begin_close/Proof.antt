@@ -48,7 +48,7 @@ returns c =
           close-sends q (stateOf q (a .m .now)) (a .handle) _ _ _ _ _ (a .request .now) _ _ (judged-at _ (j .judge-close .ensures) _ u (q .width) (h .holds .valid .tables .nodes-valid .sound)) (v .w .given .1)
           (ap (λ (t : Tables). openAt (t .opens) (v .w .given .0 .0) .descriptor) (sym u)
           ∙ ap (λ (x : OpenFile). x .descriptor) (open-front (l .load .result .opens) (memOf (a .m .now) .opens) (v .w .given .0 .0) (omega (arith, n, p))))
-          (s .send-close .ensures .0 q) (s .send-close .ensures .1 .1 .0) (s .send-close .ensures .1 .1 .1) (omega arith),
+          (s .send-close .ensures .0 q) (s .send-close .ensures .2) (s .send-close .ensures .3) (omega arith),
       omega arith,
     )
 

@@ -17,13 +17,9 @@ returns c =
     let d = w .before .before in
     let a = d .before .before .before .before .args in (
       w .wait-close .ensures .0,
-      (
-        omega arith,
-        (
-          p .write-close .ensures .0 ∙ ap (λ (i : ℕ). atFront (closeRequest i) (a .request .now)) (d .open-descriptor .ensures),
-          ap Ask (p .write-close .ensures .1 ∙ ap (λ (i : ℕ). length (closeRequest i)) (d .open-descriptor .ensures)),
-        ),
-      ),
+      omega arith,
+      p .write-close .ensures .0 ∙ ap (λ (i : ℕ). atFront (closeRequest i) (a .request .now)) (d .open-descriptor .ensures),
+      ap Ask (p .write-close .ensures .1 ∙ ap (λ (i : ℕ). length (closeRequest i)) (d .open-descriptor .ensures)),
     )
 
 pub send-close-spec : {M : Type 1} → statement M

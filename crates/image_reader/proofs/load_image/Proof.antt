@@ -44,8 +44,8 @@ load-digests-requires c κs =
     let s = b .args .image .now in
     let i = to-sound-image ID-BYTES s (bytes-of s (λ k. omega (arith, shared-slice-known .given k))) (b .pre .0) in
     let f = i .form in
-    let r : load-records .result ≡ recordsEnd ID-BYTES s = load-records .ensures .1 .1 ∙ ap (endFrom ID-BYTES s 4) (u32-at .ensures) in
-    (r, omega (arith, r, f .ends), i .few, omega (arith, load-records .ensures .1 .0, b .pre .1))
+    let r : load-records .result ≡ recordsEnd ID-BYTES s = load-records .ensures .1 ∙ ap (endFrom ID-BYTES s 4) (u32-at .ensures) in
+    (r, omega (arith, r, f .ends), i .few, omega (arith, load-records .ensures .0 .1, b .pre .1))
 
 returns : tie.Need-returns
 returns c =
@@ -56,8 +56,8 @@ returns c =
     let i = to-sound-image ID-BYTES s (bytes-of s (λ k. omega (arith, shared-slice-known .given k))) (b .pre .0) in
     let q = c .before .before .before .before .before .before .before .before .u32-at .ensures in
     let m = b .args .m .now in
-    let x = load-records .ensures .0 ∙ ap (λ (n : ℕ). withNodes (overwrite (memOf m .nodes) 0 (nodesFrom ID-BYTES s 4 n)) (memOf m)) q in
-    (both-loaded s m _ _ _ i q x (c .before .before .load-digests .ensures .0), c .before .before .load-digests .ensures .1 ∙ load-records .ensures .1 .0)
+    let x = load-records .ensures .0 .0 ∙ ap (λ (n : ℕ). withNodes (overwrite (memOf m .nodes) 0 (nodesFrom ID-BYTES s 4 n)) (memOf m)) q in
+    (both-loaded s m _ _ _ i q x (c .before .before .load-digests .ensures .0), c .before .before .load-digests .ensures .1 ∙ load-records .ensures .0 .1)
 
 pub load-image-spec : {M : Type 1} → statement M
 load-image-spec =

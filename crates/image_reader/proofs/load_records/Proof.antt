@@ -84,10 +84,9 @@ returns c =
     let a = c .before .before .before .before .args in
     let s = a .image .now in
     let l = c .before .loop in
-    let e : l .i ≡ a .n = omega arith in (
-      l .inv .4 ∙ ap (λ (n : ℕ). withNodes (overwrite (memOf (a .m .now) .nodes) 0 (nodesFrom ID-BYTES s 4 n)) (memOf (a .m .now))) e,
-      (l .inv .1, l .inv .2 ∙ ap (endFrom ID-BYTES s 4) e),
-    )
+    let e : l .i ≡ a .n = omega arith in
+    let made = λ (n : ℕ). withNodes (overwrite (memOf (a .m .now) .nodes) 0 (nodesFrom ID-BYTES s 4 n)) (memOf (a .m .now)) in
+    ((l .inv .4 ∙ ap made e, l .inv .1), l .inv .2 ∙ ap (endFrom ID-BYTES s 4) e)
 
 pub load-records-spec : {M : Type 1} → statement M
 load-records-spec =

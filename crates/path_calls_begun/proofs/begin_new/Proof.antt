@@ -72,7 +72,7 @@ returns-2 c =
           (s .send-new .ensures .0 q
           ∙ ap (λ (i : ℕ). waits q (stateOf q (a .m .now)) (asked (creating i (a .kind) (a .number) (drop (v .w .given .0 .1 .0) (a .path .now)))) gatheredNone)
           (sym (ap (λ x. x .id) (node-front (l .load .result .nodes) (memOf (a .m .now) .nodes) (v .w .given .0 .0) (omega (arith, n, p .within)))) ∙ ap (λ (x : Tables). nodeAt (x .nodes) (v .w .given .0 .0) .id) u))
-          (s .send-new .ensures .1 .1 .0) (s .send-new .ensures .1 .1 .1) (omega (arith, r, p .short)),
+          (s .send-new .ensures .2) (s .send-new .ensures .3) (omega (arith, r, p .short)),
       omega arith,
     )
 

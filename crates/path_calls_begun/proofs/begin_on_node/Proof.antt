@@ -62,7 +62,7 @@ returns-2 c =
       λ q h.
           node-sends q (stateOf q (a .m .now)) (a .path .now) (a .kind) (a .number) on _ _ _ (a .request .now) _ _
           (j .judge .ensures ∙ ap (λ (t : Tables). nodeFor t (a .path .now) (madeBy (a .kind) (a .number))) (tables-loaded (a .m .now) _ (l .load .ensures) q))
-          (v .w .given .1) (s .send .ensures .0 q) (s .send .ensures .1 .1 .0) (s .send .ensures .1 .1 .1) (omega (arith, r, p .1)),
+          (v .w .given .1) (s .send .ensures .0 q) (s .send .ensures .2) (s .send .ensures .3) (omega (arith, r, p .1)),
       omega arith,
     )
 

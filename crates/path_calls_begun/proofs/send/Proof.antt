@@ -10,7 +10,7 @@ returns : tie.Need-returns
 returns c =
     let p = c .before .before in
     let w = p .before .before .before .before in
-    (w .wait .ensures .0, (omega arith, (p .write-path .ensures .0, ap Ask (p .write-path .ensures .1))))
+    (w .wait .ensures .0, omega arith, p .write-path .ensures .0, ap Ask (p .write-path .ensures .1))
 
 pub send-spec : {M : Type 1} → statement M
 send-spec = tie.close (tie.spec (λ c κs. search needs) (λ c κs. search needs) (λ c. search needs) (λ c. search needs) returns)

@@ -33,7 +33,9 @@ returns c =
       λ q.
           w .wait-create .ensures .0 q
           ∙ ap₂ (λ (d : ℕ) (x : List ℕ). waits q (stateOf q (a .m .now)) (asked (creating d (a .kind) (a .number) x)) gatheredNone) (i .node-id .ensures) e,
-      (omega arith, (p .write-path .ensures .0, ap Ask (p .write-path .ensures .1))),
+      omega arith,
+      p .write-path .ensures .0,
+      ap Ask (p .write-path .ensures .1),
     )
 
 pub send-new-spec : {M : Type 1} → statement M

@@ -19,13 +19,9 @@ returns c =
     let d = w .before .before in
     let a = d .before .before .before .before .args in (
       w .wait-read .ensures .0,
-      (
-        omega arith,
-        (
-          p .write-fetch .ensures .0 ∙ ap (λ (x : ℕ). atFront (fetchRequest x (pageAt (a .position))) (a .request .now)) (d .open-descriptor .ensures),
-          ap Ask (p .write-fetch .ensures .1 ∙ ap (λ (x : ℕ). length (fetchRequest x (pageAt (a .position)))) (d .open-descriptor .ensures)),
-        ),
-      ),
+      omega arith,
+      p .write-fetch .ensures .0 ∙ ap (λ (x : ℕ). atFront (fetchRequest x (pageAt (a .position))) (a .request .now)) (d .open-descriptor .ensures),
+      ap Ask (p .write-fetch .ensures .1 ∙ ap (λ (x : ℕ). length (fetchRequest x (pageAt (a .position)))) (d .open-descriptor .ensures)),
     )
 
 pub fetch-spec : {M : Type 1} → statement M

@@ -67,7 +67,7 @@ returns-3 c =
           page-sends q (stateOf q (a .m .now)) (a .opened) (a .node) (a .count) _ _ (openAt (memOf (a .m .now) .opens) (a .opened)) _ (a .request .now) _ _
           (left-loaded (a .m .now) q (a .n) (a .opened) (a .node) (a .count) _ _ _ _ (b .pre .0) (b .pre .1) (s .smaller .ensures) (x .excess .ensures) (z .size-at .ensures) (o .open-cursor .ensures))
           (i .if1 .left) (open-loaded (a .m .now) q (a .opened) (b .pre .1)) (o .open-cursor .ensures)
-          (f .fetch .ensures .0 q) (f .fetch .ensures .1 .1 .0) (f .fetch .ensures .1 .1 .1) (omega arith),
+          (f .fetch .ensures .0 q) (f .fetch .ensures .2) (f .fetch .ensures .3) (omega arith),
       omega arith,
     )
 
