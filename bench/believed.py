@@ -16,7 +16,8 @@ TOP = Path(__file__).resolve().parent.parent
 LIST = TOP / "docs" / "BELIEVED.md"
 
 ROOTS = {
-    "guard/Promise": ("Promise", "FreshPromise", "SavePromise", "LoadPromise", "Shown"),
+    "guard/Entries": ("Called", "Replied", "Saved", "Loaded", "MadeFresh"),
+    "guard/Promise": ("Shown",),
     "guard_guarantee/Chains": ("Link", "Begins", "FirstHalf", "SecondHalf", "FirstHalfOfLives", "SecondHalfOfLives"),
     "machine/Claim": ("FirstHalf", "SecondHalf"),
     "machine/Restart": ("FirstHalfOfLives", "SecondHalfOfLives"),

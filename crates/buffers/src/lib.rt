@@ -59,7 +59,8 @@ fn same_to_32(a: &[u8], b: &[u8]) -> bool
     same_to_16(&a[0..16], &b[0..16])
 }
 
-// Whether two strings are equal. Names and digests are compared without a loop: a search is then an innermost loop, which is compiled to one pointer.
+// Whether two strings are equal. Names and digests are compared without a loop: a search is then an innermost loop,
+// which is compiled to one pointer.
 pub fn same(a: &[u8], b: &[u8]) -> bool
     ensures { λ r. ⌜ r ≡ equal (now (a .entry)) (now (b .entry)) ⌝ }
 {
@@ -108,7 +109,8 @@ fn put_block(m: &mut [u8], at: usize, b: [u8; 128])
     }
 }
 
-// x written over the part of m at `at`, a byte at a time. Public for a local array that other writes follow: its stores are then merged.
+// x written over the part of m at `at`, a byte at a time. Public for a local array that other writes follow: its stores
+// are then merged.
 pub fn put_bytes(m: &mut [u8], at: usize, x: &[u8])
     requires { ⌜ at + length (now x) ≤ length (now m) ⌝ }
     ensures { λ _. ⌜ Overwritten m at (now (x .entry)) ⌝ }

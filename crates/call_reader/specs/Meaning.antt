@@ -9,9 +9,11 @@ use lib.ListN.{drop}
 use Rattle.lists.specs.Pick.{pick}
 use Rattle.filesystem.specs.Tables.{ID-BYTES, DATA-BYTES}
 use Rattle.filesystem.specs.Paths.{Path}
-use Rattle.rules.specs.Calls.{Call, create, mkdir, openAs, close, seek, read, write, truncate, remove, rmdir, chmod, readdir, stat, byPath}
+use Rattle.rules.specs.Calls.{Call, create, mkdir, openAs, close, seek, read, write, truncate, remove, rmdir, chmod}
+use Rattle.rules.specs.Calls.{readdir, stat, byPath}
 use Rattle.call_reader.specs.declared.ParsedCall.{ParsedCall}
-use Rattle.call_reader.specs.declared.ParsedCall.the-variants.{ByPath, Close, Seek, Read, Write, Truncate, Malformed}
+use Rattle.call_reader.specs.declared.ParsedCall.the-variants.{ByPath, Close, Seek, Read, Write, Truncate}
+use Rattle.call_reader.specs.declared.ParsedCall.the-variants.{Malformed}
 
 -- the call of a kind with a path
 unfoldable pub madeBy : (kind number : ℕ) → Path → Call

@@ -1,4 +1,5 @@
-// A call read from its bytes, once: its kind and its fields by value, or that the form is wrong. A path's own form is judged with the path.
+// A call read from its bytes, once: its kind and its fields by value, or that the form is wrong. A path's own form is
+// judged with the path.
 ghost use mathlib.Core.Path.{_≡_};
 ghost use mathlib.Core.Bool.{true};
 ghost use Prim.Native.Nat.{ℕ, _<_, _≤_};
@@ -6,8 +7,10 @@ ghost use lib.Dec.{leb};
 ghost use lib.ListN.{length, drop};
 ghost use Rattle.lists.specs.All.{Bytes};
 ghost use Rattle.filesystem.specs.Tables.{ID-BYTES, DATA-BYTES};
-ghost use Rattle.rules.specs.Calls.{close, seek, read, write, truncate, byPath, byNumberAndPath, byHandle, byHandleAndNumber, byHandleAndBytes, readFields, readCall};
+ghost use Rattle.rules.specs.Calls.{close, seek, read, write, truncate, byPath, byNumberAndPath, byHandle};
+ghost use Rattle.rules.specs.Calls.{byHandleAndNumber, byHandleAndBytes, readFields, readCall};
 ghost use Rattle.call_reader.specs.Meaning.{madeBy, meant, NumberFits, Ranges};
+use limits::kinds;
 
 // What a call's bytes say; `Malformed` where the kind, a length or a number is wrong (22).
 pub enum ParsedCall {
@@ -26,15 +29,18 @@ pub enum ParsedCall {
 // Where the fields after a handle begin.
 const AFTER_HANDLE: usize = 1 + limits::ID_BYTES;
 
-// Modes are 0 to 7.
+// Modes are 0 to 7, rights 1 to 3.
 const LAST_MODE: u8 = 7;
+
+const LAST_RIGHTS: u8 = 3;
 
 // ---- the fields, shape by shape
 
 // A number from `least` to `most`, then a path.
 fn read_numbered(s: &[u8], kind: u8, least: u8, most: u8) -> ParsedCall
     requires { ⌜ (0 < length (now s)) × ((n : ℕ) → least ≤ n → n ≤ most → NumberFits kind n) ⌝ }
-    ensures { λ r. ⌜ (meant r (now (s .entry)) ≡ byNumberAndPath least most (madeBy kind) (drop 1 (now (s .entry)))) × Ranges r (length (now (s .entry))) ⌝ }
+    ensures { λ r. ⌜ (meant r (now (s .entry)) ≡ byNumberAndPath least most (madeBy kind) (drop 1 (now (s .entry))))
+        × Ranges r (length (now (s .entry))) ⌝ }
 {
     if s.len() == 1 {
         return ParsedCall::Malformed;
@@ -56,7 +62,8 @@ fn read_numbered(s: &[u8], kind: u8, least: u8, most: u8) -> ParsedCall
 // A path.
 fn read_plain(s: &[u8], kind: u8) -> ParsedCall
     requires { ⌜ (0 < length (now s)) × NumberFits kind 0 ⌝ }
-    ensures { λ r. ⌜ (meant r (now (s .entry)) ≡ byPath (madeBy kind 0) (drop 1 (now (s .entry)))) × Ranges r (length (now (s .entry))) ⌝ }
+    ensures { λ r. ⌜ (meant r (now (s .entry)) ≡ byPath (madeBy kind 0) (drop 1 (now (s .entry))))
+        × Ranges r (length (now (s .entry))) ⌝ }
 {
     ParsedCall::ByPath {
         kind,
@@ -68,7 +75,8 @@ fn read_plain(s: &[u8], kind: u8) -> ParsedCall
 // close: a handle.
 fn read_close(s: &[u8]) -> ParsedCall
     requires { ⌜ (0 < length (now s)) × Bytes (now s) ⌝ }
-    ensures { λ r. ⌜ (meant r (now (s .entry)) ≡ byHandle ID-BYTES close (drop 1 (now (s .entry)))) × Ranges r (length (now (s .entry))) ⌝ }
+    ensures { λ r. ⌜ (meant r (now (s .entry)) ≡ byHandle ID-BYTES close (drop 1 (now (s .entry))))
+        × Ranges r (length (now (s .entry))) ⌝ }
 {
     if s.len() != AFTER_HANDLE {
         return ParsedCall::Malformed;
@@ -80,7 +88,8 @@ fn read_close(s: &[u8]) -> ParsedCall
 // seek: a handle, then the position.
 fn read_seek(s: &[u8]) -> ParsedCall
     requires { ⌜ (0 < length (now s)) × Bytes (now s) ⌝ }
-    ensures { λ r. ⌜ (meant r (now (s .entry)) ≡ byHandleAndNumber ID-BYTES 8 (λ n. true) seek (drop 1 (now (s .entry)))) × Ranges r (length (now (s .entry))) ⌝ }
+    ensures { λ r. ⌜ (meant r (now (s .entry)) ≡ byHandleAndNumber ID-BYTES 8 (λ n. true) seek
+        (drop 1 (now (s .entry)))) × Ranges r (length (now (s .entry))) ⌝ }
 {
     if s.len() != AFTER_HANDLE + 8 {
         return ParsedCall::Malformed;
@@ -93,7 +102,8 @@ fn read_seek(s: &[u8]) -> ParsedCall
 // truncate: a handle, then the size.
 fn read_truncate(s: &[u8]) -> ParsedCall
     requires { ⌜ (0 < length (now s)) × Bytes (now s) ⌝ }
-    ensures { λ r. ⌜ (meant r (now (s .entry)) ≡ byHandleAndNumber ID-BYTES 8 (λ n. true) truncate (drop 1 (now (s .entry)))) × Ranges r (length (now (s .entry))) ⌝ }
+    ensures { λ r. ⌜ (meant r (now (s .entry)) ≡ byHandleAndNumber ID-BYTES 8 (λ n. true) truncate
+        (drop 1 (now (s .entry)))) × Ranges r (length (now (s .entry))) ⌝ }
 {
     if s.len() != AFTER_HANDLE + 8 {
         return ParsedCall::Malformed;
@@ -106,7 +116,8 @@ fn read_truncate(s: &[u8]) -> ParsedCall
 // read: a handle, then the count.
 fn read_read(s: &[u8]) -> ParsedCall
     requires { ⌜ (0 < length (now s)) × Bytes (now s) ⌝ }
-    ensures { λ r. ⌜ (meant r (now (s .entry)) ≡ byHandleAndNumber ID-BYTES 4 (λ n. leb n DATA-BYTES) read (drop 1 (now (s .entry)))) × Ranges r (length (now (s .entry))) ⌝ }
+    ensures { λ r. ⌜ (meant r (now (s .entry)) ≡ byHandleAndNumber ID-BYTES 4 (λ n. leb n DATA-BYTES) read
+        (drop 1 (now (s .entry)))) × Ranges r (length (now (s .entry))) ⌝ }
 {
     if s.len() != AFTER_HANDLE + 4 {
         return ParsedCall::Malformed;
@@ -122,7 +133,8 @@ fn read_read(s: &[u8]) -> ParsedCall
 // write: a handle, then the data.
 fn read_write(s: &[u8]) -> ParsedCall
     requires { ⌜ (0 < length (now s)) × Bytes (now s) ⌝ }
-    ensures { λ r. ⌜ (meant r (now (s .entry)) ≡ byHandleAndBytes ID-BYTES write (drop 1 (now (s .entry)))) × Ranges r (length (now (s .entry))) ⌝ }
+    ensures { λ r. ⌜ (meant r (now (s .entry)) ≡ byHandleAndBytes ID-BYTES write (drop 1 (now (s .entry))))
+        × Ranges r (length (now (s .entry))) ⌝ }
 {
     if s.len() < AFTER_HANDLE {
         return ParsedCall::Malformed;
@@ -142,13 +154,14 @@ fn read_write(s: &[u8]) -> ParsedCall
 // close, seek, read, write, truncate.
 fn read_by_handle(s: &[u8], kind: u8) -> ParsedCall
     requires { ⌜ (0 < length (now s)) × Bytes (now s) × (4 ≤ kind) × (kind ≤ 8) ⌝ }
-    ensures { λ r. ⌜ (meant r (now (s .entry)) ≡ readFields ID-BYTES kind (drop 1 (now (s .entry)))) × Ranges r (length (now (s .entry))) ⌝ }
+    ensures { λ r. ⌜ (meant r (now (s .entry)) ≡ readFields ID-BYTES kind (drop 1 (now (s .entry))))
+        × Ranges r (length (now (s .entry))) ⌝ }
 {
     match kind {
-        4 => read_close(s),
-        5 => read_seek(s),
-        6 => read_read(s),
-        7 => read_write(s),
+        kinds::CLOSE => read_close(s),
+        kinds::SEEK => read_seek(s),
+        kinds::READ => read_read(s),
+        kinds::WRITE => read_write(s),
         _ => read_truncate(s),
     }
 }
@@ -156,41 +169,44 @@ fn read_by_handle(s: &[u8], kind: u8) -> ParsedCall
 // create, mkdir, open.
 fn read_opening(s: &[u8], kind: u8) -> ParsedCall
     requires { ⌜ (0 < length (now s)) × (1 ≤ kind) × (kind ≤ 3) ⌝ }
-    ensures { λ r. ⌜ (meant r (now (s .entry)) ≡ readFields ID-BYTES kind (drop 1 (now (s .entry)))) × Ranges r (length (now (s .entry))) ⌝ }
+    ensures { λ r. ⌜ (meant r (now (s .entry)) ≡ readFields ID-BYTES kind (drop 1 (now (s .entry))))
+        × Ranges r (length (now (s .entry))) ⌝ }
 {
     match kind {
-        1 => read_numbered(s, 1, 0, LAST_MODE),
-        2 => read_numbered(s, 2, 0, LAST_MODE),
-        _ => read_numbered(s, 3, 1, 3),
+        kinds::CREATE => read_numbered(s, kinds::CREATE, 0, LAST_MODE),
+        kinds::MKDIR => read_numbered(s, kinds::MKDIR, 0, LAST_MODE),
+        _ => read_numbered(s, kinds::OPEN, 1, LAST_RIGHTS),
     }
 }
 
 // remove, rmdir, chmod, readdir, stat.
 fn read_by_path(s: &[u8], kind: u8) -> ParsedCall
     requires { ⌜ (0 < length (now s)) × (9 ≤ kind) × (kind ≤ 13) ⌝ }
-    ensures { λ r. ⌜ (meant r (now (s .entry)) ≡ readFields ID-BYTES kind (drop 1 (now (s .entry)))) × Ranges r (length (now (s .entry))) ⌝ }
+    ensures { λ r. ⌜ (meant r (now (s .entry)) ≡ readFields ID-BYTES kind (drop 1 (now (s .entry))))
+        × Ranges r (length (now (s .entry))) ⌝ }
 {
     match kind {
-        9 => read_plain(s, 9),
-        10 => read_plain(s, 10),
-        11 => read_numbered(s, 11, 0, LAST_MODE),
-        12 => read_plain(s, 12),
-        _ => read_plain(s, 13),
+        kinds::REMOVE => read_plain(s, kinds::REMOVE),
+        kinds::RMDIR => read_plain(s, kinds::RMDIR),
+        kinds::CHMOD => read_numbered(s, kinds::CHMOD, 0, LAST_MODE),
+        kinds::READDIR => read_plain(s, kinds::READDIR),
+        _ => read_plain(s, kinds::STAT),
     }
 }
 
 // Any bytes.
 pub fn read_call(s: &[u8]) -> ParsedCall
-    ensures { λ r. ⌜ (meant r (now (s .entry)) ≡ readCall ID-BYTES (now (s .entry))) × Ranges r (length (now (s .entry))) ⌝ }
+    ensures { λ r. ⌜ (meant r (now (s .entry)) ≡ readCall ID-BYTES (now (s .entry)))
+        × Ranges r (length (now (s .entry))) ⌝ }
 {
     if s.len() == 0 {
         return ParsedCall::Malformed;
     }
     let kind = s[0];
     match kind {
-        1..=3 => read_opening(s, kind),
-        4..=8 => read_by_handle(s, kind),
-        9..=13 => read_by_path(s, kind),
+        kinds::CREATE..=kinds::OPEN => read_opening(s, kind),
+        kinds::CLOSE..=kinds::TRUNCATE => read_by_handle(s, kind),
+        kinds::REMOVE..=kinds::STAT => read_by_path(s, kind),
         _ => ParsedCall::Malformed,
     }
 }

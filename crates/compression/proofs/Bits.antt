@@ -1,4 +1,5 @@
--- The short forms of Ch and Maj, and that ⊕ is associative, bit by bit: a number is twice its half and its lowest bit, and each
+-- The short forms of Ch and Maj, and that ⊕ is associative, bit by bit: a number is twice its half and its lowest bit,
+-- and each
 -- operation works on the two parts. Assumes nothing.
 use mathlib.Core.Path.{_≡_, refl, _∙_}
 use Prim.Native.Nat.{ℕ, zero, suc, _+_, _-_, _*_, _/_, _%_, _^_, _<_, min}
@@ -84,7 +85,8 @@ abbrev Majᵂ : ℕ → ℕ → ℕ → Type 0
 Majᵂ x y z = bitXor (bitAnd (bitXor x y) (bitXor y z)) y ≡ bitXor (bitXor (bitAnd x y) (bitAnd x z)) (bitAnd y z)
 
 pub maj-short : (k x y z : ℕ) → x < 2 ^ k → y < 2 ^ k → z < 2 ^ k → Majᵂ x y z
-maj-short zero x y z p q r = empty (λ x. Majᵂ x y z) (empty (λ y. Majᵂ 0 y z) (empty (λ z. Majᵂ 0 0 z) refl z r) y q) x p
+maj-short zero x y z p q r = empty (λ x. Majᵂ x y z) (empty (λ y. Majᵂ 0 y z) (empty (λ z. Majᵂ 0 0 z) refl z r) y q) x
+    p
 maj-short (suc k) x y z p q r =
     let a = parts x in
     let b = parts y in
@@ -99,7 +101,8 @@ abbrev Chᵂ : ℕ → ℕ → ℕ → ℕ → Type 0
 Chᵂ k x y z = bitXor (bitAnd (bitXor y z) x) z ≡ bitXor (bitAnd x y) (bitAnd (2 ^ k - 1 - x) z)
 
 pub ch-short : (k x y z : ℕ) → x < 2 ^ k → y < 2 ^ k → z < 2 ^ k → Chᵂ k x y z
-ch-short zero x y z p q r = empty (λ x. Chᵂ 0 x y z) (empty (λ y. Chᵂ 0 0 y z) (empty (λ z. Chᵂ 0 0 0 z) refl z r) y q) x p
+ch-short zero x y z p q r = empty (λ x. Chᵂ 0 x y z) (empty (λ y. Chᵂ 0 0 y z) (empty (λ z. Chᵂ 0 0 0 z) refl z r) y q)
+    x p
 ch-short (suc k) x y z p q r =
     let a = parts x in
     let b = parts y in
@@ -124,7 +127,8 @@ abbrev Assocᵂ : ℕ → ℕ → ℕ → Type 0
 Assocᵂ x y z = bitXor x (bitXor y z) ≡ bitXor (bitXor x y) z
 
 pub xor-assoc : (k x y z : ℕ) → x < 2 ^ k → y < 2 ^ k → z < 2 ^ k → Assocᵂ x y z
-xor-assoc zero x y z p q r = empty (λ x. Assocᵂ x y z) (empty (λ y. Assocᵂ 0 y z) (empty (λ z. Assocᵂ 0 0 z) refl z r) y q) x p
+xor-assoc zero x y z p q r = empty (λ x. Assocᵂ x y z) (empty (λ y. Assocᵂ 0 y z) (empty (λ z. Assocᵂ 0 0 z) refl z r) y
+    q) x p
 xor-assoc (suc k) x y z p q r =
     let a = parts x in
     let b = parts y in

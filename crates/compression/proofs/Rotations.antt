@@ -2,7 +2,8 @@
 -- Assumes nothing.
 use mathlib.Core.Path.{_≡_, ap, ap₂, sym, _∙_}
 use Prim.Native.Nat.{ℕ, zero, _+_, _-_, _*_, _/_, _%_, _^_, _≤_, _<_}
-use native.Mathlib.Nat.{add-zero, mul-assoc, mul-comm, mul-div-cancel, mul-mod-left, mul-add-div-right, mul-add-mod-self-right, div-lt-iff-lt-mul, div-div-eq-div-mul, mod-lt, lt-of-le-of-lt}
+use native.Mathlib.Nat.{add-zero, mul-assoc, mul-comm, mul-div-cancel, mul-mod-left, mul-add-div-right}
+use native.Mathlib.Nat.{mul-add-mod-self-right, div-lt-iff-lt-mul, div-div-eq-div-mul, mod-lt, lt-of-le-of-lt}
 use native.Mathlib.Omega.{arith}
 use lib.Arith.{mod-mul}
 use lib.Bits.{bitOr, bitXor, or-shifted-r, or-lt, xor-shr, xor-mod, xor-block, xor-lt}
@@ -65,18 +66,23 @@ rotr-rotr {w} n i x l h =
     let m : i ≤ w = omega arith in
     let e₁ : 2 ^ (w - i) ≡ 2 ^ k * 2 ^ n = power k n (omega arith) in
     let e₂ : 2 ^ (w - n) ≡ 2 ^ i * 2 ^ k = power i k (omega arith) in
-    let t : turned w n (turned w i x) ≡ turned w (n + i) x = rw (e₁, e₂, pow-add 2 n i) (turns x (2 ^ k) (pow-pos i) (pow-pos n)) in
-    rotr-turned (omega arith) (rotr w i x) (rotr-lt m x h) ∙ ap (turned w n) (rotr-turned m x h) ∙ t ∙ sym (rotr-turned l x h)
+    let t : turned w n (turned w i x) ≡ turned w (n + i) x = rw (e₁, e₂, pow-add 2 n i)
+    (turns x (2 ^ k) (pow-pos i) (pow-pos n)) in
+    rotr-turned (omega arith) (rotr w i x) (rotr-lt m x h) ∙ ap (turned w n) (rotr-turned m x h) ∙ t
+    ∙ sym (rotr-turned l x h)
 
 -- three rotations, each of the word so far
 pub nested : (w n i j x : ℕ) → n + (i + j) ≤ w → x < 2 ^ w
-    → rotr w n (bitXor x (rotr w i (bitXor x (rotr w j x)))) ≡ bitXor (bitXor (rotr w n x) (rotr w (n + i) x)) (rotr w (n + (i + j)) x)
+    → rotr w n (bitXor x (rotr w i (bitXor x (rotr w j x)))) ≡ bitXor (bitXor (rotr w n x) (rotr w (n + i) x))
+    (rotr w (n + (i + j)) x)
 nested w n i j x l h =
     let lt : (k : ℕ) → k ≤ w → rotr w k x < 2 ^ w = λ k m. rotr-lt m x h in
     let inner : rotr w i (bitXor x (rotr w j x)) ≡ bitXor (rotr w i x) (rotr w (i + j) x) =
-    rotr-xor (omega arith) x (rotr w j x) h (lt j (omega arith)) ∙ ap (bitXor (rotr w i x)) (rotr-rotr i j x (omega arith) h) in
+    rotr-xor (omega arith) x (rotr w j x) h (lt j (omega arith))
+    ∙ ap (bitXor (rotr w i x)) (rotr-rotr i j x (omega arith) h) in
     ap (λ (y : ℕ). rotr w n (bitXor x y)) inner
     ∙ rotr-xor (omega arith) x _ h (xor-lt w _ _ (lt i (omega arith)) (lt (i + j) (omega arith)))
     ∙ ap (bitXor (rotr w n x))
-    (rotr-xor (omega arith) _ _ (lt i (omega arith)) (lt (i + j) (omega arith)) ∙ ap₂ bitXor (rotr-rotr n i x (omega arith) h) (rotr-rotr n (i + j) x l h))
+    (rotr-xor (omega arith) _ _ (lt i (omega arith)) (lt (i + j) (omega arith))
+    ∙ ap₂ bitXor (rotr-rotr n i x (omega arith) h) (rotr-rotr n (i + j) x l h))
     ∙ xor-assoc w _ _ _ (lt n (omega arith)) (lt (n + i) (omega arith)) (lt (n + (i + j)) l)

@@ -1,4 +1,5 @@
--- SHA-256's compression function as FIPS 180-4 (August 2015) defines it: one block into the hash value. Section and equation
+-- SHA-256's compression function as FIPS 180-4 (August 2015) defines it: one block into the hash value. Section and
+-- equation
 -- numbers and names are the standard's. A byte is a number below 256, a word one below 2 ^ 32. Assumes nothing.
 use mathlib.Core.List.{List, [], _∷_, _++_, map}
 use Prim.Native.Nat.{ℕ, zero, suc, _+_, _-_, _*_, _/_, _%_, _^_}
@@ -87,7 +88,16 @@ rounds s w (suc t) = round (rounds s w t) (getD K t 0) (getD w t 0)
 
 -- steps 2 to 4: the hash value after the block with the words m
 abbrev pub sum : State → State → State
-sum x y = record { a = x .a ⊞ y .a; b = x .b ⊞ y .b; c = x .c ⊞ y .c; d = x .d ⊞ y .d; e = x .e ⊞ y .e; f = x .f ⊞ y .f; g = x .g ⊞ y .g; h = x .h ⊞ y .h }
+sum x y = record {
+  a = x .a ⊞ y .a;
+  b = x .b ⊞ y .b;
+  c = x .c ⊞ y .c;
+  d = x .d ⊞ y .d;
+  e = x .e ⊞ y .e;
+  f = x .f ⊞ y .f;
+  g = x .g ⊞ y .g;
+  h = x .h ⊞ y .h;
+}
 
 unfoldable pub compress : State → List ℕ → State
 compress s m = sum (rounds s (schedule m 48) 64) s

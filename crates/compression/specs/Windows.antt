@@ -1,4 +1,5 @@
--- What the code's windows of sixteen words and its steps of sixteen rounds are, in the terms of the standard's definitions.
+-- What the code's windows of sixteen words and its steps of sixteen rounds are, in the terms of the standard's
+-- definitions.
 -- Assumes nothing.
 use mathlib.Core.List.{List}
 use mathlib.Core.Path.{_≡_}
@@ -11,12 +12,51 @@ use Rattle.compression.specs.declared.Window.{Window}
 -- the words t to t + 15 of a schedule
 unfoldable pub window : List ℕ → ℕ → Window
 window v t =
-    record { w0 = getD v (t + 0) 0; w1 = getD v (t + 1) 0; w2 = getD v (t + 2) 0; w3 = getD v (t + 3) 0; w4 = getD v (t + 4) 0; w5 = getD v (t + 5) 0; w6 = getD v (t + 6) 0; w7 = getD v (t + 7) 0; w8 = getD v (t + 8) 0; w9 = getD v (t + 9) 0; w10 = getD v (t + 10) 0; w11 = getD v (t + 11) 0; w12 = getD v (t + 12) 0; w13 = getD v (t + 13) 0; w14 = getD v (t + 14) 0; w15 = getD v (t + 15) 0 }
+    record {
+      w0 = getD v (t + 0) 0;
+      w1 = getD v (t + 1) 0;
+      w2 = getD v (t + 2) 0;
+      w3 = getD v (t + 3) 0;
+      w4 = getD v
+          (t + 4) 0;
+      w5 = getD v (t + 5) 0;
+      w6 = getD v (t + 6) 0;
+      w7 = getD v (t + 7) 0;
+      w8 = getD v (t + 8) 0;
+      w9 =
+          getD v (t + 9) 0;
+      w10 = getD v (t + 10) 0;
+      w11 = getD v (t + 11) 0;
+      w12 = getD v (t + 12) 0;
+      w13 = getD v
+          (t + 13) 0;
+      w14 = getD v (t + 14) 0;
+      w15 = getD v (t + 15) 0;
+    }
 
 -- the words of the block that starts at byte i
 unfoldable pub loaded : List ℕ → ℕ → Window
 loaded p i =
-    record { w0 = word p i; w1 = word p (i + 4); w2 = word p (i + 8); w3 = word p (i + 12); w4 = word p (i + 16); w5 = word p (i + 20); w6 = word p (i + 24); w7 = word p (i + 28); w8 = word p (i + 32); w9 = word p (i + 36); w10 = word p (i + 40); w11 = word p (i + 44); w12 = word p (i + 48); w13 = word p (i + 52); w14 = word p (i + 56); w15 = word p (i + 60) }
+    record {
+      w0 = word p i;
+      w1 = word p (i + 4);
+      w2 = word p (i + 8);
+      w3 = word p (i + 12);
+      w4 = word p (i + 16);
+      w5 =
+          word p (i + 20);
+      w6 = word p (i + 24);
+      w7 = word p (i + 28);
+      w8 = word p (i + 32);
+      w9 = word p (i + 36);
+      w10 =
+          word p (i + 40);
+      w11 = word p (i + 44);
+      w12 = word p (i + 48);
+      w13 = word p (i + 52);
+      w14 = word p (i + 56);
+      w15 = word p (i + 60);
+    }
 
 -- a word of the schedule, of the words 2, 7, 15 and 16 before it
 unfoldable pub mixed : ℕ → ℕ → ℕ → ℕ → ℕ
@@ -25,7 +65,25 @@ mixed p q r s = σ1 p ⊞ q ⊞ σ0 r ⊞ s
 -- the sixteen words from one further on
 unfoldable pub slid : Window → Window
 slid w =
-    record { w0 = w .w1; w1 = w .w2; w2 = w .w3; w3 = w .w4; w4 = w .w5; w5 = w .w6; w6 = w .w7; w7 = w .w8; w8 = w .w9; w9 = w .w10; w10 = w .w11; w11 = w .w12; w12 = w .w13; w13 = w .w14; w14 = w .w15; w15 = mixed (w .w14) (w .w9) (w .w1) (w .w0) }
+    record {
+      w0 = w .w1;
+      w1 = w .w2;
+      w2 = w .w3;
+      w3 = w .w4;
+      w4 = w .w5;
+      w5 = w .w6;
+      w6 = w .w7;
+      w7 = w .w8;
+      w8 = w .w9;
+      w9 = w .w10;
+      w10 = w .w11;
+      w11 = w .w12;
+      w12 = w .w13;
+      w13 = w .w14;
+      w14 = w .w15;
+      w15 = mixed (w .w14) (w .w9)
+          (w .w1) (w .w0);
+    }
 
 unfoldable pub slidFour : Window → Window
 slidFour w = slid (slid (slid (slid w)))

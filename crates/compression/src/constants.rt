@@ -1,4 +1,5 @@
-// The constants K of FIPS 180-4 §4.2.2, sixteen at a time: a table that is read by index would be rebuilt by each reader.
+// The constants K of FIPS 180-4 §4.2.2, sixteen at a time: a table that is read by index would be rebuilt by each
+// reader.
 ghost use mathlib.Core.Path.{_≡_};
 ghost use Rattle.compression.specs.Compression.{K};
 ghost use Rattle.compression.specs.Windows.{window};

@@ -117,8 +117,10 @@ fn state_sum(x: State, y: State) -> State
     }
 }
 
-// Sixteen rounds, with the constants k and the words w, and beside them the sixteen words after w. The two do not wait for each
-// other, so they are done in turn. It stands here three times, a function for each call: one called once is compiled in place.
+// Sixteen rounds, with the constants k and the words w, and beside them the sixteen words after w. The two do not wait
+// for each
+// other, so they are done in turn. It stands here three times, a function for each call: one called once is compiled in
+// place.
 fn first_rounds(s: State, k: Window, w: Window) -> Rolled
     ensures { λ r. ⌜ Rolling s k w (r .state) (r .words) ⌝ }
 {

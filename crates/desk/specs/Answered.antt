@@ -13,13 +13,17 @@ use Rattle.desk_lines.specs.Lines.{DeskLine, callLine, replyLine, badLine, prin
 -- buffers that are long enough (SPECIFICATION 12.1)
 module _ (s : State (digestStore delivered)) where
   unfoldable pub printedFor : DeskLine → List ℕ
-  printedFor (callLine b) = printed (step delivered (digestStore delivered) s (call b (answerLength delivered) (requestLength delivered)) .outcome .answer)
-  printedFor (replyLine b) = printed (step delivered (digestStore delivered) s (reply b (answerLength delivered) (requestLength delivered)) .outcome .answer)
+  printedFor (callLine b) = printed (step delivered (digestStore delivered) s
+      (call b (answerLength delivered) (requestLength delivered)) .outcome .answer)
+  printedFor (replyLine b) = printed (step delivered (digestStore delivered) s
+      (reply b (answerLength delivered) (requestLength delivered)) .outcome .answer)
   printedFor badLine = printedBad
 
   unfoldable pub stateFor : DeskLine → State (digestStore delivered)
-  stateFor (callLine b) = step delivered (digestStore delivered) s (call b (answerLength delivered) (requestLength delivered)) .state
-  stateFor (replyLine b) = step delivered (digestStore delivered) s (reply b (answerLength delivered) (requestLength delivered)) .state
+  stateFor (callLine b) = step delivered (digestStore delivered) s
+      (call b (answerLength delivered) (requestLength delivered)) .state
+  stateFor (replyLine b) = step delivered (digestStore delivered) s
+      (reply b (answerLength delivered) (requestLength delivered)) .state
   stateFor badLine = s
 
 -- the memory, before m and now m′, and the line printed at the front of a buffer, before d and now d′: r bytes

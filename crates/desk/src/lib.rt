@@ -9,7 +9,8 @@ ghost use Rattle.desk.specs.Session.{AnswersAt, AnswersLines};
 // A call, from its bytes.
 fn answer_call(memory: &mut [u8], bytes: &[u8], out: &mut [u8]) -> usize
     requires { ⌜ 29 + 2 * mostBytes ≤ length (now out) ⌝ }
-    ensures { λ r. ⌜ Answers (now (memory .entry)) (callLine (now (bytes .entry))) r (now (memory .exit)) (now (out .entry)) (now (out .exit)) ⌝ }
+    ensures { λ r. ⌜ Answers (now (memory .entry)) (callLine (now (bytes .entry))) r (now (memory .exit))
+        (now (out .entry)) (now (out .exit)) ⌝ }
 {
     let mut answer = [0u8; guard::ANSWER_LENGTH];
     let mut request = [0u8; guard::REQUEST_LENGTH];
@@ -20,7 +21,8 @@ fn answer_call(memory: &mut [u8], bytes: &[u8], out: &mut [u8]) -> usize
 // A reply, from its bytes.
 fn answer_reply(memory: &mut [u8], bytes: &[u8], out: &mut [u8]) -> usize
     requires { ⌜ 29 + 2 * mostBytes ≤ length (now out) ⌝ }
-    ensures { λ r. ⌜ Answers (now (memory .entry)) (replyLine (now (bytes .entry))) r (now (memory .exit)) (now (out .entry)) (now (out .exit)) ⌝ }
+    ensures { λ r. ⌜ Answers (now (memory .entry)) (replyLine (now (bytes .entry))) r (now (memory .exit))
+        (now (out .entry)) (now (out .exit)) ⌝ }
 {
     let mut answer = [0u8; guard::ANSWER_LENGTH];
     let mut request = [0u8; guard::REQUEST_LENGTH];
@@ -31,7 +33,8 @@ fn answer_reply(memory: &mut [u8], bytes: &[u8], out: &mut [u8]) -> usize
 // A line without its line feed: the answer's line, with it, at the front of out; how long it is.
 pub fn answer_line(memory: &mut [u8], line: &[u8], out: &mut [u8]) -> usize
     requires { ⌜ 29 + 2 * mostBytes ≤ length (now out) ⌝ }
-    ensures { λ r. ⌜ Answers (now (memory .entry)) (lineOf (now (line .entry))) r (now (memory .exit)) (now (out .entry)) (now (out .exit)) ⌝ }
+    ensures { λ r. ⌜ Answers (now (memory .entry)) (lineOf (now (line .entry))) r (now (memory .exit))
+        (now (out .entry)) (now (out .exit)) ⌝ }
 {
     let mut bytes = [0u8; desk_lines::EVENT_BYTES];
     let l = desk_lines::read_line(line, &mut bytes);
@@ -60,14 +63,16 @@ fn answer_part(
     filled: usize,
 ) -> usize
     requires { ⌜ (at ≤ end) × (end ≤ length (now text)) × (filled + (29 + 2 * mostBytes) ≤ length (now out)) ⌝ }
-    ensures { λ r. ⌜ AnswersAt (now (memory .entry)) (lineOf (part at (end - at) (now (text .entry)))) filled r (now (memory .exit)) (now (out .entry)) (now (out .exit)) ⌝ }
+    ensures { λ r. ⌜ AnswersAt (now (memory .entry)) (lineOf (part at (end - at) (now (text .entry)))) filled r
+        (now (memory .exit)) (now (out .entry)) (now (out .exit)) ⌝ }
 {
     filled + answer_line(memory, &text[at..end], &mut out[filled..])
 }
 
 // The lines that end in the text, as long as out has room for any answer.
 pub fn answer_lines(memory: &mut [u8], text: &[u8], out: &mut [u8]) -> Answered
-    ensures { λ r. ⌜ AnswersLines (now (memory .entry)) (now (text .entry)) (r .at) (r .filled) (now (memory .exit)) (now (out .entry)) (now (out .exit)) ⌝ }
+    ensures { λ r. ⌜ AnswersLines (now (memory .entry)) (now (text .entry)) (r .at) (r .filled) (now (memory .exit))
+        (now (out .entry)) (now (out .exit)) ⌝ }
 {
     let mut at = 0;
     let mut filled = 0;

@@ -1,4 +1,5 @@
--- The lines of the program `deskrun` (SPECIFICATION 12): what one that is read means, and what is printed for an answer.
+-- The lines of the program `deskrun` (SPECIFICATION 12): what one that is read means, and what is printed for an
+-- answer.
 -- Assumes nothing.
 use mathlib.Core.Path.{_≡_}
 use mathlib.Core.List.{List, [], _∷_, _++_}
@@ -25,7 +26,8 @@ pub data DeskLine : Type 0 where
   callLine replyLine : (bytes : List ℕ) → DeskLine
   badLine : DeskLine
 
--- in lower-case hexadecimal (SPECIFICATION 12.2, 12.3): a bad digit, an odd number of them or too many make the line bad
+-- in lower-case hexadecimal (SPECIFICATION 12.2, 12.3): a bad digit, an odd number of them or too many make the line
+-- bad
 unfoldable pub decodedAs : (List ℕ → DeskLine) → List ℕ → Decoded → DeskLine
 decodedAs kind s (Bytes n) = kind (bytesOf s)
 decodedAs kind s (BadDigit i) = badLine
@@ -35,7 +37,8 @@ decodedAs kind s TooLong = badLine
 unfoldable pub hexLine : (List ℕ → DeskLine) → List ℕ → DeskLine
 hexLine kind s = decodedAs kind s (decodeOf s mostBytes)
 
--- `c ` and a call, or `r ` and a reply, without the line feed; specs/laws/Spelled.antt says that a line is read exactly where it is written so
+-- `c ` and a call, or `r ` and a reply, without the line feed; specs/laws/Spelled.antt says that a line is read exactly
+-- where it is written so
 unfoldable pub lineOf : List ℕ → DeskLine
 lineOf s =
     pick (begins s (ascii "c ")) (hexLine callLine (drop 2 s))

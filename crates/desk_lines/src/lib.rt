@@ -133,8 +133,10 @@ pub fn first(bytes: &[u8], n: usize) -> &[u8]
 
 // The line of an outcome and the caller's two buffers, with its line feed, at the front of out: how long it is.
 pub fn write_outcome(o: Outcome, answer: &[u8], request: &[u8], out: &mut [u8]) -> usize
-    requires { ⌜ (29 + 2 * length (now answer) ≤ length (now out)) × (29 + 2 * length (now request) ≤ length (now out)) ⌝ }
-    ensures { λ r. ⌜ Prints (printed (answerIn o (now (answer .entry)) (now (request .entry)))) r (now (out .entry)) (now (out .exit)) ⌝ }
+    requires { ⌜ (29 + 2 * length (now answer) ≤ length (now out)) × (29 + 2 * length (now request) ≤ length (now out))
+        ⌝ }
+    ensures { λ r. ⌜ Prints (printed (answerIn o (now (answer .entry)) (now (request .entry)))) r (now (out .entry))
+        (now (out .exit)) ⌝ }
 {
     match o {
         Outcome::Done { number, length } => put_done(out, number, first(answer, length)),

@@ -118,7 +118,8 @@ module _ (s₀ : State) (m : List ℕ) (n : ℕ) (r : List ℕ) (s s1 : State) (
   hash-whole = start ∙ hash-agrees s₀ m (ending m n) (length m / 64) (λ k h. sym (ending-front m n k (omega arith)))
 
   hash-one : s1 ≡ hash s₀ (ending m n) (suc (length m / 64))
-  hash-one = one ∙ hash-last s₀ s m n r (length m / 64) 0 last (omega arith) hash-whole (omega (arith, length-ending m n))
+  hash-one = one ∙ hash-last s₀ s m n r (length m / 64) 0 last (omega arith) hash-whole
+      (omega (arith, length-ending m n))
 
   pub one-block : length m % 64 < 56 → bytes s1 ≡ finished s₀ m n
   unfolding finished
@@ -128,11 +129,17 @@ module _ (s₀ : State) (m : List ℕ) (n : ℕ) (r : List ℕ) (s s1 : State) (
   unfolding finished
   two-blocks s2 two h =
       ap bytes
-      (two ∙ hash-last s₀ s1 m n r (suc (length m / 64)) 1 last (omega arith) hash-one (omega (arith, length-ending m n))
+      (two ∙ hash-last s₀ s1 m n r (suc (length m / 64)) 1 last (omega arith) hash-one
+      (omega (arith, length-ending m n))
       ∙ ap (hash s₀ (ending m n)) (omega (arith, length-ending m n)))
 
 -- the bytes of a hash value, of the bytes of its words
-pub spread : (s : State) {a b c d e f g h : List ℕ} → a ≡ bigEndian 4 (s .a) → b ≡ bigEndian 4 (s .b) → c ≡ bigEndian 4 (s .c) → d ≡ bigEndian 4 (s .d) → e ≡ bigEndian 4 (s .e) → f ≡ bigEndian 4 (s .f) → g ≡ bigEndian 4 (s .g) → h ≡ bigEndian 4 (s .h)
-    → getD a 0 0 ∷ getD a 1 0 ∷ getD a 2 0 ∷ getD a 3 0 ∷ getD b 0 0 ∷ getD b 1 0 ∷ getD b 2 0 ∷ getD b 3 0 ∷ getD c 0 0 ∷ getD c 1 0 ∷ getD c 2 0 ∷ getD c 3 0 ∷ getD d 0 0 ∷ getD d 1 0 ∷ getD d 2 0 ∷ getD d 3 0 ∷ getD e 0 0 ∷ getD e 1 0 ∷ getD e 2 0 ∷ getD e 3 0 ∷ getD f 0 0 ∷ getD f 1 0 ∷ getD f 2 0 ∷ getD f 3 0 ∷ getD g 0 0 ∷ getD g 1 0 ∷ getD g 2 0 ∷ getD g 3 0 ∷ getD h 0 0 ∷ getD h 1 0 ∷ getD h 2 0 ∷ getD h 3 0 ∷ [] ≡ bytes s
+pub spread : (s : State) {a b c d e f g h : List ℕ} → a ≡ bigEndian 4 (s .a) → b ≡ bigEndian 4 (s .b)
+    → c ≡ bigEndian 4 (s .c) → d ≡ bigEndian 4 (s .d) → e ≡ bigEndian 4 (s .e) → f ≡ bigEndian 4 (s .f)
+    → g ≡ bigEndian 4 (s .g) → h ≡ bigEndian 4 (s .h)
+    → getD a 0 0 ∷ getD a 1 0 ∷ getD a 2 0 ∷ getD a 3 0 ∷ getD b 0 0 ∷ getD b 1 0 ∷ getD b 2 0 ∷ getD b 3 0 ∷ getD c 0 0
+    ∷ getD c 1 0 ∷ getD c 2 0 ∷ getD c 3 0 ∷ getD d 0 0 ∷ getD d 1 0 ∷ getD d 2 0 ∷ getD d 3 0 ∷ getD e 0 0
+    ∷ getD e 1 0 ∷ getD e 2 0 ∷ getD e 3 0 ∷ getD f 0 0 ∷ getD f 1 0 ∷ getD f 2 0 ∷ getD f 3 0 ∷ getD g 0 0
+    ∷ getD g 1 0 ∷ getD g 2 0 ∷ getD g 3 0 ∷ getD h 0 0 ∷ getD h 1 0 ∷ getD h 2 0 ∷ getD h 3 0 ∷ [] ≡ bytes s
 unfolding bigEndian bytes
 spread s pa pb pc pd pe pf pg ph = rw (pa, pb, pc, pd, pe, pf, pg, ph)

@@ -1,4 +1,5 @@
-// Prints the SHA-256 digest, in lower-case hexadecimal digits, of the file that its argument names, or of standard input.
+// Prints the SHA-256 digest, in lower-case hexadecimal digits, of the file that its argument names, or of standard
+// input.
 ghost use mathlib.Core.Path.{_≡_};
 ghost use Prim.Native.Nat.{_≤_, _+_};
 ghost use lib.ListN.{length};

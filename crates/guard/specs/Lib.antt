@@ -1,3 +1,4 @@
 pub mod Promise
+pub mod Entries
 pub mod Numbers
 pub mod laws

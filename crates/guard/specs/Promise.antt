@@ -15,7 +15,8 @@ use lib.ListN.{length, drop}
 use Rattle.lists.specs.Pick.{pick}
 use Rattle.memory.specs.Layout.{memorySize}
 use Rattle.filesystem.specs.Tables.{DIGEST-BYTES, PAGES, pageTotal}
-use Rattle.rules.specs.Skeleton.{Event, call, reply, save, load, EventBytes, Buffers, buffersAfter, atFront, imageAfter, answerLength, requestLength, Skeleton}
+use Rattle.rules.specs.Skeleton.{Event, call, reply, save, load, EventBytes, Buffers, buffersAfter, atFront, imageAfter}
+use Rattle.rules.specs.Skeleton.{answerLength, requestLength, Skeleton}
 use Rattle.rules.specs.Rules.{isIdle}
 use Rattle.configuration.specs.Delivered.{delivered}
 use Rattle.machine.specs.Machine.{State, Result, step, fresh, guard as digestStore}
@@ -48,7 +49,8 @@ unfoldable pub firstOf : (busy quiet : ℕ) → Skeleton → ℕ
 firstOf busy quiet sk = pick (sk .stopped) 5 (pick (isIdle (sk .pending)) quiet busy)
 
 -- Nothing is asked where one of the first numbers refuses the event (5; 114 or 61; then 34 of a call or a reply), and
--- nothing of a load; of a save that there are no more pages than the limit. A call or a reply that goes on asks that the
+-- nothing of a load; of a save that there are no more pages than the limit. A call or a reply that goes on asks that
+-- the
 -- state is consistent.
 unfoldable pub Ready : GuardState → Event → Type 0
 Ready s (call b a q) = firstOf 114 0 (s .skeleton) ≡ 0 → answerLength delivered ≤ a → requestLength delivered ≤ q

@@ -11,11 +11,11 @@ ghost use Rattle.rules.specs.Skeleton.{call, reply, save, load, answerLength, r
 ghost use Rattle.configuration.specs.Delivered.{delivered};
 ghost use Rattle.machine.specs.Machine.{fresh, guard as digestStore};
 ghost use Rattle.outcomes.specs.Sent.{settled};
-ghost use Rattle.guard.specs.Promise.{held, firstOf, Ready, Steps, Enters, Saving, Promise, FreshPromise, SavePromise, LoadPromise, Shown, buffers, NotDone, NotAsked, shownAs};
+ghost use Rattle.guard.specs.Promise.{held, firstOf, Ready, Steps, Saving, Shown, NotDone, NotAsked, shownAs};
+ghost use Rattle.guard.specs.Entries.{Takes, Called, Replied, Saved, Loaded, MadeFresh};
 ghost use Rattle.guard.specs.Numbers.{waits};
 ghost use Rattle.memory.specs.Memories.{IsMemory};
 ghost use Rattle.numbers.specs.Slices.{KeepsLength};
-ghost use Rattle.guard_state.specs.Waits.{waits};
 use guard_state::Guard;
 
 // The least lengths of the answer buffer, for the longest listing, and of the request buffer, for a store.
@@ -23,7 +23,8 @@ pub const ANSWER_LENGTH: usize = outcomes::ANSWER_LENGTH;
 
 pub const REQUEST_LENGTH: usize = requests::STORE_LENGTH;
 
-// What C sees of an outcome: 0 done, 1 a request, 2 refused, 3 stopped; its number; how many bytes stand at the front of
+// What C sees of an outcome: 0 done, 1 a request, 2 refused, 3 stopped; its number; how many bytes stand at the front
+// of
 // the answer or the request buffer.
 #[repr(C)]
 pub struct GuardOutcome {
@@ -44,7 +45,8 @@ fn is_pending(number: u64) -> bool
     number <= guard_state::calls::CUTTING
 }
 
-// Why an event is refused before what it hands in is looked at: 5, then `busy` where a call is pending and `quiet` where
+// Why an event is refused before what it hands in is looked at: 5, then `busy` where a call is pending and `quiet`
+// where
 // none is. 0: it goes on.
 fn first_number(m: &[u8], busy: u8, quiet: u8) -> u8
     requires { ⌜ IsMemory m ⌝ }
@@ -86,7 +88,7 @@ fn settle(m: &mut [u8], o: outcomes::Outcome) -> outcomes::Outcome
 // A call: 5, 114, 34, then what its bytes say.
 fn take_call(m: &mut [u8], bytes: &[u8], answer: &mut [u8], request: &mut [u8]) -> outcomes::Outcome
     requires { ⌜ IsMemory m ⌝ }
-    ensures { λ r. ⌜ Enters (held (now (m .entry))) (call (now (bytes .entry)) (length (now (answer .entry))) (length (now (request .entry)))) r (held (now (m .exit))) (buffers (now (answer .entry)) (now (request .entry))) (buffers (now (answer .exit)) (now (request .exit))) ⌝ }
+    ensures { λ r. ⌜ Takes call m bytes answer request r ⌝ }
     ensures { λ _. ⌜ KeepsLength m ⌝ }
 {
     let b = first_number(m, 114, 0);
@@ -96,7 +98,7 @@ fn take_call(m: &mut [u8], bytes: &[u8], answer: &mut [u8], request: &mut [u8]) 
     if is_short(answer.len(), request.len()) {
         return outcomes::Outcome::Refused(34);
     }
-    let o = calls::begin_call(m, bytes, request);
+    let o = call_dispatch::begin_call(m, bytes, request);
     settle(m, o)
 }
 
@@ -108,7 +110,7 @@ fn take_reply(
     request: &mut [u8],
 ) -> outcomes::Outcome
     requires { ⌜ IsMemory m ⌝ }
-    ensures { λ r. ⌜ Enters (held (now (m .entry))) (reply (now (bytes .entry)) (length (now (answer .entry))) (length (now (request .entry)))) r (held (now (m .exit))) (buffers (now (answer .entry)) (now (request .entry))) (buffers (now (answer .exit)) (now (request .exit))) ⌝ }
+    ensures { λ r. ⌜ Takes reply m bytes answer request r ⌝ }
     ensures { λ _. ⌜ KeepsLength m ⌝ }
 {
     let b = first_number(m, 0, 61);
@@ -118,14 +120,16 @@ fn take_reply(
     if is_short(answer.len(), request.len()) {
         return outcomes::Outcome::Refused(34);
     }
-    let o = call_replies::accept_reply(m, bytes, answer, request);
+    let o = reply_dispatch::accept_reply(m, bytes, answer, request);
     settle(m, o)
 }
 
 // A save: 5, 114, then 16, 34, or the image and its digest.
 fn take_save(m: &mut [u8], image: &mut [u8], digest: &mut [u8]) -> outcomes::Outcome
     requires { ⌜ (length (now digest) ≡ DIGEST-BYTES) × IsMemory m ⌝ }
-    ensures { λ r. ⌜ (Ready (held (now (m .entry))) (save (length (now (image .entry)))) → Saving (held (now (m .entry))) r (held (now (m .exit))) (now (image .entry)) (now (image .exit)) (now (digest .entry)) (now (digest .exit))) ⌝ }
+    ensures { λ r. ⌜ (Ready (held (now (m .entry))) (save (length (now (image .entry))))
+        → Saving (held (now (m .entry))) r (held (now (m .exit))) (now (image .entry)) (now (image .exit))
+        (now (digest .entry)) (now (digest .exit))) ⌝ }
     ensures { λ _. ⌜ KeepsLength m ⌝ }
 {
     let b = first_number(m, 114, 0);
@@ -138,7 +142,8 @@ fn take_save(m: &mut [u8], image: &mut [u8], digest: &mut [u8]) -> outcomes::Out
 // A load: 5, 114, then 16, 74, 84, or the image's tables.
 fn take_load(m: &mut [u8], image: &[u8], digest: &[u8]) -> outcomes::Outcome
     requires { ⌜ IsMemory m ⌝ }
-    ensures { λ r. ⌜ Steps (held (now (m .entry))) (load (now (image .entry)) (now (digest .entry))) r (held (now (m .exit))) [] [] ⌝ }
+    ensures { λ r. ⌜ Steps (held (now (m .entry))) (load (now (image .entry)) (now (digest .entry))) r
+        (held (now (m .exit))) [] [] ⌝ }
     ensures { λ _. ⌜ KeepsLength m ⌝ }
 {
     let b = first_number(m, 114, 0);
@@ -156,7 +161,7 @@ pub fn on_call(
     answer: &mut [u8],
     request: &mut [u8],
 ) -> outcomes::Outcome
-    ensures { λ r. ⌜ Promise (now (memory .entry)) (call (now (bytes .entry)) (length (now (answer .entry))) (length (now (request .entry)))) r (now (memory .exit)) (buffers (now (answer .entry)) (now (request .entry))) (buffers (now (answer .exit)) (now (request .exit))) ⌝ }
+    ensures { λ r. ⌜ Called memory bytes answer request r ⌝ }
 {
     if memory.len() < memory::SIZE {
         return outcomes::Outcome::Refused(34);
@@ -170,7 +175,7 @@ pub fn on_reply(
     answer: &mut [u8],
     request: &mut [u8],
 ) -> outcomes::Outcome
-    ensures { λ r. ⌜ Promise (now (memory .entry)) (reply (now (bytes .entry)) (length (now (answer .entry))) (length (now (request .entry)))) r (now (memory .exit)) (buffers (now (answer .entry)) (now (request .entry))) (buffers (now (answer .exit)) (now (request .exit))) ⌝ }
+    ensures { λ r. ⌜ Replied memory bytes answer request r ⌝ }
 {
     if memory.len() < memory::SIZE {
         return outcomes::Outcome::Refused(34);
@@ -181,7 +186,7 @@ pub fn on_reply(
 // A part of its own, over a slice: of a reference to an array a proof learns the length where it is lent as one.
 fn save_into(memory: &mut [u8], image: &mut [u8], digest: &mut [u8]) -> outcomes::Outcome
     requires { ⌜ length (now digest) ≡ DIGEST-BYTES ⌝ }
-    ensures { λ r. ⌜ SavePromise (now (memory .entry)) r (now (memory .exit)) (now (image .entry)) (now (image .exit)) (now (digest .entry)) (now (digest .exit)) ⌝ }
+    ensures { λ r. ⌜ Saved memory image digest r ⌝ }
 {
     if memory.len() < memory::SIZE {
         return outcomes::Outcome::Refused(34);
@@ -194,13 +199,13 @@ pub fn on_save(
     image: &mut [u8],
     digest: &mut [u8; Guard::DIGEST_BYTES],
 ) -> outcomes::Outcome
-    ensures { λ r. ⌜ SavePromise (now (memory .entry)) r (now (memory .exit)) (now (image .entry)) (now (image .exit)) (now (digest .entry)) (now (digest .exit)) ⌝ }
+    ensures { λ r. ⌜ Saved memory image digest r ⌝ }
 {
     save_into(memory, image, digest)
 }
 
 pub fn on_load(memory: &mut [u8], image: &[u8], digest: &[u8]) -> outcomes::Outcome
-    ensures { λ r. ⌜ LoadPromise (now (memory .entry)) (now (image .entry)) (now (digest .entry)) r (now (memory .exit)) ⌝ }
+    ensures { λ r. ⌜ Loaded memory image digest r ⌝ }
 {
     if memory.len() < memory::SIZE {
         return outcomes::Outcome::Refused(34);
@@ -218,7 +223,7 @@ fn make_fresh(m: &mut [u8])
 }
 
 pub fn on_fresh(memory: &mut [u8]) -> outcomes::Outcome
-    ensures { λ r. ⌜ FreshPromise (now (memory .entry)) r (now (memory .exit)) ⌝ }
+    ensures { λ r. ⌜ MadeFresh memory r ⌝ }
 {
     if memory.len() < memory::SIZE {
         return outcomes::Outcome::Refused(34);
@@ -280,7 +285,7 @@ fn shown(o: outcomes::Outcome) -> GuardOutcome
 
 #[no_mangle]
 pub extern "C" fn guard_entry_fresh(memory: &mut [u8]) -> GuardOutcome
-    ensures { λ r. ⌜ Shown (λ o. FreshPromise (now (memory .entry)) o (now (memory .exit))) r ⌝ }
+    ensures { λ r. ⌜ Shown (MadeFresh memory) r ⌝ }
 {
     let o = on_fresh(memory);
     shown(o)
@@ -293,7 +298,7 @@ pub extern "C" fn guard_entry_call(
     answer: &mut [u8],
     request: &mut [u8],
 ) -> GuardOutcome
-    ensures { λ r. ⌜ Shown (λ o. Promise (now (memory .entry)) (call (now (bytes .entry)) (length (now (answer .entry))) (length (now (request .entry)))) o (now (memory .exit)) (buffers (now (answer .entry)) (now (request .entry))) (buffers (now (answer .exit)) (now (request .exit)))) r ⌝ }
+    ensures { λ r. ⌜ Shown (Called memory bytes answer request) r ⌝ }
 {
     let o = on_call(memory, bytes, answer, request);
     shown(o)
@@ -306,7 +311,7 @@ pub extern "C" fn guard_entry_reply(
     answer: &mut [u8],
     request: &mut [u8],
 ) -> GuardOutcome
-    ensures { λ r. ⌜ Shown (λ o. Promise (now (memory .entry)) (reply (now (bytes .entry)) (length (now (answer .entry))) (length (now (request .entry)))) o (now (memory .exit)) (buffers (now (answer .entry)) (now (request .entry))) (buffers (now (answer .exit)) (now (request .exit)))) r ⌝ }
+    ensures { λ r. ⌜ Shown (Replied memory bytes answer request) r ⌝ }
 {
     let o = on_reply(memory, bytes, answer, request);
     shown(o)
@@ -318,7 +323,7 @@ pub extern "C" fn guard_entry_save(
     image: &mut [u8],
     digest: &mut [u8; Guard::DIGEST_BYTES],
 ) -> GuardOutcome
-    ensures { λ r. ⌜ Shown (λ o. SavePromise (now (memory .entry)) o (now (memory .exit)) (now (image .entry)) (now (image .exit)) (now (digest .entry)) (now (digest .exit))) r ⌝ }
+    ensures { λ r. ⌜ Shown (Saved memory image digest) r ⌝ }
 {
     let o = on_save(memory, image, digest);
     shown(o)
@@ -326,7 +331,7 @@ pub extern "C" fn guard_entry_save(
 
 #[no_mangle]
 pub extern "C" fn guard_entry_load(memory: &mut [u8], image: &[u8], digest: &[u8]) -> GuardOutcome
-    ensures { λ r. ⌜ Shown (λ o. LoadPromise (now (memory .entry)) (now (image .entry)) (now (digest .entry)) o (now (memory .exit))) r ⌝ }
+    ensures { λ r. ⌜ Shown (Loaded memory image digest) r ⌝ }
 {
     let o = on_load(memory, image, digest);
     shown(o)

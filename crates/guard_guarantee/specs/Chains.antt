@@ -1,6 +1,9 @@
--- Where code and theorem meet. The guard's entries promise something of one event each (crate guard, specs/Promise.antt). Here is what follows for a
--- whole run, as types: a memory that was made fresh, then any entries in any order, whatever the host replies. The claims speak of what C hands in, of
--- what it gets back and finds in its buffers, and of the last memory; the history is made of these too. Proofs stand in specs/laws/ChainLaws.antt.
+-- Where code and theorem meet. The guard's entries promise something of one event each (crate guard,
+-- specs/Promise.antt). Here is what follows for a
+-- whole run, as types: a memory that was made fresh, then any entries in any order, whatever the host replies. The
+-- claims speak of what C hands in, of
+-- what it gets back and finds in its buffers, and of the last memory; the history is made of these too. Proofs stand in
+-- specs/laws/ChainLaws.antt.
 -- Assumes nothing.
 use mathlib.Core.Path.{_≡_}
 use mathlib.Core.Logic.{_⊎_}
@@ -17,12 +20,14 @@ use Rattle.machine.specs.Machine.{State, outcomes, final, fresh}
 use Rattle.machine.specs.Tree.{tree, guardOf}
 use Rattle.machine.specs.History.{Collision}
 use Rattle.machine.specs.Seen.{Seen, events, answers, pagesSeen, imagesSeen, LoadsSeen, HonestSeen}
-use Rattle.machine.specs.Restart.{Restarts, pagesOfLives, imagesOfLives, LoadsOfLives, HonestLives, Quiet, restarted, treeAfter}
+use Rattle.machine.specs.Restart.{Restarts, pagesOfLives, imagesOfLives, LoadsOfLives, HonestLives, Quiet, restarted}
+use Rattle.machine.specs.Restart.{treeAfter}
 use Rattle.memory.specs.Layout.{memorySize}
 use Rattle.guard.specs.declared.GuardOutcome.{GuardOutcome}
 use Rattle.guard.specs.Promise.{held, buffers, Promise, FreshPromise, SavePromise, LoadPromise, Shown}
 
--- What C reads: kind 0 is done, 1 a request, 2 refused, 3 stopped; so many bytes stand at the front of the answer or the request buffer.
+-- What C reads: kind 0 is done, 1 a request, 2 refused, 3 stopped; so many bytes stand at the front of the answer or
+-- the request buffer.
 unfoldable pub readAs : (kind : ℤ) (number length : ℕ) (answer request : List ℕ) → Answer
 readAs (pos zero) n l a q = done n (take l a)
 readAs (pos (suc zero)) n l a q = ask (take l q)
@@ -47,16 +52,20 @@ digestSeen (stopped n) d = []
 abbrev pub seenSaved : (buffer : ℕ) → Answer → (digest : List ℕ) → Seen
 seenSaved n a d = record { event = save n; outcome = record { answer = a; digest = digestSeen a d } }
 
--- One entry: the memory before and afterwards, and what is seen. Each premise is the contract of an entry for C, with its buffers before and afterwards:
+-- One entry: the memory before and afterwards, and what is seen. Each premise is the contract of an entry for C, with
+-- its buffers before and afterwards:
 -- the functions of src/lib.rt call the entries and promise these links.
 pub data Link (m m′ : List ℕ) : Seen → Type 0 where
-  called : (s a q a′ q′ : List ℕ) (r : GuardOutcome) → Shown (λ o. Promise m (call s (length a) (length q)) o m′ (buffers a q) (buffers a′ q′)) r
+  called : (s a q a′ q′ : List ℕ) (r : GuardOutcome)
+      → Shown (λ o. Promise m (call s (length a) (length q)) o m′ (buffers a q) (buffers a′ q′)) r
       → Link m m′ (seenAs (call s (length a) (length q)) (answerRead r a′ q′))
-  replied : (s a q a′ q′ : List ℕ) (r : GuardOutcome) → Shown (λ o. Promise m (reply s (length a) (length q)) o m′ (buffers a q) (buffers a′ q′)) r
+  replied : (s a q a′ q′ : List ℕ) (r : GuardOutcome)
+      → Shown (λ o. Promise m (reply s (length a) (length q)) o m′ (buffers a q) (buffers a′ q′)) r
       → Link m m′ (seenAs (reply s (length a) (length q)) (answerRead r a′ q′))
   saved : (i i′ d d′ : List ℕ) (r : GuardOutcome) → Shown (λ o. SavePromise m o m′ i i′ d d′) r
       → Link m m′ (seenSaved (length i) (answerRead r i′ []) d′)
-  loaded : (i d : List ℕ) (r : GuardOutcome) → Shown (λ o. LoadPromise m i d o m′) r → Link m m′ (seenAs (load i d) (answerRead r [] []))
+  loaded : (i d : List ℕ) (r : GuardOutcome) → Shown (λ o. LoadPromise m i d o m′) r
+      → Link m m′ (seenAs (load i d) (answerRead r [] []))
 
 -- One entry after the other, nobody else writing the memory meanwhile.
 pub data Chain : List ℕ → List Seen → List ℕ → Type 0 where
@@ -68,7 +77,8 @@ pub record Begins (lent first : List ℕ) : Type 0 where
   pub outcome : GuardOutcome
   pub made : Shown (λ o. FreshPromise lent o first) outcome
 
--- What happens between two power-ups: a memory that is long enough is made fresh, and a chain leads from there to the last memory.
+-- What happens between two power-ups: a memory that is long enough is made fresh, and a chain leads from there to the
+-- last memory.
 pub record Life : Type 0 where
   pub lent : List ℕ
   pub long : memorySize ≤ length lent
@@ -91,13 +101,15 @@ pub record Agrees (l : Life) : Type 0 where
 
 -- First half, whatever the host replies: each load that was done carried a digest that an earlier save gave.
 unfoldable pub FirstHalf : Type 0
-FirstHalf = (l : Life) → LoadsSeen [] (l .seen) → Or (Collision sha256 (pagesSeen (l .seen)) ⊎ Collision sha256 (imagesSeen (l .seen))) (Agrees l)
+FirstHalf = (l : Life) → LoadsSeen [] (l .seen)
+    → Or (Collision sha256 (pagesSeen (l .seen)) ⊎ Collision sha256 (imagesSeen (l .seen))) (Agrees l)
 
 -- Second half, under an honest host: nothing stops, and no collision is spoken of.
 unfoldable pub SecondHalf : Type 0
 SecondHalf = (l : Life) → HonestSeen delivered freshTree (l .seen) → Quiet (l .seen) × Agrees l
 
--- The same over several lives (SPECIFICATION 10.9), each but the first beginning with a load that is done (crate machine, specs/Restart.antt).
+-- The same over several lives (SPECIFICATION 10.9), each but the first beginning with a load that is done (crate
+-- machine, specs/Restart.antt).
 abbrev pub allSeen : List Life → List (List Seen)
 allSeen ls = map (λ l. l .seen) ls
 
@@ -111,7 +123,9 @@ AgreeLives t (l ∷ ls) =
 unfoldable pub FirstHalfOfLives : Type 0
 FirstHalfOfLives =
     (ls : List Life) → Restarts (allSeen ls) → LoadsOfLives [] (allSeen ls)
-    → Or (Collision sha256 (pagesOfLives (allSeen ls)) ⊎ Collision sha256 (imagesOfLives (allSeen ls))) (AgreeLives freshTree ls)
+    → Or (Collision sha256 (pagesOfLives (allSeen ls)) ⊎ Collision sha256 (imagesOfLives (allSeen ls)))
+    (AgreeLives freshTree ls)
 
 unfoldable pub SecondHalfOfLives : Type 0
-SecondHalfOfLives = (ls : List Life) → Restarts (allSeen ls) → HonestLives delivered freshTree (allSeen ls) → All Quiet (allSeen ls) × AgreeLives freshTree ls
+SecondHalfOfLives = (ls : List Life) → Restarts (allSeen ls) → HonestLives delivered freshTree (allSeen ls)
+    → All Quiet (allSeen ls) × AgreeLives freshTree ls

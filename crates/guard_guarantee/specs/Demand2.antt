@@ -25,7 +25,8 @@ use Rattle.rules.specs.Outcomes.{create-full as create-is-full, mkdir-full as m
 use Rattle.configuration.specs.Delivered.{delivered}
 use Rattle.machine.specs.Machine.{Result, apply, finishChange, guard as digestStore}
 use Rattle.machine.specs.StepOutcomes.{step-refused-exactly, refused-unchanged, after-stop}
-use Rattle.machine.specs.EventLaws.{isDoneAnswer, Unchanged, stopChecks, only-done-changes, stopped-exactly, finished, added, deleted, requested}
+use Rattle.machine.specs.EventLaws.{isDoneAnswer, Unchanged, stopChecks, only-done-changes, stopped-exactly, finished}
+use Rattle.machine.specs.EventLaws.{added, deleted, requested}
 use Rattle.machine.specs.PosixLaws.{read-moves, write-moves}
 use Rattle.guard.specs.Promise.{GuardState, stepOf}
 

@@ -18,7 +18,9 @@ pub fn link_call(
     answer: &mut [u8],
     request: &mut [u8],
 ) -> guard::GuardOutcome
-    ensures { λ r. ⌜ Link (now (memory .entry)) (now (memory .exit)) (seenAs (call (now (bytes .entry)) (length (now (answer .entry))) (length (now (request .entry)))) (answerRead r (now (answer .exit)) (now (request .exit)))) ⌝ }
+    ensures { λ r. ⌜ Link (now (memory .entry)) (now (memory .exit))
+        (seenAs (call (now (bytes .entry)) (length (now (answer .entry))) (length (now (request .entry))))
+        (answerRead r (now (answer .exit)) (now (request .exit)))) ⌝ }
 {
     guard::guard_entry_call(memory, bytes, answer, request)
 }
@@ -29,19 +31,23 @@ pub fn link_reply(
     answer: &mut [u8],
     request: &mut [u8],
 ) -> guard::GuardOutcome
-    ensures { λ r. ⌜ Link (now (memory .entry)) (now (memory .exit)) (seenAs (reply (now (bytes .entry)) (length (now (answer .entry))) (length (now (request .entry)))) (answerRead r (now (answer .exit)) (now (request .exit)))) ⌝ }
+    ensures { λ r. ⌜ Link (now (memory .entry)) (now (memory .exit))
+        (seenAs (reply (now (bytes .entry)) (length (now (answer .entry))) (length (now (request .entry))))
+        (answerRead r (now (answer .exit)) (now (request .exit)))) ⌝ }
 {
     guard::guard_entry_reply(memory, bytes, answer, request)
 }
 
 pub fn link_save(memory: &mut [u8], image: &mut [u8], digest: &mut [u8; 32]) -> guard::GuardOutcome
-    ensures { λ r. ⌜ Link (now (memory .entry)) (now (memory .exit)) (seenSaved (length (now (image .entry))) (answerRead r (now (image .exit)) []) (now (digest .exit))) ⌝ }
+    ensures { λ r. ⌜ Link (now (memory .entry)) (now (memory .exit)) (seenSaved (length (now (image .entry)))
+        (answerRead r (now (image .exit)) []) (now (digest .exit))) ⌝ }
 {
     guard::guard_entry_save(memory, image, digest)
 }
 
 pub fn link_load(memory: &mut [u8], image: &[u8], digest: &[u8]) -> guard::GuardOutcome
-    ensures { λ r. ⌜ Link (now (memory .entry)) (now (memory .exit)) (seenAs (load (now (image .entry)) (now (digest .entry))) (answerRead r [] [])) ⌝ }
+    ensures { λ r. ⌜ Link (now (memory .entry)) (now (memory .exit))
+        (seenAs (load (now (image .entry)) (now (digest .entry))) (answerRead r [] [])) ⌝ }
 {
     guard::guard_entry_load(memory, image, digest)
 }

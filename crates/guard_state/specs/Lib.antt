@@ -1,3 +1,4 @@
+pub mod Calls
 pub mod State
 pub mod Waits
 pub mod Onward

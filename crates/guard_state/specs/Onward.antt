@@ -2,6 +2,7 @@
 -- Assumes nothing.
 use mathlib.Core.Bool.{false}
 use Prim.Native.Nat.{ℕ}
+use Rattle.guard_state.specs.Calls.{FETCHING, SHRINK-FETCHING}
 use Rattle.guard_state.specs.declared.Guard.{Guard}
 
 -- a write of this many bytes, none of its pages asked yet
@@ -10,7 +11,7 @@ writeNumbers g k o p n = record {
   nodes = g .nodes;
   opens = g .opens;
   stopped = false;
-  call = 9;
+  call = FETCHING;
   node = k;
   opened = o;
   parent = 0;
@@ -31,7 +32,7 @@ shrinkNumbers g k o z = record {
   nodes = g .nodes;
   opens = g .opens;
   stopped = false;
-  call = 11;
+  call = SHRINK-FETCHING;
   node = k;
   opened = o;
   parent = 0;

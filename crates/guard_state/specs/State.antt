@@ -2,19 +2,21 @@
 -- Total: each number of the header is read within its limit. Assumes nothing.
 use mathlib.Core.Bool.{Bool}
 use mathlib.Core.List.{List, [], _∷_}
-use Prim.Native.Nat.{ℕ, _+_, _/_, _%_}
+use Prim.Native.Nat.{ℕ, _+_, _/_, _%_, _<_}
 use lib.Dec.{eqb}
-use lib.ListN.{getD, take, drop}
+use lib.ListN.{getD, take, drop, set}
 use Rattle.filesystem.specs.Tables.{NODES, PAGE-BYTES, FILE-BYTES, DATA-BYTES}
 use denote.Ref.{now}
 use Rattle.numbers.specs.Slices.{Slice}
 use Rattle.memory.specs.Layout.{memOf, openRows, newDigests}
 use Rattle.rules.specs.Pages.{writing, shrinking}
-use Rattle.rules.specs.Requests.{asked, Pending, idle, creating, opening, closing, removing, changing, listing, stating, reading, fetching, storing, cutting}
+use Rattle.rules.specs.Requests.{asked, Pending, idle, creating, opening, closing, removing, changing, listing, stating}
+use Rattle.rules.specs.Requests.{reading, fetching, storing, cutting}
 use Rattle.rules.specs.Skeleton.{Config}
 use Rattle.machine.specs.Machine.{State, Gathered, guard as digestStore}
 use Rattle.tables.specs.View.{View, viewOf, stagedDigests}
 use Rattle.guard_state.specs.declared.Guard.{Guard}
+use Rattle.guard_state.specs.Calls.{READING}
 
 -- the pages of the largest file
 abbrev pub filePages : ℕ
@@ -44,6 +46,10 @@ numbersOf h = record {
 -- the numbers that a memory holds
 abbrev pub numbersIn : Slice → Guard
 numbersIn m = numbersOf (memOf (now m) .head)
+
+-- there is a node
+abbrev pub HasRoot : Slice → Type 0
+HasRoot m = 0 < numbersIn m .nodes
 
 -- The pending call: its bytes, and what it is by its number (src/calls.rt); any other number is idle.
 unfoldable pub stagedBytes : Guard → List ℕ → List ℕ
@@ -86,7 +92,8 @@ gatheredDigests g s = record { bytes = []; digests = stagedDigests (g .digests) 
 unfoldable pub gatheredIn : Guard → List ℕ → Gathered
 gatheredIn g s =
     getD
-    (gatheredNone ∷ gatheredNone ∷ gatheredNone ∷ gatheredNone ∷ gatheredNone ∷ gatheredNone ∷ gatheredNone ∷ gatheredNone
+    (gatheredNone ∷ gatheredNone ∷ gatheredNone ∷ gatheredNone ∷ gatheredNone ∷ gatheredNone ∷ gatheredNone
+    ∷ gatheredNone
     ∷ gatheredBytes g s
     ∷ gatheredDigests g s ∷ gatheredDigests g s ∷ gatheredDigests g s ∷ gatheredDigests g s ∷ gatheredDigests g s
     ∷ [])
@@ -110,3 +117,14 @@ stateOf c m = let g = numbersOf (memOf m .head) in stateIn c g (viewOf (g .nodes
 -- the header when no call is pending and the guard has not stopped; the counts stay
 unfoldable pub clearedHead : List ℕ → List ℕ
 clearedHead h = getD h 0 0 ∷ getD h 1 0 ∷ 1 ∷ 0 ∷ 0 ∷ 0 ∷ 0 ∷ 0 ∷ 0 ∷ 0 ∷ 0 ∷ 0 ∷ 0 ∷ 0 ∷ 0 ∷ 0 ∷ drop 16 h
+
+-- the same in two steps, as the code takes them: what is pending and its places; its span and what is staged
+abbrev pub clearedCall : List ℕ → List ℕ
+clearedCall h = set (set (set (set (set (set (set h 2 1) 3 0) 4 0) 5 0) 6 0) 7 0) 8 0
+
+abbrev pub clearedSpan : List ℕ → List ℕ
+clearedSpan h = set (set (set (set (set (set (set h 9 0) 10 0) 11 0) 12 0) 13 0) 14 0) 15 0
+
+-- the header of a read that waits for a page
+abbrev pub readingHead : List ℕ → (node opened position count page : ℕ) → List ℕ
+readingHead h k o p n i = set (set (set (set (set (set (clearedHead h) 3 READING) 4 k) 5 o) 10 p) 11 n) 13 i

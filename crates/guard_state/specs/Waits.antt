@@ -1,4 +1,5 @@
--- The machine's states between events: a call waits for a reply, none does, the guard has stopped. Each is the state of what `apply` answers;
+-- The machine's states between events: a call waits for a reply, none does, the guard has stopped. Each is the state of
+-- what `apply` answers;
 -- the answer itself does not matter to it.
 --   waits, ends, stops    the state as a call waits, is done, or stops the guard
 --   Turns m f             f makes the state that a memory has now of the one that it had, and it is as long as it was

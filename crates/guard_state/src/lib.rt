@@ -1,4 +1,5 @@
-// The guard's numbers in the memory's header, the memory as the machine's state, and the pending call: one begins to wait for a reply, is
+// The guard's numbers in the memory's header, the memory as the machine's state, and the pending call: one begins to
+// wait for a reply, is
 // done, or the guard stops. Contracts are over the machine's states (specs/State.antt).
 ghost use mathlib.Core.Path.{_≡_};
 ghost use mathlib.Core.List.{[], _∷_, _++_};
@@ -6,12 +7,14 @@ ghost use Prim.Native.Nat.{_+_, _%_, _<_, _≤_};
 ghost use lib.ListN.{length, getD, take, set};
 ghost use Rattle.filesystem.specs.Tables.{NODES, NAME-BYTES, FILE-BYTES, DATA-BYTES};
 ghost use Rattle.memory.specs.Layout.{headNumbers, openRows, newDigests, withHead};
-ghost use Rattle.rules.specs.Requests.{asked, creating, opening, closing, removing, changing, listing, stating, reading, fetching};
+ghost use Rattle.rules.specs.Requests.{asked, creating, closing, reading, fetching};
 ghost use Rattle.rules.specs.Pages.{writing, shrinking};
 ghost use Rattle.rules.specs.Skeleton.{Config};
 ghost use Rattle.machine.specs.Machine.{fresh, guard as digestStore};
 ghost use Rattle.tables.specs.View.{viewOf};
-ghost use Rattle.guard_state.specs.State.{pendingIn, stateOf, clearedHead, gatheredNone, gatheredRead, filePages, numbersIn};
+ghost use Rattle.guard_state.specs.Calls.{OnNode, questionOn, FETCHING, CUTTING};
+ghost use Rattle.guard_state.specs.State.{pendingIn, stateOf, clearedHead, clearedCall, clearedSpan, readingHead};
+ghost use Rattle.guard_state.specs.State.{gatheredNone, gatheredRead, filePages, numbersIn};
 ghost use Rattle.guard_state.specs.Onward.{writeNumbers, shrinkNumbers, goesOn};
 ghost use Rattle.guard_state.specs.Waits.{waits, ends, stops, restingState, Turns, Waits};
 ghost use Rattle.memory.specs.Memories.{Becomes, IsMemory, was};
@@ -97,10 +100,11 @@ impl Guard {
     // A fresh guard: the root alone, idle.
     pub fn fresh(m: &mut [u8]) -> Guard
         requires { ⌜ IsMemory m ⌝ }
-        ensures { λ r. ⌜ ((c : Config) → stateOf c (now (m .exit)) ≡ fresh c (digestStore c)) × (r ≡ numbersIn (m .exit)) ⌝ }
+        ensures { λ r. ⌜ ((c : Config) → stateOf c (now (m .exit)) ≡ fresh c (digestStore c))
+            × (r ≡ numbersIn (m .exit)) ⌝ }
         ensures { λ _. ⌜ KeepsLength m ⌝ }
     {
-        let row = memory::node_row(1, 0, 2, 7, 0, b"");
+        let row = memory::node_row(1, 0, limits::DIRECTORY, 7, 0, b"");
         memory::put_node(m, 0, row);
         rest(m, 1, 0);
         Guard::load(m)
@@ -141,7 +145,7 @@ fn clear(m: &mut [u8])
 
 fn clear_call(m: &mut [u8])
     requires { ⌜ IsMemory m ⌝ }
-    ensures { λ _. ⌜ Becomes m (withHead (set (set (set (set (set (set (set (was m .head) 2 1) 3 0) 4 0) 5 0) 6 0) 7 0) 8 0)) ⌝ }
+    ensures { λ _. ⌜ Becomes m (withHead (clearedCall (was m .head))) ⌝ }
 {
     memory::put_head(m, header::RUNNING, 1);
     memory::put_head(m, header::CALL, calls::IDLE);
@@ -154,7 +158,7 @@ fn clear_call(m: &mut [u8])
 
 fn clear_span(m: &mut [u8])
     requires { ⌜ IsMemory m ⌝ }
-    ensures { λ _. ⌜ Becomes m (withHead (set (set (set (set (set (set (set (was m .head) 9 0) 10 0) 11 0) 12 0) 13 0) 14 0) 15 0)) ⌝ }
+    ensures { λ _. ⌜ Becomes m (withHead (clearedSpan (was m .head))) ⌝ }
 {
     memory::put_head(m, header::RIGHTS, 0);
     memory::put_head(m, header::POSITION, 0);
@@ -182,16 +186,6 @@ pub fn wait_create(m: &mut [u8], parent: u64, kind: u8, mode: u8, name: &[u8])
     memory::put_head(m, header::BYTES, n as u64);
 }
 
-pub fn wait_open(m: &mut [u8], node: usize, rights: u8)
-    requires { ⌜ (node < NODES) × IsMemory m ⌝ }
-    ensures { λ _. ⌜ Waits m (asked (opening node rights)) gatheredNone ⌝ }
-{
-    clear(m);
-    memory::put_head(m, header::CALL, calls::OPENING);
-    memory::put_head(m, header::NODE, node as u64);
-    memory::put_head(m, header::RIGHTS, rights as u64);
-}
-
 pub fn wait_close(m: &mut [u8], opened: usize)
     requires { ⌜ (opened < openRows) × IsMemory m ⌝ }
     ensures { λ _. ⌜ Waits m (asked (closing opened)) gatheredNone ⌝ }
@@ -201,47 +195,23 @@ pub fn wait_close(m: &mut [u8], opened: usize)
     memory::put_head(m, header::OPENED, opened as u64);
 }
 
-pub fn wait_remove(m: &mut [u8], node: usize)
-    requires { ⌜ (node < NODES) × IsMemory m ⌝ }
-    ensures { λ _. ⌜ Waits m (asked (removing node)) gatheredNone ⌝ }
+// A call on a node: open with its rights, chmod with its mode, remove, readdir, stat. The number stands under both:
+// each reads its own.
+pub fn wait_on_node(m: &mut [u8], call: u64, node: usize, number: u8)
+    requires { ⌜ OnNode call × (node < NODES) × IsMemory m ⌝ }
+    ensures { λ _. ⌜ Waits m (asked (questionOn call node number)) gatheredNone ⌝ }
 {
     clear(m);
-    memory::put_head(m, header::CALL, calls::REMOVING);
+    memory::put_head(m, header::CALL, call);
     memory::put_head(m, header::NODE, node as u64);
-}
-
-pub fn wait_chmod(m: &mut [u8], node: usize, mode: u8)
-    requires { ⌜ (node < NODES) × IsMemory m ⌝ }
-    ensures { λ _. ⌜ Waits m (asked (changing node mode)) gatheredNone ⌝ }
-{
-    clear(m);
-    memory::put_head(m, header::CALL, calls::CHANGING);
-    memory::put_head(m, header::NODE, node as u64);
-    memory::put_head(m, header::MODE, mode as u64);
-}
-
-pub fn wait_listing(m: &mut [u8], node: usize)
-    requires { ⌜ (node < NODES) × IsMemory m ⌝ }
-    ensures { λ _. ⌜ Waits m (asked (listing node)) gatheredNone ⌝ }
-{
-    clear(m);
-    memory::put_head(m, header::CALL, calls::LISTING);
-    memory::put_head(m, header::NODE, node as u64);
-}
-
-pub fn wait_stat(m: &mut [u8], node: usize)
-    requires { ⌜ (node < NODES) × IsMemory m ⌝ }
-    ensures { λ _. ⌜ Waits m (asked (stating node)) gatheredNone ⌝ }
-{
-    clear(m);
-    memory::put_head(m, header::CALL, calls::STATING);
-    memory::put_head(m, header::NODE, node as u64);
+    memory::put_head(m, header::MODE, number as u64);
+    memory::put_head(m, header::RIGHTS, number as u64);
 }
 
 // The numbers of a read that waits for a page.
 fn put_read(m: &mut [u8], node: usize, opened: usize, position: usize, count: usize, page: usize)
     requires { ⌜ IsMemory m ⌝ }
-    ensures { λ _. ⌜ Becomes m (withHead (set (set (set (set (set (set (clearedHead (was m .head)) 3 8) 4 node) 5 opened) 10 position) 11 count) 13 page)) ⌝ }
+    ensures { λ _. ⌜ Becomes m (withHead (readingHead (was m .head) node opened position count page)) ⌝ }
 {
     clear(m);
     memory::put_head(m, header::CALL, calls::READING);
@@ -261,7 +231,8 @@ pub fn wait_read(
     count: usize,
     page: usize,
 )
-    requires { ⌜ (node < NODES) × (opened < openRows) × (position ≤ FILE-BYTES) × (count ≤ DATA-BYTES) × (page ≤ filePages) × IsMemory m ⌝ }
+    requires { ⌜ (node < NODES) × (opened < openRows) × (position ≤ FILE-BYTES) × (count ≤ DATA-BYTES)
+        × (page ≤ filePages) × IsMemory m ⌝ }
     ensures { λ _. ⌜ Waits m (reading node opened position count page) gatheredNone ⌝ }
 {
     put_read(m, node, opened, position, count, page);
@@ -278,8 +249,10 @@ pub fn wait_page(
     bytes: usize,
     more: &[u8],
 )
-    requires { ⌜ (node < NODES) × (opened < openRows) × (position ≤ FILE-BYTES) × (count ≤ DATA-BYTES) × (page ≤ filePages) × (bytes + length (now more) ≤ DATA-BYTES) × IsMemory m ⌝ }
-    ensures { λ _. ⌜ Waits m (reading node opened position count page) (gatheredRead (take bytes (was m .staged) ++ now (more .entry))) ⌝ }
+    requires { ⌜ (node < NODES) × (opened < openRows) × (position ≤ FILE-BYTES) × (count ≤ DATA-BYTES)
+        × (page ≤ filePages) × (bytes + length (now more) ≤ DATA-BYTES) × IsMemory m ⌝ }
+    ensures { λ _. ⌜ Waits m (reading node opened position count page) (gatheredRead (take bytes (was m .staged)
+        ++ now (more .entry))) ⌝ }
 {
     let l = bytes + more.len();
     memory::stage(m, bytes, more);
@@ -291,9 +264,12 @@ pub fn wait_page(
 
 // A write waits: its bytes are staged, and no page of it is asked yet.
 pub fn wait_write(m: &mut [u8], node: usize, opened: usize, position: usize, bytes: &[u8])
-    requires { ⌜ (node < NODES) × (opened < openRows) × (position ≤ FILE-BYTES) × (length (now bytes) ≤ DATA-BYTES) × IsMemory m ⌝ }
-    ensures { λ _. ⌜ ((c : Config) → stateOf c (now (m .exit)) ≡ waits c (stateOf c (now (m .entry))) (fetching node opened (writing position (now (bytes .entry))) 0) gatheredNone) ⌝ }
-    ensures { λ _. ⌜ numbersIn (m .exit) ≡ writeNumbers (numbersIn (m .entry)) node opened position (length (now (bytes .entry))) ⌝ }
+    requires { ⌜ (node < NODES) × (opened < openRows) × (position ≤ FILE-BYTES) × (length (now bytes) ≤ DATA-BYTES)
+        × IsMemory m ⌝ }
+    ensures { λ _. ⌜ ((c : Config) → stateOf c (now (m .exit)) ≡ waits c (stateOf c (now (m .entry)))
+        (fetching node opened (writing position (now (bytes .entry))) 0) gatheredNone) ⌝ }
+    ensures { λ _. ⌜ numbersIn (m .exit) ≡ writeNumbers (numbersIn (m .entry)) node opened position
+        (length (now (bytes .entry))) ⌝ }
     ensures { λ _. ⌜ KeepsLength m ⌝ }
 {
     let n = bytes.len();
@@ -309,7 +285,8 @@ pub fn wait_write(m: &mut [u8], node: usize, opened: usize, position: usize, byt
 // A truncation to a smaller size waits: nothing is asked yet.
 pub fn wait_shrink(m: &mut [u8], node: usize, opened: usize, size: usize)
     requires { ⌜ (node < NODES) × (opened < openRows) × (size ≤ FILE-BYTES) × IsMemory m ⌝ }
-    ensures { λ _. ⌜ ((c : Config) → stateOf c (now (m .exit)) ≡ waits c (stateOf c (now (m .entry))) (fetching node opened (shrinking size) 0) gatheredNone) ⌝ }
+    ensures { λ _. ⌜ ((c : Config) → stateOf c (now (m .exit)) ≡ waits c (stateOf c (now (m .entry)))
+        (fetching node opened (shrinking size) 0) gatheredNone) ⌝ }
     ensures { λ _. ⌜ numbersIn (m .exit) ≡ shrinkNumbers (numbersIn (m .entry)) node opened size ⌝ }
     ensures { λ _. ⌜ KeepsLength m ⌝ }
 {
@@ -322,8 +299,10 @@ pub fn wait_shrink(m: &mut [u8], node: usize, opened: usize, size: usize)
 
 // A change goes on: what it waits for now (calls.rt), and the page that is asked.
 pub fn wait_further(m: &mut [u8], call: u64, page: usize)
-    requires { ⌜ (9 ≤ numbersIn m .call) × (numbersIn m .call ≤ 13) × (9 ≤ call) × (call ≤ 13) × (page ≤ filePages) × IsMemory m ⌝ }
-    ensures { λ _. ⌜ Turns m (λ c s. waits c s (pendingIn (goesOn call page (numbersIn (m .entry))) (was m .staged)) (s .progress)) ⌝ }
+    requires { ⌜ (FETCHING ≤ numbersIn m .call) × (numbersIn m .call ≤ CUTTING) × (FETCHING ≤ call) × (call ≤ CUTTING)
+        × (page ≤ filePages) × IsMemory m ⌝ }
+    ensures { λ _. ⌜ Turns m (λ c s. waits c s (pendingIn (goesOn call page (numbersIn (m .entry))) (was m .staged))
+        (s .progress)) ⌝ }
 {
     memory::put_head(m, header::RUNNING, 1);
     memory::put_head(m, header::CALL, call);
@@ -332,8 +311,10 @@ pub fn wait_further(m: &mut [u8], call: u64, page: usize)
 
 // The same with the digest of the page that goes out, staged behind those before.
 pub fn wait_sent(m: &mut [u8], call: u64, page: usize, digest: [u8; limits::DIGEST_BYTES])
-    requires { ⌜ (9 ≤ numbersIn m .call) × (numbersIn m .call ≤ 13) × (9 ≤ call) × (call ≤ 13) × (page ≤ filePages) × (numbersIn m .digests < newDigests) × IsMemory m ⌝ }
-    ensures { λ _. ⌜ Turns m (λ c s. waits c s (pendingIn (goesOn call page (numbersIn (m .entry))) (was m .staged)) (record { bytes = []; digests = s .progress .digests ++ (digest ∷ []) })) ⌝ }
+    requires { ⌜ (FETCHING ≤ numbersIn m .call) × (numbersIn m .call ≤ CUTTING) × (FETCHING ≤ call) × (call ≤ CUTTING)
+        × (page ≤ filePages) × (numbersIn m .digests < newDigests) × IsMemory m ⌝ }
+    ensures { λ _. ⌜ Turns m (λ c s. waits c s (pendingIn (goesOn call page (numbersIn (m .entry))) (was m .staged))
+        (record { bytes = []; digests = s .progress .digests ++ (digest ∷ []) })) ⌝ }
 {
     let k = number(m, header::DIGESTS, memory::NEW_DIGESTS);
     memory::stage_digest(m, k, digest);

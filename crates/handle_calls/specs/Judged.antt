@@ -1,4 +1,5 @@
--- What a call by handle is judged to be: the first of the call's numbers that holds, else the places of the open file and of its node.
+-- What a call by handle is judged to be: the first of the call's numbers that holds, else the places of the open file
+-- and of its node.
 -- Assumes nothing.
 use mathlib.Core.Path.{_≡_}
 use mathlib.Core.Bool.{Bool, true, _||_, not}
@@ -19,9 +20,11 @@ use Rattle.handle_calls.specs.declared.Handled.the-variants.{Open, Refus
 unfoldable pub handledFor : Tables → (handle : ℕ) → Call → Handled
 handledFor t h c = decide Refused (callChecks t c) (Open (openPlace t h) (filePlace t h))
 
--- The same of the tables in a memory, whose nodes are sound at some width of ids. Whatever they are, an open file that is found is one of them.
+-- The same of the tables in a memory, whose nodes are sound at some width of ids. Whatever they are, an open file that
+-- is found is one of them.
 pub record Judgement (m : List ℕ) (n o handle : ℕ) (q : Call) (r : Handled) : Type 0 where
-  pub judged : (w : ℕ) → soundNodes w (take n (memOf m .nodes)) ≡ true → r ≡ handledFor (tablesIn n o (memOf m)) handle q
+  pub judged : (w : ℕ) → soundNodes w (take n (memOf m .nodes)) ≡ true → r ≡ handledFor (tablesIn n o (memOf m)) handle
+      q
   pub there : (i j : ℕ) → r ≡ Open i j → i < o
 
 -- no open file with this right stands in place k

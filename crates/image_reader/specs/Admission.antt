@@ -20,7 +20,8 @@ isParent x m = eqb (m .id) (x .parent) && isDirectory m
 -- the length of x's path, by those of the nodes before it; above 255 where x may not stand there
 unfoldable pub admit : ℕ → List Node → List ℕ → Node → ℕ
 admit w before lengths x =
-    pick (inLimits w x && (isNamed x && (not (any (clash x) before) && ltb (place (isParent x) before) (length before))))
+    pick (inLimits w x && (isNamed x && (not (any (clash x) before) && ltb (place (isParent x) before)
+    (length before))))
     (suc (length (x .name)) + getD lengths (place (isParent x) before) 0) (suc PATH-BYTES)
 
 -- each of the nodes after `before` is admitted

@@ -23,7 +23,8 @@ use Rattle.filesystem.specs.Image.{soundNodes, sound, parse}
 use Rattle.filesystem.specs.Sound.{to-sound, name-short}
 use Rattle.memory.specs.Layout.{Mem, memOf, withNodes, withDigests}
 use Rattle.image_writer.specs.Width.{imageIn}
-use Rattle.image_reader.specs.Records.{recordAt, recordEnd, nodesFrom, endFrom, nodeCount, digestCount, imageNodes, imageDigests, formed, isSome}
+use Rattle.image_reader.specs.Records.{recordAt, recordEnd, nodesFrom, endFrom, nodeCount, digestCount}
+use Rattle.image_reader.specs.Records.{imageNodes, imageDigests, formed, isSome}
 use Rattle.image_reader.specs.laws.RecordLaws.{length-from, nodes-snoc}
 use Rattle.image_reader.specs.Formed.{Formed}
 use Rattle.image_reader.specs.laws.ParseLaws.{to-formed, parsed-formed, unparsed, whole-got}
@@ -46,10 +47,12 @@ pub record SoundImage (w : ℕ) (s : List ℕ) : Type 0 where
   pub few : digestCount w s ≤ PAGES
   pub is : parse w s ≡ some (imageNodes w s, imageDigests w s)
 
-found : (w : ℕ) (s : List ℕ) → Formed w s → soundNodes w (imageNodes w s) ≡ true → eqb (digestCount w s) (pageTotal (imageNodes w s)) ≡ true
+found : (w : ℕ) (s : List ℕ) → Formed w s → soundNodes w (imageNodes w s) ≡ true
+    → eqb (digestCount w s) (pageTotal (imageNodes w s)) ≡ true
     → parse w s ≡ some (imageNodes w s, imageDigests w s)
 unfolding parse bind sound imageDigests
-found w s f a b = rw (whole-got w s (f .four) (f .ends)) (pick-true _ _ _ (and-both _ _ a (rw (length-rows 32 (digestCount w s)) b)))
+found w s f a b = rw (whole-got w s (f .four) (f .ends))
+    (pick-true _ _ _ (and-both _ _ a (rw (length-rows 32 (digestCount w s)) b)))
 
 pub to-sound-image : (w : ℕ) (s : List ℕ) → Bytes s → isSome (parse w s) ≡ true → SoundImage w s
 to-sound-image w s b e = go (is (formed w s))
@@ -72,7 +75,8 @@ in-place w s p zero i h = absurd (omega arith)
 in-place w s p (suc n) zero h = refl
 in-place w s p (suc n) (suc i) h = in-place w s (recordEnd w s p) n i (omega arith)
 
-pub short-name : (w : ℕ) (s : List ℕ) (n i : ℕ) → soundNodes w (nodesFrom w s 4 n) ≡ true → i < n → {at : ℕ} → at ≡ endFrom w s 4 i
+pub short-name : (w : ℕ) (s : List ℕ) (n i : ℕ) → soundNodes w (nodesFrom w s 4 n) ≡ true → i < n → {at : ℕ}
+    → at ≡ endFrom w s 4 i
     → length (recordAt w s at .name) ≤ 32
 short-name w s n i e h q =
     let t = name-short w (nodesFrom w s 4 n) (to-sound w (nodesFrom w s 4 n) e) i (rw (length-from w s 4 n) h) in
@@ -87,10 +91,12 @@ loaded-next w s l i at e h =
     let j : i ≡ 0 + length (nodesFrom w s 4 i) = omega arith in
     ap (λ (n : ℕ). set (overwrite l 0 (nodesFrom w s 4 i)) n (recordAt w s at)) j
     ∙ overwrite-snoc noNode l 0 (nodesFrom w s 4 i) (recordAt w s at) (omega arith)
-    ∙ ap (overwrite l 0) (sym (ap (nodesFrom w s 4) (add-one i) ∙ nodes-snoc w s 4 i ∙ ap (λ (p : ℕ). nodesFrom w s 4 i ++ (recordAt w s p ∷ [])) (sym e)))
+    ∙ ap (overwrite l 0) (sym (ap (nodesFrom w s 4) (add-one i) ∙ nodes-snoc w s 4 i ∙ ap (λ (p : ℕ). nodesFrom w s 4 i
+    ++ (recordAt w s p ∷ [])) (sym e)))
 
 pub same-node : (w : ℕ) (s : List ℕ) (at : ℕ) {id parent kind mode size : ℕ} {name : List ℕ}
-    → id ≡ recordAt w s at .id → parent ≡ recordAt w s at .parent → kind ≡ recordAt w s at .kind → mode ≡ recordAt w s at .mode → size ≡ recordAt w s at .size → name ≡ recordAt w s at .name
+    → id ≡ recordAt w s at .id → parent ≡ recordAt w s at .parent → kind ≡ recordAt w s at .kind
+    → mode ≡ recordAt w s at .mode → size ≡ recordAt w s at .size → name ≡ recordAt w s at .name
     → withSize size (newNode id parent kind mode name) ≡ recordAt w s at
 same-node w s at a b c d e f = λ i. record { id = a i; parent = b i; kind = c i; mode = d i; size = e i; name = f i }
 
@@ -103,15 +109,19 @@ behind l x n e = rw (overwrite-front l x, e) (drop-at x (drop (length x) l) (len
 
 pub both-loaded : (s before middle after : List ℕ) (n : ℕ) → SoundImage ID-BYTES s → n ≡ nodeCount s
     → memOf middle ≡ withNodes (overwrite (memOf before .nodes) 0 (imageNodes ID-BYTES s)) (memOf before)
-    → memOf after ≡ withDigests (overwrite (memOf middle .digests) 0 (imageDigests ID-BYTES s)) (memOf middle) → Loaded s before after n
+    → memOf after ≡ withDigests (overwrite (memOf middle .digests) 0 (imageDigests ID-BYTES s)) (memOf middle)
+    → Loaded s before after n
 unfolding imageDigests
 both-loaded s before middle after n i q a b =
     let ns = imageNodes ID-BYTES s in
     let ds = imageDigests ID-BYTES s in
     let m = b ∙ ap (λ (M : Mem). withDigests (overwrite (M .digests) 0 ds) M) a in
-    let e : take n (memOf after .nodes) ≡ ns = ap (λ (M : Mem). take n (M .nodes)) m ∙ front (memOf before .nodes) ns n (q ∙ sym (length-from ID-BYTES s 4 (nodeCount s))) in
+    let e : take n (memOf after .nodes) ≡ ns = ap (λ (M : Mem). take n (M .nodes)) m
+    ∙ front (memOf before .nodes) ns n (q ∙ sym (length-from ID-BYTES s 4 (nodeCount s))) in
     let d : take (pageTotal (take n (memOf after .nodes))) (memOf after .digests) ≡ ds =
-    ap₂ (λ (u : List Node) (M : Mem). take (pageTotal u) (M .digests)) e m ∙ front (memOf before .digests) ds (pageTotal ns) (sym (i .count) ∙ sym (length-rows 32 (digestCount ID-BYTES s) _)) in
+    ap₂ (λ (u : List Node) (M : Mem). take (pageTotal u) (M .digests)) e m
+    ∙ front (memOf before .digests) ds (pageTotal ns) (sym (i .count)
+    ∙ sym (length-rows 32 (digestCount ID-BYTES s) _)) in
     let many : n ≡ length ns = q ∙ sym (length-from ID-BYTES s 4 (nodeCount s)) in
     let more : pageTotal ns ≡ length ds = sym (i .count) ∙ sym (length-rows 32 (digestCount ID-BYTES s) _) in
     record {

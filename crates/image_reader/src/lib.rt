@@ -13,7 +13,8 @@ ghost use Rattle.filesystem.specs.Paths.{componentForm};
 ghost use Rattle.filesystem.specs.Image.{isRoot, inLimits, soundNodes, parse};
 ghost use Rattle.memory.specs.Layout.{withNodes, withDigests};
 ghost use Rattle.image_writer.specs.Width.{frontLength};
-ghost use Rattle.image_reader.specs.Records.{recordAt, recordEnd, nodesFrom, endFrom, recordsEnd, digestCount, imageDigests, formed, plainByte, isSome};
+ghost use Rattle.image_reader.specs.Records.{recordAt, recordEnd, nodesFrom, endFrom, recordsEnd, digestCount};
+ghost use Rattle.image_reader.specs.Records.{imageDigests, formed, plainByte, isSome};
 ghost use Rattle.image_reader.specs.Loaded.{Loaded};
 ghost use Rattle.image_reader.specs.Admission.{clash, isParent, admit, admitted};
 ghost use Rattle.memory.specs.Memories.{Becomes, IsMemory, was};
@@ -67,7 +68,8 @@ fn record_size(image: &[u8], at: usize) -> u32
 // The place behind the record.
 fn record_end(image: &[u8], at: usize) -> usize
     requires { ⌜ at + frontLength ID-BYTES ≤ length (now image) ⌝ }
-    ensures { λ r. ⌜ (r ≡ recordEnd ID-BYTES (now (image .entry)) at) × (at + frontLength ID-BYTES ≤ r) × (r ≤ at + frontLength ID-BYTES + 255) ⌝ }
+    ensures { λ r. ⌜ (r ≡ recordEnd ID-BYTES (now (image .entry)) at) × (at + frontLength ID-BYTES ≤ r)
+        × (r ≤ at + frontLength ID-BYTES + 255) ⌝ }
 {
     at + FRONT + image[at + 2 * ID_BYTES + 6] as usize
 }
@@ -86,7 +88,8 @@ fn record_name(image: &[u8], at: usize) -> &[u8]
 // The place behind n records, or 0 where the image ends before that.
 fn records_end(image: &[u8], n: usize) -> usize
     requires { ⌜ 4 ≤ length (now image) ⌝ }
-    ensures { λ r. ⌜ (r ≡ pick (leb (endFrom ID-BYTES (now (image .entry)) 4 n) (length (now (image .entry)))) (endFrom ID-BYTES (now (image .entry)) 4 n) 0) × (r ≤ length (now (image .entry))) ⌝ }
+    ensures { λ r. ⌜ (r ≡ pick (leb (endFrom ID-BYTES (now (image .entry)) 4 n) (length (now (image .entry))))
+        (endFrom ID-BYTES (now (image .entry)) 4 n) 0) × (r ≤ length (now (image .entry))) ⌝ }
 {
     let mut at = 4;
     let mut i = 0;
@@ -166,10 +169,10 @@ fn is_named(name: &[u8]) -> bool
 fn is_kind_and_size(kind: u8, size: u32) -> bool
     ensures { λ r. ⌜ r ≡ (eqb kind 1 && leb size FILE-BYTES || eqb kind 2 && eqb size 0) ⌝ }
 {
-    if kind == 1 {
+    if kind == limits::FILE {
         return size as usize <= limits::FILE_BYTES;
     }
-    if kind == 2 {
+    if kind == limits::DIRECTORY {
         return size == 0;
     }
     false
@@ -196,7 +199,7 @@ fn is_root(image: &[u8], at: usize) -> bool
     if record_id(image, at) != 1 {
         return false;
     }
-    if record_kind(image, at) != 2 {
+    if record_kind(image, at) != limits::DIRECTORY {
         return false;
     }
     if record_parent(image, at) != 0 {
@@ -210,7 +213,8 @@ fn is_root(image: &[u8], at: usize) -> bool
 
 // Whether the record at b may not stand beside an earlier one at a.
 fn is_clash(image: &[u8], a: usize, b: usize) -> bool
-    requires { ⌜ (recordEnd ID-BYTES (now image) a ≤ length (now image)) × (recordEnd ID-BYTES (now image) b ≤ length (now image)) ⌝ }
+    requires { ⌜ (recordEnd ID-BYTES (now image) a ≤ length (now image))
+        × (recordEnd ID-BYTES (now image) b ≤ length (now image)) ⌝ }
     ensures { λ r. ⌜ r ≡ clash (recordAt ID-BYTES (now (image .entry)) b) (recordAt ID-BYTES (now (image .entry)) a) ⌝ }
 {
     if record_id(image, a) == record_id(image, b) {
@@ -225,8 +229,10 @@ fn is_clash(image: &[u8], a: usize, b: usize) -> bool
 
 // Whether one of the first i records clashes with the one at `at`.
 fn clashes(image: &[u8], at: usize, i: usize) -> bool
-    requires { ⌜ (endFrom ID-BYTES (now image) 4 i ≤ length (now image)) × (recordEnd ID-BYTES (now image) at ≤ length (now image)) ⌝ }
-    ensures { λ r. ⌜ r ≡ any (clash (recordAt ID-BYTES (now (image .entry)) at)) (nodesFrom ID-BYTES (now (image .entry)) 4 i) ⌝ }
+    requires { ⌜ (endFrom ID-BYTES (now image) 4 i ≤ length (now image))
+        × (recordEnd ID-BYTES (now image) at ≤ length (now image)) ⌝ }
+    ensures { λ r. ⌜ r ≡ any (clash (recordAt ID-BYTES (now (image .entry)) at))
+        (nodesFrom ID-BYTES (now (image .entry)) 4 i) ⌝ }
 {
     let mut a = 4;
     let mut seen = 0;
@@ -244,18 +250,21 @@ fn clashes(image: &[u8], at: usize, i: usize) -> bool
 // Whether the record at a is a directory with this id.
 fn is_parent(image: &[u8], a: usize, id: u64) -> bool
     requires { ⌜ a + frontLength ID-BYTES ≤ length (now image) ⌝ }
-    ensures { λ r. ⌜ r ≡ (eqb (recordAt ID-BYTES (now (image .entry)) a .id) id && eqb (recordAt ID-BYTES (now (image .entry)) a .kind) 2) ⌝ }
+    ensures { λ r. ⌜ r ≡ (eqb (recordAt ID-BYTES (now (image .entry)) a .id) id && eqb
+        (recordAt ID-BYTES (now (image .entry)) a .kind) 2) ⌝ }
 {
     if record_id(image, a) != id {
         return false;
     }
-    record_kind(image, a) == 2
+    record_kind(image, a) == limits::DIRECTORY
 }
 
 // The place among the first i records of the parent of the one at `at`, or i.
 fn parent_place(image: &[u8], at: usize, i: usize) -> usize
-    requires { ⌜ (endFrom ID-BYTES (now image) 4 i ≤ length (now image)) × (recordEnd ID-BYTES (now image) at ≤ length (now image)) ⌝ }
-    ensures { λ r. ⌜ r ≡ place (isParent (recordAt ID-BYTES (now (image .entry)) at)) (nodesFrom ID-BYTES (now (image .entry)) 4 i) ⌝ }
+    requires { ⌜ (endFrom ID-BYTES (now image) 4 i ≤ length (now image))
+        × (recordEnd ID-BYTES (now image) at ≤ length (now image)) ⌝ }
+    ensures { λ r. ⌜ r ≡ place (isParent (recordAt ID-BYTES (now (image .entry)) at))
+        (nodesFrom ID-BYTES (now (image .entry)) 4 i) ⌝ }
 {
     let id = record_parent(image, at);
     let mut a = 4;
@@ -273,8 +282,10 @@ fn parent_place(image: &[u8], at: usize, i: usize) -> usize
 
 // The length of the path of the record at `at`, by those of the first i; `TOO_LONG` where it may not stand there.
 fn admission(image: &[u8], at: usize, i: usize, lengths: &[u8]) -> usize
-    requires { ⌜ (endFrom ID-BYTES (now image) 4 i ≤ length (now image)) × (recordEnd ID-BYTES (now image) at ≤ length (now image)) × (i ≤ length (now lengths)) ⌝ }
-    ensures { λ r. ⌜ r ≡ admit ID-BYTES (nodesFrom ID-BYTES (now (image .entry)) 4 i) (now (lengths .entry)) (recordAt ID-BYTES (now (image .entry)) at) ⌝ }
+    requires { ⌜ (endFrom ID-BYTES (now image) 4 i ≤ length (now image))
+        × (recordEnd ID-BYTES (now image) at ≤ length (now image)) × (i ≤ length (now lengths)) ⌝ }
+    ensures { λ r. ⌜ r ≡ admit ID-BYTES (nodesFrom ID-BYTES (now (image .entry)) 4 i) (now (lengths .entry))
+        (recordAt ID-BYTES (now (image .entry)) at) ⌝ }
 {
     if !is_in_limits(image, at) {
         return TOO_LONG;
@@ -293,10 +304,12 @@ fn admission(image: &[u8], at: usize, i: usize, lengths: &[u8]) -> usize
     1 + name.len() + lengths[j] as usize
 }
 
-// Whether each of the n records behind the first may stand behind those before it. The lengths of their paths are kept in `lengths`.
+// Whether each of the n records behind the first may stand behind those before it. The lengths of their paths are kept
+// in `lengths`.
 fn all_admitted(image: &[u8], n: usize, lengths: &mut [u8]) -> bool
     requires { ⌜ (0 < n) × (endFrom ID-BYTES (now image) 4 n ≤ length (now image)) × (n ≤ length (now lengths)) ⌝ }
-    ensures { λ r. ⌜ r ≡ admitted ID-BYTES (recordAt ID-BYTES (now (image .entry)) 4 ∷ []) (0 ∷ []) (nodesFrom ID-BYTES (now (image .entry)) (recordEnd ID-BYTES (now (image .entry)) 4) (n - 1)) ⌝ }
+    ensures { λ r. ⌜ r ≡ admitted ID-BYTES (recordAt ID-BYTES (now (image .entry)) 4 ∷ []) (0 ∷ [])
+        (nodesFrom ID-BYTES (now (image .entry)) (recordEnd ID-BYTES (now (image .entry)) 4) (n - 1)) ⌝ }
 {
     lengths[0] = 0;
     let mut at = record_end(image, 4);
@@ -374,7 +387,8 @@ pub fn is_sound(image: &[u8]) -> bool
 
 // The record at `at` as node i of the memory.
 fn load_record(image: &[u8], at: usize, m: &mut [u8], i: usize)
-    requires { ⌜ (recordEnd ID-BYTES (now image) at ≤ length (now image)) × (length (recordAt ID-BYTES (now image) at .name) ≤ NAME-BYTES) × (i < NODES) × IsMemory m ⌝ }
+    requires { ⌜ (recordEnd ID-BYTES (now image) at ≤ length (now image))
+        × (length (recordAt ID-BYTES (now image) at .name) ≤ NAME-BYTES) × (i < NODES) × IsMemory m ⌝ }
     ensures { λ _. ⌜ Becomes m (withNodes (set (was m .nodes) i (recordAt ID-BYTES (now (image .entry)) at))) ⌝ }
 {
     let name = record_name(image, at);
@@ -391,7 +405,8 @@ fn load_record(image: &[u8], at: usize, m: &mut [u8], i: usize)
 
 // The first n records, which are sound, as the memory's first nodes; the place behind them.
 fn load_records(image: &[u8], n: usize, m: &mut [u8]) -> usize
-    requires { ⌜ (soundNodes ID-BYTES (nodesFrom ID-BYTES (now image) 4 n) ≡ true) × (n ≤ NODES) × (endFrom ID-BYTES (now image) 4 n ≤ length (now image)) × IsMemory m ⌝ }
+    requires { ⌜ (soundNodes ID-BYTES (nodesFrom ID-BYTES (now image) 4 n) ≡ true) × (n ≤ NODES)
+        × (endFrom ID-BYTES (now image) 4 n ≤ length (now image)) × IsMemory m ⌝ }
     ensures { λ _. ⌜ Becomes m (withNodes (overwrite (was m .nodes) 0 (nodesFrom ID-BYTES (now (image .entry)) 4 n))) ⌝ }
     ensures { λ r. ⌜ r ≡ endFrom ID-BYTES (now (image .entry)) 4 n ⌝ }
 {
@@ -408,8 +423,11 @@ fn load_records(image: &[u8], n: usize, m: &mut [u8]) -> usize
 
 // The second section's digests as the memory's first digests.
 fn load_digests(image: &[u8], end: usize, m: &mut [u8])
-    requires { ⌜ (end ≡ recordsEnd ID-BYTES (now image)) × (end + 4 + digestCount ID-BYTES (now image) * DIGEST-BYTES ≡ length (now image)) × (digestCount ID-BYTES (now image) ≤ PAGES) × IsMemory m ⌝ }
-    ensures { λ _. ⌜ Becomes m (withDigests (overwrite (was m .digests) 0 (imageDigests ID-BYTES (now (image .entry))))) ⌝ }
+    requires { ⌜ (end ≡ recordsEnd ID-BYTES (now image))
+        × (end + 4 + digestCount ID-BYTES (now image) * DIGEST-BYTES ≡ length (now image))
+        × (digestCount ID-BYTES (now image) ≤ PAGES) × IsMemory m ⌝ }
+    ensures { λ _. ⌜ Becomes m (withDigests (overwrite (was m .digests) 0 (imageDigests ID-BYTES (now (image .entry)))))
+        ⌝ }
 {
     let k = numbers::u32_at(image, end) as usize;
     let start = end + 4;

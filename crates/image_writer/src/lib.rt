@@ -64,8 +64,10 @@ fn write_ids(out: &mut [u8], at: usize, id: u64, parent: u64)
 
 // Node i's record, written over a part of out; the place behind it.
 pub fn write_record(m: &[u8], i: usize, out: &mut [u8], at: usize) -> usize
-    requires { ⌜ (i < NODES) × IsMemory m × (at + recordLength ID-BYTES (nodeAt (memOf (now m) .nodes) i) ≤ length (now out)) ⌝ }
-    ensures { λ r. ⌜ now (out .exit) ≡ overwrite (now (out .entry)) at (nodeForm ID-BYTES .put (nodeAt (was m .nodes) i)) ⌝ }
+    requires { ⌜ (i < NODES) × IsMemory m
+        × (at + recordLength ID-BYTES (nodeAt (memOf (now m) .nodes) i) ≤ length (now out)) ⌝ }
+    ensures { λ r. ⌜ now (out .exit) ≡ overwrite (now (out .entry)) at
+        (nodeForm ID-BYTES .put (nodeAt (was m .nodes) i)) ⌝ }
     ensures { λ r. ⌜ r ≡ at + recordLength ID-BYTES (nodeAt (was m .nodes) i) ⌝ }
 {
     let name = memory::node_name(m, i);
@@ -88,7 +90,8 @@ pub fn write_record(m: &[u8], i: usize, out: &mut [u8], at: usize) -> usize
 // The first n nodes' records, written over a part of out; the place behind them.
 pub fn write_records(m: &[u8], n: usize, out: &mut [u8], at: usize) -> usize
     requires { ⌜ (n ≤ NODES) × IsMemory m × (at + recordsLength ID-BYTES (nodesIn n (now m)) ≤ length (now out)) ⌝ }
-    ensures { λ r. ⌜ now (out .exit) ≡ overwrite (now (out .entry)) at (put-all (nodeForm ID-BYTES) (nodesIn n (now (m .entry)))) ⌝ }
+    ensures { λ r. ⌜ now (out .exit) ≡ overwrite (now (out .entry)) at
+        (put-all (nodeForm ID-BYTES) (nodesIn n (now (m .entry)))) ⌝ }
     ensures { λ r. ⌜ r ≡ at + recordsLength ID-BYTES (nodesIn n (now (m .entry))) ⌝ }
 {
     let mut next = at;
@@ -103,7 +106,8 @@ pub fn write_records(m: &[u8], n: usize, out: &mut [u8], at: usize) -> usize
 
 // The image of the first n nodes, written over a part of out; the place behind it.
 pub fn write_image(m: &[u8], n: usize, out: &mut [u8], at: usize) -> usize
-    requires { ⌜ (n ≤ NODES) × IsMemory m × (pageTotal (nodesIn n (now m)) ≤ PAGES) × (at + imageLength ID-BYTES (nodesIn n (now m)) ≤ length (now out)) ⌝ }
+    requires { ⌜ (n ≤ NODES) × IsMemory m × (pageTotal (nodesIn n (now m)) ≤ PAGES)
+        × (at + imageLength ID-BYTES (nodesIn n (now m)) ≤ length (now out)) ⌝ }
     ensures { λ r. ⌜ now (out .exit) ≡ overwrite (now (out .entry)) at (print ID-BYTES (imageIn n (now (m .entry)))) ⌝ }
     ensures { λ r. ⌜ r ≡ at + length (print ID-BYTES (imageIn n (now (m .entry)))) ⌝ }
 {

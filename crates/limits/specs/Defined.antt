@@ -1,6 +1,7 @@
 -- The definitions' limits as the code's record of them.
 -- Assumes nothing.
-use Rattle.filesystem.specs.Tables.{NODES, OPEN-FILES, PAGES, PAGE-BYTES, DIGEST-BYTES, FILE-BYTES, NAME-BYTES, PATH-BYTES, ID-BYTES, DATA-BYTES, DESCRIPTORS}
+use Rattle.filesystem.specs.Tables.{NODES, OPEN-FILES, PAGES, PAGE-BYTES, DIGEST-BYTES, FILE-BYTES, NAME-BYTES}
+use Rattle.filesystem.specs.Tables.{PATH-BYTES, ID-BYTES, DATA-BYTES, DESCRIPTORS}
 use Rattle.limits.specs.declared.Limits.{Limits}
 
 abbrev pub definedLimits : Limits

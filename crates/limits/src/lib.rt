@@ -2,6 +2,13 @@
 ghost use mathlib.Core.Path.{_≡_};
 ghost use Rattle.limits.specs.Defined.{definedLimits};
 
+pub mod kinds;
+
+// What a node is.
+pub const FILE: u8 = 1;
+
+pub const DIRECTORY: u8 = 2;
+
 pub const NODES: usize = 256;
 
 pub const OPEN_FILES: usize = 32;

@@ -12,11 +12,14 @@ fn came(got: isize, buffer: &[u8], at: usize) -> usize
     io::count(got, &buffer[at..])
 }
 
-// One read into the buffer from `at` on: how many bytes came, whatever they are; 0 at the end of the input, and where the read failed.
+// One read into the buffer from `at` on: how many bytes came, whatever they are; 0 at the end of the input, and where
+// the read failed.
 // What stands before `at` is kept.
 pub fn read_on(fd: i32, buffer: &mut [u8], at: usize) -> usize
     requires { ⌜ at ≤ length (now buffer) ⌝ }
-    ensures { λ r. ⌜ (at + r ≤ length (now (buffer .exit))) × (length (now (buffer .exit)) ≡ length (now (buffer .entry))) × (take at (now (buffer .exit)) ≡ take at (now (buffer .entry))) ⌝ }
+    ensures { λ r. ⌜ (at + r ≤ length (now (buffer .exit)))
+        × (length (now (buffer .exit)) ≡ length (now (buffer .entry)))
+        × (take at (now (buffer .exit)) ≡ take at (now (buffer .entry))) ⌝ }
 {
     let got = libc::read(fd, &mut buffer[at..]);
     came(got, buffer, at)
@@ -43,8 +46,10 @@ pub fn at_most(n: usize, most: usize) -> usize
 // The bytes from `from` to `end` moved to the front: how many of them are kept, at most `most`.
 pub fn keep(buffer: &mut [u8], from: usize, end: usize, most: usize) -> usize
     requires { ⌜ (from ≤ end) × (end ≤ length (now buffer)) ⌝ }
-    ensures { λ r. ⌜ now (buffer .exit) ≡ overwrite (now (buffer .entry)) 0 (part from (end - from) (now (buffer .entry))) ⌝ }
-    ensures { λ r. ⌜ (r ≡ min (end - from) most) × (r ≤ most) × (length (now (buffer .exit)) ≡ length (now (buffer .entry))) ⌝ }
+    ensures { λ r. ⌜ now (buffer .exit) ≡ overwrite (now (buffer .entry)) 0
+        (part from (end - from) (now (buffer .entry))) ⌝ }
+    ensures { λ r. ⌜ (r ≡ min (end - from) most) × (r ≤ most)
+        × (length (now (buffer .exit)) ≡ length (now (buffer .entry))) ⌝ }
 {
     let left = end - from;
     buffers::shift(buffer, from, 0, left);

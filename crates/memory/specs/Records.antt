@@ -24,16 +24,26 @@ unfoldable pub rowName : List ℕ → List ℕ
 rowName r = part 23 (field 22 1 r % (NAME-BYTES + 1)) r
 
 unfoldable pub nodeOf : List ℕ → Node
-nodeOf r = record { id = field 0 8 r; parent = field 8 8 r; kind = field 16 1 r; mode = field 17 1 r; size = field 18 4 r; name = rowName r }
+nodeOf r = record {
+  id = field 0 8 r;
+  parent = field 8 8 r;
+  kind = field 16 1 r;
+  mode = field 17 1 r;
+  size = field 18 4
+      r;
+  name = rowName r;
+}
 
 -- a node's row up to its name, with the name's length n
 unfoldable pub nodeFront : (id parent kind mode size n : ℕ) → List ℕ
 nodeFront id parent kind mode size n = encode 8 id ++ (encode 8 parent ++ (kind ∷ mode ∷ (encode 4 size ++ (n ∷ []))))
 
 unfoldable pub nodeRow : Node → List ℕ
-nodeRow n = nodeFront (n .id) (n .parent) (n .kind) (n .mode) (n .size) (length (n .name)) ++ (n .name ++ replicate (NAME-BYTES + 1 - length (n .name)) 0)
+nodeRow n = nodeFront (n .id) (n .parent) (n .kind) (n .mode) (n .size) (length (n .name))
+    ++ (n .name ++ replicate (NAME-BYTES + 1 - length (n .name)) 0)
 
--- Open files: rows of 24 bytes, 14, 15 and the last four spare. Byte 13 is no part of the open file: where its node stood when it was opened.
+-- Open files: rows of 24 bytes, 14, 15 and the last four spare. Byte 13 is no part of the open file: where its node
+-- stood when it was opened.
 abbrev pub openWidth : ℕ
 openWidth = 24
 

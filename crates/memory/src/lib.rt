@@ -8,9 +8,12 @@ ghost use Rattle.lists.specs.Parts.{part, overwrite};
 ghost use Rattle.lists.specs.Rows.{rows};
 ghost use Rattle.lists.specs.Form.{put-all};
 ghost use Rattle.lists.specs.Formats.{bytes};
-ghost use Rattle.filesystem.specs.Tables.{NODES, PAGES, NAME-BYTES, DIGEST-BYTES, nodeAt, openAt, isChild, newNode, newOpenFile, withSize, withCursor, setMode, setSize, setCursor};
+ghost use Rattle.filesystem.specs.Tables.{NODES, PAGES, NAME-BYTES, DIGEST-BYTES, nodeAt, openAt, isChild, newNode};
+ghost use Rattle.filesystem.specs.Tables.{newOpenFile, withSize, withCursor, setMode, setSize, setCursor};
 ghost use Rattle.memory.specs.Records.{nodeFront, nodeOf, openOf, openWidth, hintAt};
-ghost use Rattle.memory.specs.Layout.{memOf, memorySize, headNumbers, opensAt, openRows, digestWidth, dataSize, newDigests, stagingSize, withHead, withNodes, withOpens, withDigests, withStaged};
+ghost use Rattle.memory.specs.Layout.{memorySize, headNumbers, opensAt, openRows, digestWidth, dataSize};
+ghost use Rattle.memory.specs.Layout.{newDigests, stagingSize, withHead, withNodes, withOpens, withDigests};
+ghost use Rattle.memory.specs.Layout.{withStaged};
 ghost use Rattle.memory.specs.Memories.{Becomes, IsMemory, was};
 
 // The length that the slice needs; `least_length` says that contracts mean the same by `memorySize`.
@@ -123,7 +126,8 @@ pub fn node_name(m: &[u8], i: usize) -> &[u8]
     &m[start..end]
 }
 
-// Whether node i has this parent and this name. The row's own length comes last: all else hangs on the searched name's, so that a search is
+// Whether node i has this parent and this name. The row's own length comes last: all else hangs on the searched name's,
+// so that a search is
 // compiled to a loop for each class of lengths.
 pub fn is_child(m: &[u8], i: usize, parent: u64, name: &[u8]) -> bool
     requires { ⌜ (i < NODES) × IsMemory m ⌝ }
@@ -262,7 +266,8 @@ pub fn open_cursor(m: &[u8], i: usize) -> u32
     numbers::u32_at(m, OPENS_AT + i * OPEN_WIDTH + 16)
 }
 
-// Where the node of open file i stood when it was opened. A removal may have moved it, so this is where a search begins and no more.
+// Where the node of open file i stood when it was opened. A removal may have moved it, so this is where a search begins
+// and no more.
 pub fn open_hint(m: &[u8], i: usize) -> u8
     requires { ⌜ (i < openRows) × IsMemory m ⌝ }
     ensures { λ r. ⌜ r ≡ getD (now (m .entry)) (opensAt + i * openWidth + hintAt) 0 ⌝ }
@@ -272,7 +277,8 @@ pub fn open_hint(m: &[u8], i: usize) -> u8
 
 // An open file's row.
 pub fn open_row(handle: u64, descriptor: u32, rights: u8, hint: u8, cursor: u32) -> [u8; OPEN_WIDTH]
-    ensures { λ r. ⌜ (openOf r ≡ withCursor cursor (newOpenFile handle descriptor rights)) × (getD r hintAt 0 ≡ hint) ⌝ }
+    ensures { λ r. ⌜ (openOf r ≡ withCursor cursor (newOpenFile handle descriptor rights))
+        × (getD r hintAt 0 ≡ hint) ⌝ }
 {
     let h = numbers::bytes8(handle);
     let d = numbers::bytes4(descriptor);
@@ -365,7 +371,8 @@ pub fn move_digests(m: &mut [u8], from: usize, to: usize, n: usize)
 // The first n digests, one behind the other.
 pub fn digests(m: &[u8], n: usize) -> &[u8]
     requires { ⌜ (n ≤ PAGES) × IsMemory m ⌝ }
-    ensures { λ r. ⌜ (now r ≡ put-all (bytes digestWidth) (take n (was m .digests))) × (length (now r) ≡ n * digestWidth) ⌝ }
+    ensures { λ r. ⌜ (now r ≡ put-all (bytes digestWidth) (take n (was m .digests)))
+        × (length (now r) ≡ n * digestWidth) ⌝ }
 {
     let at = DIGESTS_AT;
     let end = at + n * DIGEST_WIDTH;
@@ -409,7 +416,9 @@ pub fn stage_digest(m: &mut [u8], k: usize, x: [u8; DIGEST_WIDTH])
 // The first n new digests, kept from digest i on.
 pub fn keep_digests(m: &mut [u8], i: usize, n: usize)
     requires { ⌜ (i + n ≤ PAGES) × (n ≤ newDigests) × IsMemory m ⌝ }
-    ensures { λ _. ⌜ Becomes m (withDigests (overwrite (was m .digests) i (rows digestWidth n (part dataSize (n * digestWidth) (was m .staged))))) ⌝ }
+    ensures { λ _. ⌜ Becomes m
+        (withDigests (overwrite (was m .digests) i
+        (rows digestWidth n (part dataSize (n * digestWidth) (was m .staged))))) ⌝ }
 {
     buffers::shift(
         m,

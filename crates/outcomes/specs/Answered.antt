@@ -9,7 +9,8 @@ use Rattle.machine.specs.Machine.{State, Result, apply, guard as digestStore}
 
 unfoldable pub taken : (c : Config) → State (digestStore c) → List ℕ → Move
 taken c s r =
-    decide halt (replyChecks (c .width) (s .skeleton .tables) r (s .skeleton .pending)) (replyAction (c .width) (s .skeleton .tables) r (s .skeleton .pending))
+    decide halt (replyChecks (c .width) (s .skeleton .tables) r (s .skeleton .pending))
+    (replyAction (c .width) (s .skeleton .tables) r (s .skeleton .pending))
 
 unfoldable pub answered : (c : Config) → State (digestStore c) → List ℕ → Result (digestStore c)
 answered c s r = apply c (digestStore c) s (taken c s r)

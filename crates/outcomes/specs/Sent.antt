@@ -22,7 +22,8 @@ settled c (Ask l) s = s
 settled c (Refused n) s = s
 settled c (Stopped n) s = stops c s
 
--- the outcome r, the memory m and the request buffer, before q and now q′, are those of x; the answer buffer is not touched
+-- the outcome r, the memory m and the request buffer, before q and now q′, are those of x; the answer buffer is not
+-- touched
 pub record Sends (c : Config) (x : Result (digestStore c)) (r : Outcome) (m q q′ : List ℕ) : Type 0 where
   pub state : settled c r (stateOf c m) ≡ x .state
   pub answer : (a : List ℕ) → answerIn r a q′ ≡ x .outcome .answer

@@ -7,4 +7,5 @@ use Rattle.rules.specs.Rules.{refuse, callChecks, callAction}
 use Rattle.machine.specs.Machine.{State, Result, apply, guard as digestStore}
 
 unfoldable pub startedBy : (c : Config) → State (digestStore c) → Call → Result (digestStore c)
-startedBy c s q = apply c (digestStore c) s (decide refuse (callChecks (s .skeleton .tables) q) (callAction (s .skeleton .tables) (c .width) q))
+startedBy c s q = apply c (digestStore c) s (decide refuse (callChecks (s .skeleton .tables) q)
+    (callAction (s .skeleton .tables) (c .width) q))

@@ -1,4 +1,5 @@
--- The four outcomes (SPECIFICATION 6.4): number and values of each, and the machine's answer that an outcome and the caller's buffers are.
+-- The four outcomes (SPECIFICATION 6.4): number and values of each, and the machine's answer that an outcome and the
+-- caller's buffers are.
 -- Assumes nothing.
 use mathlib.Core.List.{List}
 use Prim.Native.Nat.{ℕ}

@@ -1,4 +1,5 @@
-// What comes back of an event: exactly one of four things. `answerIn` (specs/Values.antt) says which answer of the machine an outcome and the
+// What comes back of an event: exactly one of four things. `answerIn` (specs/Values.antt) says which answer of the
+// machine an outcome and the
 // caller's buffers are.
 ghost use mathlib.Core.Path.{_≡_};
 ghost use Rattle.outcomes.specs.Values.{valueOf};

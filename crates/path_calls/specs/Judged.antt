@@ -1,6 +1,5 @@
 -- What a call by path is judged to be (SPECIFICATION 7.4 to 7.7): 22 where its bytes are no path, else the first of
 -- the call's own numbers that holds, else the places that the call needs. Assumes nothing.
-use mathlib.Core.Path.{_≡_, refl}
 use mathlib.Core.List.{List}
 use mathlib.Core.Option.{some, none}
 use Prim.Native.Nat.{ℕ, _-_}
@@ -8,7 +7,7 @@ use lib.ListN.{length}
 use Rattle.lists.specs.Checks.{Check, decide}
 use Rattle.filesystem.specs.Tables.{Tables}
 use Rattle.filesystem.specs.Paths.{Path, readPath, walk, parentOf, lastOf}
-use Rattle.rules.specs.Calls.{Call, create, mkdir, chmod, stat}
+use Rattle.rules.specs.Calls.{Call}
 use Rattle.rules.specs.Rules.{callChecks}
 use Rattle.paths.specs.declared.Walked.{Walked}
 use Rattle.paths.specs.declared.Walked.the-variants.{Node as node, Refused as refusedNode}
@@ -31,14 +30,5 @@ module _ (t : Tables) (s : List ℕ) (make : Path → Call) where
 
   -- a call on a name that is new: the place of its directory, and where the name starts in the path's bytes
   unfoldable pub placeFor : Placed
-  placeFor = judged refusedPlace (λ p. callChecks t (make p)) (λ p. In (parentOf (t .nodes) 0 p) (length s - length (lastOf p))) s
-
--- calls that are judged alike
-module _ (t : Tables) (s : List ℕ) (mode : ℕ) where
-  pub mkdir-create : placeFor t s (mkdir mode) ≡ placeFor t s (create mode)
-  unfolding placeFor callChecks
-  mkdir-create = refl
-
-  pub chmod-stat : nodeFor t s (chmod mode) ≡ nodeFor t s stat
-  unfolding nodeFor callChecks
-  chmod-stat = refl
+  placeFor = judged refusedPlace (λ p. callChecks t (make p)) (λ p. In (parentOf (t .nodes) 0 p)
+      (length s - length (lastOf p))) s

@@ -1,4 +1,4 @@
 pub mod Judged
-pub mod Reached
-pub mod Own
+pub mod Ways
+pub mod Begun
 pub mod laws

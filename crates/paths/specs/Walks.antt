@@ -1,4 +1,5 @@
--- What a walk answers: a node's place, or the number that stopped it; for a call that makes or takes away a name, the place of the
+-- What a walk answers: a node's place, or the number that stopped it; for a call that makes or takes away a name, the
+-- place of the
 -- directory that holds the last component. Assumes nothing.
 use mathlib.Core.List.{List, [], _∷_}
 use Prim.Native.Nat.{ℕ, _-_}

@@ -89,7 +89,8 @@ pub fn covers(mode: u8, rights: u8) -> bool
 // Where the next slash stands, from `at` on, or the path's end.
 fn slash_from(path: &[u8], at: usize) -> usize
     requires { ⌜ at ≤ length (now path) ⌝ }
-    ensures { λ r. ⌜ (r ≡ at + place isSlash (drop at (now (path .entry)))) × (at ≤ r) × (r ≤ length (now (path .entry))) ⌝ }
+    ensures { λ r. ⌜ (r ≡ at + place isSlash (drop at (now (path .entry)))) × (at ≤ r)
+        × (r ≤ length (now (path .entry))) ⌝ }
 {
     let mut i = at;
     // no slash from `at` to i
@@ -107,7 +108,8 @@ fn slash_from(path: &[u8], at: usize) -> usize
 // Where the part that starts at `at` ends: at a slash, a 0 byte, or the path's end.
 fn part_end(path: &[u8], at: usize) -> usize
     requires { ⌜ at ≤ length (now path) ⌝ }
-    ensures { λ r. ⌜ (r ≡ at + place isEnd (drop at (now (path .entry)))) × (at ≤ r) × (r ≤ length (now (path .entry))) ⌝ }
+    ensures { λ r. ⌜ (r ≡ at + place isEnd (drop at (now (path .entry)))) × (at ≤ r)
+        × (r ≤ length (now (path .entry))) ⌝ }
 {
     let mut i = at;
     // no slash and no 0 from `at` to i
@@ -206,7 +208,7 @@ fn search_number(m: &[u8], n: usize, d: usize) -> u8
     requires { ⌜ (d < n) × (n ≤ NODES) × IsMemory m ⌝ }
     ensures { λ r. ⌜ r ≡ searchNumber (nodesOf n m) d ⌝ }
 {
-    if memory::node_kind(m, d) != 2 {
+    if memory::node_kind(m, d) != limits::DIRECTORY {
         return 20;
     }
     if memory::node_mode(m, d) % 2 != 1 {

@@ -1,3 +1,4 @@
-pub mod ReadLaws
+pub mod JudgedLaws
 pub mod PageLaws
+pub mod ReadLaws
 pub mod TakenLaws

@@ -1,30 +1,44 @@
-// A read by handle: begun, done at once or waiting for its first page; and a page that came, judged, staged or put into the answer buffer.
-ghost use mathlib.Core.Bool.{true};
+// A read by handle: begun, done at once or waiting for its first page; and a page that came, judged, staged or put into
+// the answer buffer.
 ghost use mathlib.Core.Path.{_≡_};
-ghost use mathlib.Core.List.{List, _++_};
-ghost use Prim.Native.Nat.{ℕ, _+_, _*_, _<_, _≤_};
-ghost use lib.ListN.{length, take};
-ghost use Rattle.digest.specs.Sha256.{sha256};
-ghost use Rattle.filesystem.specs.Tables.{NODES, PAGE-BYTES, FILE-BYTES, DATA-BYTES, nodeAt, openAt};
+ghost use Prim.Native.Nat.{ℕ, _<_, _≤_, _+_, _*_, _/_};
+ghost use Rattle.filesystem.specs.Tables.{NODES, nodeAt, openAt, PAGE-BYTES, FILE-BYTES, DATA-BYTES};
 ghost use Rattle.memory.specs.Layout.{openRows};
 ghost use Rattle.rules.specs.Calls.{read};
-ghost use Rattle.rules.specs.Pages.{pageAt, pagePart};
+ghost use Rattle.memory.specs.Memories.{IsMemory, was};
+ghost use lib.ListN.{length, take};
 ghost use Rattle.rules.specs.Requests.{reading, fetchRequest};
 ghost use Rattle.rules.specs.Skeleton.{Config, atFront};
-ghost use Rattle.machine.specs.Machine.{apply, readOn, guard as digestStore};
-ghost use Rattle.machine.specs.Consistent.{Consistent};
-ghost use Rattle.guard_state.specs.State.{stateOf, gatheredRead, filePages, numbersIn};
-ghost use Rattle.guard_state.specs.Waits.{waits, ends, Turns};
 ghost use Rattle.outcomes.specs.declared.Outcome.the-variants.{Ask};
-ghost use Rattle.outcomes.specs.Sent.{Fills, Sends, Leaves, Asks};
-ghost use Rattle.outcomes.specs.Started.{startedBy};
-ghost use Rattle.outcomes.specs.Answered.{answered};
-ghost use Rattle.reads.specs.Begun.{readOf, leftOf, cursorTo};
-ghost use Rattle.reads.specs.Taken.{InRead};
-ghost use Rattle.memory.specs.Memories.{IsMemory, was};
+ghost use Rattle.guard_state.specs.State.{stateOf, numbersIn, filePages};
+ghost use Rattle.guard_state.specs.Waits.{Turns, ends};
+ghost use Rattle.guard_state.specs.Calls.{READING};
+ghost use Rattle.outcomes.specs.Sent.{Sends, Asks, Fills, Leaves};
+ghost use Rattle.outcomes.specs.Contracts.{AcceptsBoth, Begins};
 ghost use Rattle.numbers.specs.Slices.{KeepsLength};
 ghost use Rattle.requests.specs.Room.{HoldsRequest};
+ghost use mathlib.Core.Bool.{true};
+ghost use Rattle.handle_calls.specs.Judged.{Judgement};
+ghost use Rattle.handle_calls.specs.declared.Handled.the-variants.{Open};
+ghost use mathlib.Core.List.{List, _++_};
+ghost use Rattle.rules.specs.Pages.{pageAt, pagePart};
+ghost use Rattle.machine.specs.Machine.{apply, guard as digestStore};
+ghost use Rattle.reads.specs.Begun.{readOf, leftOf, cursorTo};
+ghost use Rattle.reads.specs.Taken.{InRead, Gathers, pageTaken};
 use guard_state::Guard;
+
+// read: 9 without right 1.
+fn judge_read(m: &[u8], n: usize, o: usize, handle: u64) -> handle_calls::Handled
+    requires { ⌜ (n ≤ NODES) × (o ≤ openRows) × IsMemory m ⌝ }
+    ensures { λ r. ⌜ ((count : ℕ) → Judgement (now (m .entry)) n o handle (read handle count) r) ⌝ }
+{
+    let k = tables::find_handle(m, o, handle);
+    if handle_calls::lacks_right(m, o, k, 1) {
+        return handle_calls::Handled::Refused(9);
+    }
+    let node = handle_calls::file_place(m, n, k, handle);
+    handle_calls::Handled::Open { opened: k, node }
+}
 
 // The read waits for the page that its position lies in, and asks for it.
 fn fetch(
@@ -35,8 +49,10 @@ fn fetch(
     count: usize,
     request: &mut [u8],
 ) -> outcomes::Outcome
-    requires { ⌜ (node < NODES) × (opened < openRows) × (position ≤ FILE-BYTES) × (count ≤ DATA-BYTES) × IsMemory m × HoldsRequest request ⌝ }
-    ensures { λ r. ⌜ Asks m request (reading node opened position count (pageAt position)) (fetchRequest (openAt (was m .opens) opened .descriptor) (pageAt position)) r ⌝ }
+    requires { ⌜ (node < NODES) × (opened < openRows) × (position ≤ FILE-BYTES) × (count ≤ DATA-BYTES) × IsMemory m
+        × HoldsRequest request ⌝ }
+    ensures { λ r. ⌜ Asks m request (reading node opened position count (pageAt position))
+        (fetchRequest (openAt (was m .opens) opened .descriptor) (pageAt position)) r ⌝ }
 {
     let descriptor = memory::open_descriptor(m, opened);
     let page = position / Guard::PAGE_BYTES;
@@ -45,7 +61,8 @@ fn fetch(
     outcomes::Outcome::Ask(l)
 }
 
-// A read that passed, by the places of its open file and node. Of no bytes it asks for nothing; no valid table has a longer file.
+// A read that passed, by the places of its open file and node. Of no bytes it asks for nothing; no valid table has a
+// longer file.
 fn read_at(
     m: &mut [u8],
     n: usize,
@@ -54,8 +71,13 @@ fn read_at(
     count: usize,
     request: &mut [u8],
 ) -> outcomes::Outcome
-    requires { ⌜ (n ≡ numbersIn m .nodes) × (opened < numbersIn m .opens) × (n ≤ NODES) × (opened < openRows) × (count ≤ DATA-BYTES) × IsMemory m × HoldsRequest request ⌝ }
-    ensures { λ r. ⌜ ((c : Config) → nodeAt (stateOf c (now (m .entry)) .skeleton .tables .nodes) node .size ≤ FILE-BYTES → Sends c (apply c (digestStore c) (stateOf c (now (m .entry))) (readOf (stateOf c (now (m .entry)) .skeleton .tables) opened node (leftOf (stateOf c (now (m .entry)) .skeleton .tables) opened node count))) r (now (m .exit)) (now (request .entry)) (now (request .exit))) ⌝ }
+    requires { ⌜ (n ≡ numbersIn m .nodes) × (opened < numbersIn m .opens) × (n ≤ NODES) × (opened < openRows)
+        × (count ≤ DATA-BYTES) × IsMemory m × HoldsRequest request ⌝ }
+    ensures { λ r. ⌜ ((c : Config) → nodeAt (stateOf c (now (m .entry)) .skeleton .tables .nodes) node .size ≤
+        FILE-BYTES → Sends c (apply c (digestStore c) (stateOf c (now (m .entry)))
+        (readOf (stateOf c (now (m .entry)) .skeleton .tables) opened node
+        (leftOf (stateOf c (now (m .entry)) .skeleton .tables) opened node count))) r (now (m .exit))
+        (now (request .entry)) (now (request .exit))) ⌝ }
     ensures { λ _. ⌜ KeepsLength m ⌝ }
 {
     let cursor = memory::open_cursor(m, opened) as usize;
@@ -77,12 +99,11 @@ fn read_at(
 // read: at most count bytes from the cursor on, of the open file with this handle.
 pub fn begin_read(m: &mut [u8], handle: u64, count: usize, request: &mut [u8]) -> outcomes::Outcome
     requires { ⌜ (count ≤ DATA-BYTES) × IsMemory m × HoldsRequest request ⌝ }
-    ensures { λ r. ⌜ ((c : Config) → Consistent c (stateOf c (now (m .entry))) → Sends c (startedBy c (stateOf c (now (m .entry))) (read handle count)) r (now (m .exit)) (now (request .entry)) (now (request .exit))) ⌝ }
-    ensures { λ _. ⌜ KeepsLength m ⌝ }
+    ensures { λ r. ⌜ Begins m request (read handle count) r ⌝ }
 {
     let g = Guard::load(m);
     let n = g.nodes;
-    let j = handle_calls::judge_read(m, n, g.opens, handle);
+    let j = judge_read(m, n, g.opens, handle);
     match j {
         handle_calls::Handled::Open { opened, node } => read_at(m, n, opened, node, count, request),
         handle_calls::Handled::Refused(b) => outcomes::Outcome::Refused(b),
@@ -103,8 +124,12 @@ fn next_page(
     more: &[u8],
     request: &mut [u8],
 ) -> outcomes::Outcome
-    requires { ⌜ (opened < numbersIn m .opens) × (page * PAGE-BYTES + PAGE-BYTES < position + count) × (bytes + length (now more) ≤ DATA-BYTES) × (node < NODES) × (opened < openRows) × (position ≤ FILE-BYTES) × (count ≤ DATA-BYTES) × (page < filePages) × IsMemory m × HoldsRequest request ⌝ }
-    ensures { λ r. ⌜ ((c : Config) (x : List ℕ) → now (more .entry) ≡ pagePart x position count page → stateOf c (now (m .entry)) .progress ≡ gatheredRead (take bytes (was m .staged)) → Sends c (readOn c (digestStore c) (stateOf c (now (m .entry))) node opened position count page (digestStore c .gather (stateOf c (now (m .entry)) .progress) position count page x)) r (now (m .exit)) (now (request .entry)) (now (request .exit))) ⌝ }
+    requires { ⌜ (opened < numbersIn m .opens) × (page * PAGE-BYTES + PAGE-BYTES < position + count)
+        × (bytes + length (now more) ≤ DATA-BYTES) × (node < NODES) × (opened < openRows) × (position ≤ FILE-BYTES)
+        × (count ≤ DATA-BYTES) × (page < filePages) × IsMemory m × HoldsRequest request ⌝ }
+    ensures { λ r. ⌜ ((c : Config) (x : List ℕ) → now (more .entry) ≡ pagePart x position count page → Gathers c m bytes
+        → Sends c (pageTaken c (stateOf c (now (m .entry))) node opened position count page x) r (now (m .exit))
+        (now (request .entry)) (now (request .exit))) ⌝ }
     ensures { λ _. ⌜ KeepsLength m ⌝ }
 {
     let descriptor = memory::open_descriptor(m, opened);
@@ -114,10 +139,12 @@ fn next_page(
     outcomes::Outcome::Ask(l)
 }
 
-// The bytes of a read that is done, over the front of the answer buffer: those that are staged, and those of the last page.
+// The bytes of a read that is done, over the front of the answer buffer: those that are staged, and those of the last
+// page.
 fn put_answer(m: &[u8], bytes: usize, more: &[u8], answer: &mut [u8])
     requires { ⌜ (bytes + length (now more) ≤ DATA-BYTES) × (DATA-BYTES ≤ length (now answer)) × IsMemory m ⌝ }
-    ensures { λ _. ⌜ now (answer .exit) ≡ atFront (take bytes (was m .staged) ++ now (more .entry)) (now (answer .entry)) ⌝ }
+    ensures { λ _. ⌜ now (answer .exit) ≡ atFront (take bytes (was m .staged) ++ now (more .entry))
+        (now (answer .entry)) ⌝ }
 {
     let b = memory::staged(m, 0, bytes);
     buffers::put(answer, 0, b);
@@ -143,8 +170,12 @@ fn last_page(
     more: &[u8],
     answer: &mut [u8],
 ) -> outcomes::Outcome
-    requires { ⌜ (opened < numbersIn m .opens) × (opened < openRows) × (position ≤ FILE-BYTES) × (count ≤ DATA-BYTES) × (bytes + length (now more) ≤ DATA-BYTES) × (DATA-BYTES ≤ length (now answer)) × IsMemory m ⌝ }
-    ensures { λ r. ⌜ ((c : Config) (k i : ℕ) (x : List ℕ) → position + count ≤ i * PAGE-BYTES + PAGE-BYTES → now (more .entry) ≡ pagePart x position count i → stateOf c (now (m .entry)) .progress ≡ gatheredRead (take bytes (was m .staged)) → Fills c (readOn c (digestStore c) (stateOf c (now (m .entry))) k opened position count i (digestStore c .gather (stateOf c (now (m .entry)) .progress) position count i x)) r (now (m .exit)) (now (answer .entry)) (now (answer .exit))) ⌝ }
+    requires { ⌜ (opened < numbersIn m .opens) × (opened < openRows) × (position ≤ FILE-BYTES) × (count ≤ DATA-BYTES)
+        × (bytes + length (now more) ≤ DATA-BYTES) × (DATA-BYTES ≤ length (now answer)) × IsMemory m ⌝ }
+    ensures { λ r. ⌜ ((c : Config) (k i : ℕ) (x : List ℕ) → position + count ≤ i * PAGE-BYTES + PAGE-BYTES
+        → now (more .entry) ≡ pagePart x position count i → Gathers c m bytes
+        → Fills c (pageTaken c (stateOf c (now (m .entry))) k opened position count i x) r (now (m .exit))
+        (now (answer .entry)) (now (answer .exit))) ⌝ }
     ensures { λ _. ⌜ KeepsLength m ⌝ }
 {
     let l = bytes + more.len();
@@ -159,7 +190,8 @@ fn last_page(
 
 // The bytes of a page that lie in the read.
 fn page_part(reply: &[u8], position: usize, count: usize, page: usize) -> &[u8]
-    requires { ⌜ (length (now reply) ≡ PAGE-BYTES) × (position ≤ FILE-BYTES) × (count ≤ DATA-BYTES) × (page ≤ filePages) × (page * PAGE-BYTES < position + count) × (position < page * PAGE-BYTES + PAGE-BYTES) ⌝ }
+    requires { ⌜ (length (now reply) ≡ PAGE-BYTES) × (position ≤ FILE-BYTES) × (count ≤ DATA-BYTES) × (page ≤ filePages)
+        × (page * PAGE-BYTES < position + count) × (position < page * PAGE-BYTES + PAGE-BYTES) ⌝ }
     ensures { λ r. ⌜ (now r ≡ pagePart (now (reply .entry)) position count page) × (length (now r) ≤ count) ⌝ }
 {
     let at = page * Guard::PAGE_BYTES;
@@ -184,7 +216,8 @@ fn in_read(position: usize, count: usize, page: usize) -> bool
     end <= Guard::FILE_BYTES
 }
 
-// The right page of the read came: the next one is asked for, or the read is done. No consistent state has staged more than a read gives.
+// The right page of the read came: the next one is asked for, or the read is done. No consistent state has staged more
+// than a read gives.
 fn take_page(
     m: &mut [u8],
     node: usize,
@@ -197,8 +230,13 @@ fn take_page(
     answer: &mut [u8],
     request: &mut [u8],
 ) -> outcomes::Outcome
-    requires { ⌜ (opened < numbersIn m .opens) × (InRead position count page) × (length (now reply) ≡ PAGE-BYTES) × (bytes ≤ DATA-BYTES) × (node < NODES) × (opened < openRows) × (count ≤ DATA-BYTES) × (DATA-BYTES ≤ length (now answer)) × IsMemory m × HoldsRequest request ⌝ }
-    ensures { λ r. ⌜ ((c : Config) → bytes + length (pagePart (now (reply .entry)) position count page) ≤ DATA-BYTES → stateOf c (now (m .entry)) .progress ≡ gatheredRead (take bytes (was m .staged)) → Leaves c (readOn c (digestStore c) (stateOf c (now (m .entry))) node opened position count page (digestStore c .gather (stateOf c (now (m .entry)) .progress) position count page (now (reply .entry)))) r (now (m .exit)) (now (answer .entry)) (now (answer .exit)) (now (request .entry)) (now (request .exit))) ⌝ }
+    requires { ⌜ (opened < numbersIn m .opens) × (InRead position count page) × (length (now reply) ≡ PAGE-BYTES)
+        × (bytes ≤ DATA-BYTES) × (node < NODES) × (opened < openRows) × (count ≤ DATA-BYTES)
+        × (DATA-BYTES ≤ length (now answer)) × IsMemory m × HoldsRequest request ⌝ }
+    ensures { λ r. ⌜ ((c : Config) → bytes + length (pagePart (now (reply .entry)) position count page) ≤ DATA-BYTES
+        → Gathers c m bytes → Leaves c (pageTaken c (stateOf c (now (m .entry))) node opened position count page
+        (now (reply .entry))) r (now (m .exit)) (now (answer .entry)) (now (answer .exit)) (now (request .entry))
+        (now (request .exit))) ⌝ }
     ensures { λ _. ⌜ KeepsLength m ⌝ }
 {
     let more = page_part(reply, position, count, page);
@@ -218,9 +256,9 @@ pub fn accept_page(
     answer: &mut [u8],
     request: &mut [u8],
 ) -> outcomes::Outcome
-    requires { ⌜ (numbersIn m .call ≡ 8) × (DATA-BYTES ≤ length (now answer)) × IsMemory m × HoldsRequest request ⌝ }
-    ensures { λ r. ⌜ ((c : Config) → c .digest ≡ sha256 → Consistent c (stateOf c (now (m .entry))) → Leaves c (answered c (stateOf c (now (m .entry))) (now (reply .entry))) r (now (m .exit)) (now (answer .entry)) (now (answer .exit)) (now (request .entry)) (now (request .exit))) ⌝ }
-    ensures { λ _. ⌜ KeepsLength m ⌝ }
+    requires { ⌜ (numbersIn m .call ≡ READING) × (DATA-BYTES ≤ length (now answer)) × IsMemory m
+        × HoldsRequest request ⌝ }
+    ensures { λ r. ⌜ AcceptsBoth m reply answer request r ⌝ }
 {
     let g = Guard::load(m);
     let b = replies::judge_page(m, g.nodes, g.node, g.page, reply);

@@ -1,3 +1,2 @@
 pub mod Judged
-pub mod Listing
 pub mod laws

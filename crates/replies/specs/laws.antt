@@ -1,3 +1,4 @@
 pub mod JudgedLaws
-pub mod ListingLaws
+pub mod PremiseLaws
+pub mod ReasonLaws
 pub mod TakenLaws

@@ -1,4 +1,5 @@
--- The request of a call by path, from its kind, its mode or rights, and its path's bytes: the call itself (SPECIFICATION 5.2).
+-- The request of a call by path, from its kind, its mode or rights, and its path's bytes: the call itself
+-- (SPECIFICATION 5.2).
 -- Assumes nothing.
 use mathlib.Core.Bool.{Bool, _||_}
 use mathlib.Core.List.{List, _∷_}

@@ -1,7 +1,8 @@
-// Host requests written over the front of the caller's request buffer (SPECIFICATION 5.1), the page of a store among them.
+// Host requests written over the front of the caller's request buffer (SPECIFICATION 5.1), the page of a store among
+// them.
 ghost use mathlib.Core.Path.{_≡_};
 ghost use mathlib.Core.List.{_∷_, _++_};
-ghost use Prim.Native.Nat.{_+_, _≤_};
+ghost use Prim.Native.Nat.{_+_, _/_, _≤_};
 ghost use lib.ListN.{length};
 ghost use Rattle.lists.specs.LittleEndian.{encode};
 ghost use Rattle.filesystem.specs.Tables.{PAGE-BYTES, FILE-BYTES, PATH-BYTES};
@@ -12,6 +13,7 @@ ghost use Rattle.requests.specs.PathRequests.{hasNumber, pathRequest};
 ghost use Rattle.requests.specs.StoredPages.{zeros};
 ghost use Rattle.numbers.specs.Slices.{Overwritten};
 ghost use Rattle.requests.specs.Room.{HoldsRequest};
+use limits::kinds;
 
 // A store: kind, descriptor, page, size, and the page's bytes.
 pub const STORE_LENGTH: usize = STORE_FRONT + limits::PAGE_BYTES;
@@ -38,7 +40,8 @@ fn put_longer(out: &mut [u8], kind: u8, descriptor: u32, number: u64)
 
 fn put_plain(out: &mut [u8], kind: u8, path: &[u8]) -> usize
     requires { ⌜ 1 + length (now path) ≤ length (now out) ⌝ }
-    ensures { λ r. ⌜ (now (out .exit) ≡ atFront (kind ∷ now (path .entry)) (now (out .entry))) × (r ≡ 1 + length (now (path .entry))) ⌝ }
+    ensures { λ r. ⌜ (now (out .exit) ≡ atFront (kind ∷ now (path .entry)) (now (out .entry)))
+        × (r ≡ 1 + length (now (path .entry))) ⌝ }
 {
     let front = [kind];
     buffers::put(out, 0, &front);
@@ -48,7 +51,8 @@ fn put_plain(out: &mut [u8], kind: u8, path: &[u8]) -> usize
 
 fn put_numbered(out: &mut [u8], kind: u8, number: u8, path: &[u8]) -> usize
     requires { ⌜ 2 + length (now path) ≤ length (now out) ⌝ }
-    ensures { λ r. ⌜ (now (out .exit) ≡ atFront (kind ∷ number ∷ now (path .entry)) (now (out .entry))) × (r ≡ 2 + length (now (path .entry))) ⌝ }
+    ensures { λ r. ⌜ (now (out .exit) ≡ atFront (kind ∷ number ∷ now (path .entry)) (now (out .entry)))
+        × (r ≡ 2 + length (now (path .entry))) ⌝ }
 {
     let front = [kind, number];
     buffers::put(out, 0, &front);
@@ -60,16 +64,17 @@ fn put_numbered(out: &mut [u8], kind: u8, number: u8, path: &[u8]) -> usize
 fn has_number(kind: u8) -> bool
     ensures { λ r. ⌜ r ≡ hasNumber kind ⌝ }
 {
-    if kind <= 3 {
+    if kind <= kinds::OPEN {
         return true;
     }
-    kind == 11
+    kind == kinds::CHMOD
 }
 
 // A call by path sends itself: its kind, its mode or rights where it has one, and the path.
 pub fn write_path(out: &mut [u8], kind: u8, number: u8, path: &[u8]) -> usize
     requires { ⌜ (length (now path) ≤ PATH-BYTES) × HoldsRequest out ⌝ }
-    ensures { λ r. ⌜ (now (out .exit) ≡ atFront (pathRequest kind number (now (path .entry))) (now (out .entry))) × (r ≡ length (pathRequest kind number (now (path .entry)))) ⌝ }
+    ensures { λ r. ⌜ (now (out .exit) ≡ atFront (pathRequest kind number (now (path .entry))) (now (out .entry)))
+        × (r ≡ length (pathRequest kind number (now (path .entry)))) ⌝ }
 {
     if has_number(kind) {
         return put_numbered(out, kind, number, path);
@@ -80,27 +85,30 @@ pub fn write_path(out: &mut [u8], kind: u8, number: u8, path: &[u8]) -> usize
 // close: the descriptor.
 pub fn write_close(out: &mut [u8], descriptor: u32) -> usize
     requires { ⌜ HoldsRequest out ⌝ }
-    ensures { λ r. ⌜ (now (out .exit) ≡ atFront (closeRequest descriptor) (now (out .entry))) × (r ≡ length (closeRequest descriptor)) ⌝ }
+    ensures { λ r. ⌜ (now (out .exit) ≡ atFront (closeRequest descriptor) (now (out .entry)))
+        × (r ≡ length (closeRequest descriptor)) ⌝ }
 {
-    put_head(out, 4, descriptor);
+    put_head(out, kinds::CLOSE, descriptor);
     5
 }
 
 // fetch: the descriptor and the page.
 pub fn write_fetch(out: &mut [u8], descriptor: u32, page: u32) -> usize
     requires { ⌜ HoldsRequest out ⌝ }
-    ensures { λ r. ⌜ (now (out .exit) ≡ atFront (fetchRequest descriptor page) (now (out .entry))) × (r ≡ length (fetchRequest descriptor page)) ⌝ }
+    ensures { λ r. ⌜ (now (out .exit) ≡ atFront (fetchRequest descriptor page) (now (out .entry)))
+        × (r ≡ length (fetchRequest descriptor page)) ⌝ }
 {
-    put_longer(out, 6, descriptor, page as u64);
+    put_longer(out, kinds::READ, descriptor, page as u64);
     9
 }
 
 // cut: the descriptor and the size.
 pub fn write_cut(out: &mut [u8], descriptor: u32, size: u32) -> usize
     requires { ⌜ HoldsRequest out ⌝ }
-    ensures { λ r. ⌜ (now (out .exit) ≡ atFront (cutRequest descriptor size) (now (out .entry))) × (r ≡ length (cutRequest descriptor size)) ⌝ }
+    ensures { λ r. ⌜ (now (out .exit) ≡ atFront (cutRequest descriptor size) (now (out .entry)))
+        × (r ≡ length (cutRequest descriptor size)) ⌝ }
 {
-    put_longer(out, 8, descriptor, size as u64);
+    put_longer(out, kinds::TRUNCATE, descriptor, size as u64);
     9
 }
 
@@ -128,7 +136,8 @@ fn put_page(out: &mut [u8], at: usize, page: &[u8])
 
 // Page i as a write stores it, over a part of out.
 fn put_written(out: &mut [u8], at: usize, page: &[u8], position: usize, bytes: &[u8], i: usize)
-    requires { ⌜ (at + PAGE-BYTES ≤ length (now out)) × (length (now page) ≤ PAGE-BYTES) × (position ≤ FILE-BYTES) × (i ≤ 64) ⌝ }
+    requires { ⌜ (at + PAGE-BYTES ≤ length (now out)) × (length (now page) ≤ PAGE-BYTES) × (position ≤ FILE-BYTES)
+        × (i ≤ FILE-BYTES / PAGE-BYTES) ⌝ }
     ensures { λ _. ⌜ Overwritten out at (fill (writing position (now (bytes .entry))) i (now (page .entry))) ⌝ }
 {
     put_page(out, at, page);
@@ -147,7 +156,8 @@ fn put_written(out: &mut [u8], at: usize, page: &[u8], position: usize, bytes: &
 
 // Page i as a truncation stores it, over a part of out.
 fn put_cut(out: &mut [u8], at: usize, page: &[u8], size: usize, i: usize)
-    requires { ⌜ (at + PAGE-BYTES ≤ length (now out)) × (length (now page) ≤ PAGE-BYTES) × (size ≤ FILE-BYTES) × (i ≤ 64) ⌝ }
+    requires { ⌜ (at + PAGE-BYTES ≤ length (now out)) × (length (now page) ≤ PAGE-BYTES) × (size ≤ FILE-BYTES)
+        × (i ≤ FILE-BYTES / PAGE-BYTES) ⌝ }
     ensures { λ _. ⌜ Overwritten out at (fill (shrinking size) i (now (page .entry))) ⌝ }
 {
     let n = numbers::smaller(page.len(), numbers::excess(size, i * limits::PAGE_BYTES));
@@ -159,7 +169,7 @@ fn put_store(out: &mut [u8], descriptor: u32, i: usize, size: u32)
     requires { ⌜ 13 ≤ length (now out) ⌝ }
     ensures { λ _. ⌜ Overwritten out 0 (7 ∷ (encode 4 descriptor ++ (encode 4 i ++ encode 4 size))) ⌝ }
 {
-    put_longer(out, 7, descriptor, i as u64);
+    put_longer(out, kinds::WRITE, descriptor, i as u64);
     numbers::put_number(out, 9, 4, size as u64);
 }
 
@@ -173,8 +183,11 @@ pub fn write_store(
     position: usize,
     bytes: &[u8],
 ) -> usize
-    requires { ⌜ HoldsRequest out × (length (now page) ≤ PAGE-BYTES) × (position ≤ FILE-BYTES) × (i ≤ 64) ⌝ }
-    ensures { λ r. ⌜ (now (out .exit) ≡ atFront (storeRequest descriptor i size (fill (writing position (now (bytes .entry))) i (now (page .entry)))) (now (out .entry))) × (r ≡ storeLength) ⌝ }
+    requires { ⌜ HoldsRequest out × (length (now page) ≤ PAGE-BYTES) × (position ≤ FILE-BYTES)
+        × (i ≤ FILE-BYTES / PAGE-BYTES) ⌝ }
+    ensures { λ r. ⌜ (now (out .exit) ≡ atFront
+        (storeRequest descriptor i size (fill (writing position (now (bytes .entry))) i (now (page .entry))))
+        (now (out .entry))) × (r ≡ storeLength) ⌝ }
 {
     put_store(out, descriptor, i, size);
     put_written(out, STORE_FRONT, page, position, bytes, i);
@@ -190,8 +203,11 @@ pub fn write_store_cut(
     page: &[u8],
     to: usize,
 ) -> usize
-    requires { ⌜ HoldsRequest out × (length (now page) ≤ PAGE-BYTES) × (to ≤ FILE-BYTES) × (i ≤ 64) ⌝ }
-    ensures { λ r. ⌜ (now (out .exit) ≡ atFront (storeRequest descriptor i size (fill (shrinking to) i (now (page .entry)))) (now (out .entry))) × (r ≡ storeLength) ⌝ }
+    requires { ⌜ HoldsRequest out × (length (now page) ≤ PAGE-BYTES) × (to ≤ FILE-BYTES)
+        × (i ≤ FILE-BYTES / PAGE-BYTES) ⌝ }
+    ensures { λ r. ⌜ (now (out .exit) ≡ atFront
+        (storeRequest descriptor i size (fill (shrinking to) i (now (page .entry)))) (now (out .entry)))
+        × (r ≡ storeLength) ⌝ }
 {
     put_store(out, descriptor, i, size);
     put_cut(out, STORE_FRONT, page, to, i);

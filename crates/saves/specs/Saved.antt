@@ -1,4 +1,5 @@
--- A save and a load as the machine takes them once the guard is known to be running and idle: the numbers that are left, or what is done.
+-- A save and a load as the machine takes them once the guard is known to be running and idle: the numbers that are
+-- left, or what is done.
 -- Assumes nothing.
 use mathlib.Core.Path.{_≡_}
 use mathlib.Core.Bool.{not}
@@ -18,7 +19,8 @@ use Rattle.outcomes.specs.Values.{lengthOf, bytesIn, answerIn}
 module _ (c : Config) (s : State (digestStore c)) where
   -- SPECIFICATION 8.2, into a buffer of n bytes
   unfoldable pub saveMove : ℕ → Move
-  saveMove n = decide refuse (inUseCheck c (s .skeleton) ∷ (34, ltb n (imageLength (c .width) (s .skeleton .tables .nodes))) ∷ []) saving
+  saveMove n = decide refuse (inUseCheck c (s .skeleton)
+      ∷ (34, ltb n (imageLength (c .width) (s .skeleton .tables .nodes))) ∷ []) saving
 
   unfoldable pub savedInto : ℕ → Result (digestStore c)
   savedInto n = apply c (digestStore c) s (saveMove n)
@@ -26,7 +28,8 @@ module _ (c : Config) (s : State (digestStore c)) where
   -- SPECIFICATION 8.3, of image i with digest d
   unfoldable pub loadMove : (i d : List ℕ) → Move
   loadMove i d =
-      decide refuse (inUseCheck c (s .skeleton) ∷ (74, not (equal (c .digest i) d)) ∷ (84, isNone (parse (c .width) i)) ∷ [])
+      decide refuse (inUseCheck c (s .skeleton) ∷ (74, not (equal (c .digest i) d)) ∷ (84, isNone (parse (c .width) i))
+      ∷ [])
       (loading (imageOr (parse (c .width) i)) d)
 
   unfoldable pub loadedFrom : (i d : List ℕ) → Result (digestStore c)
@@ -38,7 +41,8 @@ pub record Loads (c : Config) (x : Result (digestStore c)) (r : Outcome) (m : Li
   pub answer : answerIn r [] [] ≡ x .outcome .answer
   pub count : lengthOf r ≡ bytesIn (x .outcome .answer)
 
--- What a save leaves: the outcome r, the memory m, the image buffer, before i and now i′, and the digest, before d and now d′, are those of x.
+-- What a save leaves: the outcome r, the memory m, the image buffer, before i and now i′, and the digest, before d and
+-- now d′, are those of x.
 pub record Saves (c : Config) (x : Result (digestStore c)) (r : Outcome) (m i i′ d d′ : List ℕ) : Type 0 where
   pub state : stateOf c m ≡ x .state
   pub answer : answerIn r i′ [] ≡ x .outcome .answer

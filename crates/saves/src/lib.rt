@@ -1,4 +1,5 @@
-// Saves and loads, once the guard is known to be running and idle: the numbers that are left, in their order, and the work.
+// Saves and loads, once the guard is known to be running and idle: the numbers that are left, in their order, and the
+// work.
 ghost use mathlib.Core.Path.{_≡_};
 ghost use Prim.Native.Nat.{_≤_};
 ghost use lib.ListN.{length};
@@ -15,8 +16,11 @@ use guard_state::Guard;
 
 // The image of n nodes at the front of its buffer, and its SHA-256 at the front of `digest`; the image's length.
 fn put_image(m: &[u8], n: usize, image: &mut [u8], digest: &mut [u8]) -> usize
-    requires { ⌜ (n ≤ NODES) × IsMemory m × (pageTotal (nodesIn n (now m)) ≤ PAGES) × (imageLength ID-BYTES (nodesIn n (now m)) ≤ length (now image)) × (DIGEST-BYTES ≤ length (now digest)) ⌝ }
-    ensures { λ r. ⌜ (now (image .exit) ≡ atFront (print ID-BYTES (imageIn n (now (m .entry)))) (now (image .entry))) × (now (digest .exit) ≡ atFront (sha256 (print ID-BYTES (imageIn n (now (m .entry))))) (now (digest .entry))) × (r ≡ length (print ID-BYTES (imageIn n (now (m .entry))))) ⌝ }
+    requires { ⌜ (n ≤ NODES) × IsMemory m × (pageTotal (nodesIn n (now m)) ≤ PAGES)
+        × (imageLength ID-BYTES (nodesIn n (now m)) ≤ length (now image)) × (DIGEST-BYTES ≤ length (now digest)) ⌝ }
+    ensures { λ r. ⌜ (now (image .exit) ≡ atFront (print ID-BYTES (imageIn n (now (m .entry)))) (now (image .entry)))
+        × (now (digest .exit) ≡ atFront (sha256 (print ID-BYTES (imageIn n (now (m .entry))))) (now (digest .entry)))
+        × (r ≡ length (print ID-BYTES (imageIn n (now (m .entry))))) ⌝ }
 {
     let l = image_writer::write_image(m, n, image, 0);
     let d = image_writer::seal(&image[..l]);
@@ -27,7 +31,10 @@ fn put_image(m: &[u8], n: usize, image: &mut [u8], digest: &mut [u8]) -> usize
 // A save: 16, 34, else the image at the front of its buffer, and its SHA-256 at the front of `digest`.
 pub fn save(m: &mut [u8], image: &mut [u8], digest: &mut [u8]) -> outcomes::Outcome
     requires { ⌜ (DIGEST-BYTES ≤ length (now digest)) × IsMemory m ⌝ }
-    ensures { λ r. ⌜ ((c : Config) → c .digest ≡ sha256 → c .width ≡ ID-BYTES → pageTotal (stateOf c (now (m .entry)) .skeleton .tables .nodes) ≤ PAGES → Saves c (savedInto c (stateOf c (now (m .entry))) (length (now (image .entry)))) r (now (m .exit)) (now (image .entry)) (now (image .exit)) (now (digest .entry)) (now (digest .exit))) ⌝ }
+    ensures { λ r. ⌜ ((c : Config) → c .digest ≡ sha256 → c .width ≡ ID-BYTES
+        → pageTotal (stateOf c (now (m .entry)) .skeleton .tables .nodes) ≤ PAGES
+        → Saves c (savedInto c (stateOf c (now (m .entry))) (length (now (image .entry)))) r (now (m .exit))
+        (now (image .entry)) (now (image .exit)) (now (digest .entry)) (now (digest .exit))) ⌝ }
     ensures { λ _. ⌜ KeepsLength m ⌝ }
 {
     let g = Guard::load(m);
@@ -52,7 +59,9 @@ pub fn save(m: &mut [u8], image: &mut [u8], digest: &mut [u8]) -> outcomes::Outc
 // A load: 16, 74, 84, else the image's tables in place of those that stood.
 pub fn load(m: &mut [u8], image: &[u8], digest: &[u8]) -> outcomes::Outcome
     requires { ⌜ IsMemory m ⌝ }
-    ensures { λ r. ⌜ ((c : Config) → c .digest ≡ sha256 → c .width ≡ ID-BYTES → Loads c (loadedFrom c (stateOf c (now (m .entry))) (now (image .entry)) (now (digest .entry))) r (now (m .exit))) ⌝ }
+    ensures { λ r. ⌜ ((c : Config) → c .digest ≡ sha256 → c .width ≡ ID-BYTES
+        → Loads c (loadedFrom c (stateOf c (now (m .entry))) (now (image .entry)) (now (digest .entry))) r
+        (now (m .exit))) ⌝ }
     ensures { λ _. ⌜ KeepsLength m ⌝ }
 {
     let g = Guard::load(m);

@@ -7,7 +7,8 @@ use lib.ListN.{length, getD, take, set}
 use Rattle.lists.specs.Parts.{part, overwrite}
 use Rattle.lists.specs.Rows.{rows}
 use Rattle.lists.specs.Search.{without}
-use Rattle.filesystem.specs.Tables.{NODES, PAGES, Node, OpenFile, Tables, nodeAt, pagesFor, pageTotal, setMode, setSize, setCursor}
+use Rattle.filesystem.specs.Tables.{NODES, PAGES, Node, OpenFile, Tables, nodeAt, pagesFor, pageTotal, setMode, setSize}
+use Rattle.filesystem.specs.Tables.{setCursor}
 use Rattle.filesystem.specs.Image.{divide}
 use Rattle.filesystem.specs.Digests.{replaced}
 use Rattle.memory.specs.Layout.{Mem, digestWidth, dataSize, newDigests, withNodes, withDigests}
@@ -68,9 +69,11 @@ cursorAt k x v = withOpens (setCursor (v .opens) k x) v
 
 -- file k with another size, and its digests with new ones from page `from` on
 unfoldable pub withChange : (blank : List ℕ) → (k size from : ℕ) → List (List ℕ) → View → View
-withChange blank k size from new v = withFiles (setSize (v .nodes) k size) (set (v .contents) k (replaced blank (getD (v .contents) k []) size from new)) v
+withChange blank k size from new v = withFiles (setSize (v .nodes) k size)
+    (set (v .contents) k (replaced blank (getD (v .contents) k []) size from new)) v
 
--- what a change of file k among these nodes needs: room before and after, and every added page among the `count` new ones from `from` on
+-- what a change of file k among these nodes needs: room before and after, and every added page among the `count` new
+-- ones from `from` on
 pub record Changeable (ns : List Node) (k size from count : ℕ) : Type 0 where
   pub known : k < length ns
   pub room-before : pageTotal ns ≤ PAGES
@@ -89,7 +92,8 @@ pub record Spans (ns : List Node) (n k : ℕ) (s : Span) : Type 0 where
   pub within : s .end ≤ s .total
   pub all : s .total ≡ pageTotal (take n ns)
 
--- what a change asks of the rows: of `behind` that stand behind the file's, and where its pages begin and how many they are before and after it
+-- what a change asks of the rows: of `behind` that stand behind the file's, and where its pages begin and how many they
+-- are before and after it
 pub record Room (first old new behind from count : ℕ) : Type 0 where
   pub before-fits : first + old + behind ≤ PAGES
   pub after-fits : first + new + behind ≤ PAGES

@@ -9,11 +9,13 @@ ghost use lib.ListN.{length, getD, take};
 ghost use Rattle.lists.specs.Pick.{pick};
 ghost use Rattle.lists.specs.Equal.{equal};
 ghost use Rattle.digest.specs.Sha256.{sha256};
-ghost use Rattle.filesystem.specs.Tables.{NODES, PAGES, findId, findChild, children, findHandle, findDescriptor, nodeAt, pagesFor, pageTotal, setSize};
+ghost use Rattle.filesystem.specs.Tables.{NODES, PAGES, findId, findChild, children, findHandle, findDescriptor};
+ghost use Rattle.filesystem.specs.Tables.{nodeAt, pagesFor, pageTotal, setSize};
 ghost use Rattle.filesystem.specs.Image.{soundNodes, divide};
 ghost use Rattle.memory.specs.Records.{nodeOf, openOf};
 ghost use Rattle.memory.specs.Layout.{memOf, openRows};
-ghost use Rattle.tables.specs.View.{viewOf, withNode, withoutNode, withOpen, withoutOpen, withChange, stagedDigests, Changeable, Spans, Room};
+ghost use Rattle.tables.specs.View.{viewOf, withNode, withoutNode, withOpen, withoutOpen, withChange};
+ghost use Rattle.tables.specs.View.{stagedDigests, Changeable, Spans, Room};
 ghost use Rattle.memory.specs.Memories.{IsMemory, nodesOf, opensOf, was};
 ghost use Rattle.numbers.specs.Slices.{KeepsLength};
 
@@ -35,7 +37,8 @@ pub fn find_id(m: &[u8], n: usize, id: u64) -> usize
     i
 }
 
-// The same, with a place that is tried first: ids differ among sound nodes, so where it has the id, the search would find it too.
+// The same, with a place that is tried first: ids differ among sound nodes, so where it has the id, the search would
+// find it too.
 pub fn find_node(m: &[u8], n: usize, id: u64, hint: usize) -> usize
     requires { ⌜ (n ≤ NODES) × IsMemory m ⌝ }
     ensures { λ r. ⌜ ((w : ℕ) → soundNodes w (nodesOf n m) ≡ true → r ≡ findId (nodesOf n m) id) ⌝ }
@@ -126,7 +129,8 @@ pub fn pages_for(size: u32) -> usize
 
 // How many pages the first n nodes have, where the first k have s.
 fn pages_on(m: &[u8], k: usize, s: usize, n: usize) -> usize
-    requires { ⌜ (k ≤ n) × (n ≤ NODES) × (s ≡ pageTotal (take k (memOf (now m) .nodes))) × (s ≤ k * 4194304) × IsMemory m ⌝ }
+    requires { ⌜ (k ≤ n) × (n ≤ NODES) × (s ≡ pageTotal (take k (memOf (now m) .nodes))) × (s ≤ k * 4194304)
+        × IsMemory m ⌝ }
     ensures { λ r. ⌜ (r ≡ pageTotal (nodesOf n m)) × (r ≤ n * 4194304) ⌝ }
 {
     let mut t = s;
@@ -208,7 +212,9 @@ pub fn remove_open(m: &mut [u8], o: usize, k: usize)
 // Whether these bytes are page i of node k: their SHA-256 is the kept one. Where no digest can stand, none is kept.
 pub fn is_page(m: &[u8], k: usize, i: usize, page: &[u8]) -> bool
     requires { ⌜ (k < NODES) × (i < 4194304) × IsMemory m ⌝ }
-    ensures { λ r. ⌜ ((n : ℕ) → k < n → n ≤ NODES → i < pagesFor (nodeAt (was m .nodes) k .size) → pageTotal (nodesOf n m) ≤ PAGES → r ≡ equal (sha256 (now (page .entry))) (getD (getD (divide (nodesOf n m) (was m .digests)) k []) i [])) ⌝ }
+    ensures { λ r. ⌜ ((n : ℕ) → k < n → n ≤ NODES → i < pagesFor (nodeAt (was m .nodes) k .size)
+        → pageTotal (nodesOf n m) ≤ PAGES → r ≡ equal (sha256 (now (page .entry)))
+        (getD (getD (divide (nodesOf n m) (was m .digests)) k []) i [])) ⌝ }
 {
     let at = first_page(m, k) + i;
     if limits::PAGES <= at {
@@ -227,10 +233,12 @@ pub fn pages_with(m: &[u8], n: usize, k: usize, size: u32) -> usize
     s.first + pages_for(size) + (s.total - s.end)
 }
 
-// How many rows of digests stand behind those of node k, which end at `end`. Where the file keeps its count of pages none is moved, and none is
+// How many rows of digests stand behind those of node k, which end at `end`. Where the file keeps its count of pages
+// none is moved, and none is
 // counted.
 fn rows_moved(m: &[u8], n: usize, k: usize, end: usize, old: usize, new: usize) -> usize
-    requires { ⌜ (k < n) × (n ≤ NODES) × (end ≡ pageTotal (take (k + 1) (memOf (now m) .nodes))) × (end ≤ (k + 1) * 4194304) × IsMemory m ⌝ }
+    requires { ⌜ (k < n) × (n ≤ NODES) × (end ≡ pageTotal (take (k + 1) (memOf (now m) .nodes)))
+        × (end ≤ (k + 1) * 4194304) × IsMemory m ⌝ }
     ensures { λ r. ⌜ (r ≡ pick (eqb old new) 0 (pageTotal (nodesOf n m) - end)) × (r ≤ n * 4194304) ⌝ }
 {
     if old == new {
@@ -242,7 +250,8 @@ fn rows_moved(m: &[u8], n: usize, k: usize, end: usize, old: usize, new: usize) 
 // Whether the rows have room for a change.
 fn has_room(first: usize, old: usize, new: usize, behind: usize, from: usize, count: usize) -> bool
     requires { ⌜ (first ≤ 1073741824) × (old ≤ 4194304) × (new ≤ 4194304) × (behind ≤ 1073741824) ⌝ }
-    ensures { λ r. ⌜ (r ≡ true → Room first old new behind from count) × (Room first old new behind from count → r ≡ true) ⌝ }
+    ensures { λ r. ⌜ (r ≡ true → Room first old new behind from count) × (Room first old new behind from count
+        → r ≡ true) ⌝ }
 {
     if limits::PAGES < first + old + behind {
         return false;
@@ -259,11 +268,14 @@ fn has_room(first: usize, old: usize, new: usize, behind: usize, from: usize, co
     from + count <= new
 }
 
-// A change of file k that can be done: its size, and the `count` staged digests for its pages from `from` on. The rows behind its pages move to
+// A change of file k that can be done: its size, and the `count` staged digests for its pages from `from` on. The rows
+// behind its pages move to
 // where these end.
 pub fn change_file(m: &mut [u8], n: usize, k: usize, size: u32, from: usize, count: usize) -> bool
     requires { ⌜ (n ≤ NODES) × IsMemory m ⌝ }
-    ensures { λ r. ⌜ (Changeable (nodesOf n m) k size from count → (r ≡ true) × ((blank : List ℕ) (o : ℕ) → viewOf n o (memOf (now (m .exit))) ≡ withChange blank k size from (stagedDigests count (was m .staged)) (viewOf n o (was m)))) ⌝ }
+    ensures { λ r. ⌜ (Changeable (nodesOf n m) k size from count → (r ≡ true)
+        × ((blank : List ℕ) (o : ℕ) → viewOf n o (memOf (now (m .exit))) ≡ withChange blank k size from
+        (stagedDigests count (was m .staged)) (viewOf n o (was m)))) ⌝ }
     ensures { λ r. ⌜ (r ≡ false → now (m .exit) ≡ now (m .entry)) ⌝ }
     ensures { λ _. ⌜ KeepsLength m ⌝ }
 {

@@ -40,7 +40,8 @@ enough zero j n h g = last-one zero n (omega arith) ∙ sym (last-one j n (omega
 enough (suc k) zero n h g = last-one (suc k) n (omega arith) ∙ sym (last-one zero n (omega arith))
 enough (suc k) (suc j) n h g = go (is (ltb n 10)) (λ l. enough k j (n / 10) (omega arith) (omega arith))
   where
-    go : Is (ltb n 10) → (10 ≤ n → lastDigits k (n / 10) ≡ lastDigits j (n / 10)) → lastDigits (suc k) n ≡ lastDigits (suc j) n
+    go : Is (ltb n 10) → (10 ≤ n → lastDigits k (n / 10) ≡ lastDigits j (n / 10))
+        → lastDigits (suc k) n ≡ lastDigits (suc j) n
     go (isT e) f = let l = ltb-true n 10 e in last-one (suc k) n l ∙ sym (last-one (suc j) n l)
     go (isF e) f =
         let l = ltb-false n 10 e in
@@ -54,7 +55,8 @@ pub decimal-more : (n : ℕ) → 10 ≤ n → decimalOf n ≡ decimalOf (n / 10)
 unfolding decimalOf
 decimal-more zero h = absurd (omega arith)
 decimal-more (suc k) h =
-    last-more k (suc k) h ∙ ap (λ (s : List ℕ). s ++ (lastDigit (suc k) ∷ [])) (enough k (suc k / 10) (suc k / 10) (omega arith) (omega arith))
+    last-more k (suc k) h ∙ ap (λ (s : List ℕ). s ++ (lastDigit (suc k) ∷ [])) (enough k (suc k / 10) (suc k / 10)
+    (omega arith) (omega arith))
 
 pub length-one : (n : ℕ) → n < 10 → length (decimalOf n) ≡ 1
 length-one n h = ap length (decimal-one n h)
@@ -80,7 +82,8 @@ decimal-most (suc k) n h = go (is (ltb n 10)) (decimal-most k (n / 10) (let e = 
 
 -- no digit written yet; one more in front of those that are written
 pub digit-none : (n : ℕ) (l : List ℕ) → 0 < length l → decimalOf n ≡ decimalOf n ++ drop (suc (length l - 1)) l
-digit-none n l h = let e : suc (length l - 1) ≡ length l = omega arith in sym (rw (e, drop-length l) (append-nil (decimalOf n)))
+digit-none n l h = let e : suc (length l - 1) ≡ length l = omega arith in
+    sym (rw (e, drop-length l) (append-nil (decimalOf n)))
 
 front-set : (l : List ℕ) (i v : ℕ) → i < length l → drop i (set l i v) ≡ v ∷ drop (suc i) l
 front-set [] i v h = absurd (omega arith)
@@ -88,9 +91,15 @@ front-set (x ∷ l) zero v h = refl
 front-set (x ∷ l) (suc i) v h = front-set l i v (omega arith)
 
 module _ (n m i : ℕ) (l : List ℕ) (inside : i < length l) (written : decimalOf n ≡ decimalOf m ++ drop (suc i) l) where
-  pub digit-more : 10 ≤ m → (k : ℕ) → i ≡ suc k → decimalOf n ≡ decimalOf (m / 10) ++ drop (suc k) (set l i (lastDigit m))
+  pub digit-more : 10 ≤ m → (k : ℕ) → i ≡ suc k → decimalOf n ≡ decimalOf (m / 10)
+      ++ drop (suc k) (set l i (lastDigit m))
   digit-more h k e =
-      written ∙ rw (← e, decimal-more m h, append-assoc (decimalOf (m / 10)) (lastDigit m ∷ []) (drop (suc i) l), front-set l i (lastDigit m) inside)
+      written ∙ rw (
+        ← e,
+        decimal-more m h,
+        append-assoc (decimalOf (m / 10)) (lastDigit m ∷ []) (drop (suc i) l),
+        front-set l i (lastDigit m) inside,
+      )
 
   module _ (one : m < 10) where
     pub digit-first : (l₀ : List ℕ) → take i l ≡ take i l₀ → set l i (lastDigit m) ≡ take i l₀ ++ decimalOf n

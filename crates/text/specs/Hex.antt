@@ -41,7 +41,8 @@ bytesOf s = tab (length s / 2) (λ k. pairOf (getD s (2 * k) 0) (getD s (2 * k +
 abbrev pub isBad : ℕ → Bool
 isBad c = leb 16 (valueOf c)
 
--- what reading digits into a buffer answers: the first bad digit, an odd number of them, more bytes than room, or the bytes
+-- what reading digits into a buffer answers: the first bad digit, an odd number of them, more bytes than room, or the
+-- bytes
 unfoldable pub decodeOf : List ℕ → ℕ → Decoded
 decodeOf s room =
     pick (ltb (place isBad s) (length s)) (BadDigit (place isBad s))
@@ -58,7 +59,8 @@ pub length-hexOf : (s : List ℕ) → length (hexOf s) ≡ 2 * length s
 unfolding hexOf
 length-hexOf s = length-tab (2 * length s) (λ i. digitOf (halfOf (getD s (i / 2) 0) (i % 2)))
 
-pub hexOf-at : (s : List ℕ) (i : ℕ) → i < 2 * length s → getD (hexOf s) i 0 ≡ digitOf (halfOf (getD s (i / 2) 0) (i % 2))
+pub hexOf-at : (s : List ℕ) (i : ℕ) → i < 2 * length s
+    → getD (hexOf s) i 0 ≡ digitOf (halfOf (getD s (i / 2) 0) (i % 2))
 unfolding hexOf
 hexOf-at s i h = getD-tab (2 * length s) (λ i. digitOf (halfOf (getD s (i / 2) 0) (i % 2))) i 0 h
 
@@ -66,7 +68,8 @@ pub length-bytesOf : (s : List ℕ) → length (bytesOf s) ≡ length s / 2
 unfolding bytesOf
 length-bytesOf s = length-tab (length s / 2) (λ k. pairOf (getD s (2 * k) 0) (getD s (2 * k + 1) 0))
 
-pub bytesOf-at : (s : List ℕ) (k : ℕ) → k < length s / 2 → getD (bytesOf s) k 0 ≡ pairOf (getD s (2 * k) 0) (getD s (2 * k + 1) 0)
+pub bytesOf-at : (s : List ℕ) (k : ℕ) → k < length s / 2 → getD (bytesOf s) k 0 ≡ pairOf (getD s (2 * k) 0)
+    (getD s (2 * k + 1) 0)
 unfolding bytesOf
 bytesOf-at s k h = getD-tab (length s / 2) (λ k. pairOf (getD s (2 * k) 0) (getD s (2 * k + 1) 0)) k 0 h
 
@@ -84,6 +87,7 @@ module _ (s : List ℕ) (room : ℕ) where
   unfolding decodeOf pick
   decode-long h e l = rw (le-ltb _ _ h, ne-eqb _ _ e, lt-ltb _ _ l)
 
-  pub decode-bytes : length s ≤ place isBad s → (length s % 2 ≡ 1 → ⊥) → length s / 2 ≤ room → Bytes (length s / 2) ≡ decodeOf s room
+  pub decode-bytes : length s ≤ place isBad s → (length s % 2 ≡ 1 → ⊥) → length s / 2 ≤ room
+      → Bytes (length s / 2) ≡ decodeOf s room
   unfolding decodeOf pick
   decode-bytes h e l = rw (le-ltb _ _ h, ne-eqb _ _ e, le-ltb _ _ l)

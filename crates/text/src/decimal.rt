@@ -47,7 +47,8 @@ pub fn read(text: &[u8]) -> Decimal
 // Writes the digits of n to the end of `out`, and answers where they begin; what stands before them is kept.
 pub fn write(n: u64, out: &mut [u8]) -> usize
     requires { ⌜ 20 ≤ length (now out) ⌝ }
-    ensures { λ r. ⌜ (r + length (decimalOf n) ≡ length (now (out .entry))) × (now (out .exit) ≡ take r (now (out .entry)) ++ decimalOf n) ⌝ }
+    ensures { λ r. ⌜ (r + length (decimalOf n) ≡ length (now (out .entry)))
+        × (now (out .exit) ≡ take r (now (out .entry)) ++ decimalOf n) ⌝ }
 {
     let mut i = out.len() - 1;
     let mut rest = n;

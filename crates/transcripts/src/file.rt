@@ -134,7 +134,8 @@ fn replay_line(memory: &mut [u8], line: &[u8], said: &mut [u8], p: Progress) -> 
 // Every line that ends in the text.
 fn replay_all(memory: &mut [u8], text: &[u8], said: &mut [u8], before: Progress) -> Replayed
     requires { ⌜ (131072 ≤ length (now said)) × (before .counts .different ≤ before .counts .answers) ⌝ }
-    ensures { λ r. ⌜ (r .at ≤ length (now (text .entry))) × (r .progress .counts .different ≤ r .progress .counts .answers) ⌝ }
+    ensures { λ r. ⌜ (r .at ≤ length (now (text .entry)))
+        × (r .progress .counts .different ≤ r .progress .counts .answers) ⌝ }
 {
     let mut at = 0;
     let mut progress = before;
@@ -151,7 +152,8 @@ fn replay_all(memory: &mut [u8], text: &[u8], said: &mut [u8], before: Progress)
 
 // One read, and the lines that end in it.
 fn turn(fd: i32, memory: &mut [u8], text: &mut [u8], said: &mut [u8], r: Rest) -> Rest
-    requires { ⌜ (r .kept ≤ length (now text)) × (131072 ≤ length (now said)) × (r .progress .counts .different ≤ r .progress .counts .answers) ⌝ }
+    requires { ⌜ (r .kept ≤ length (now text)) × (131072 ≤ length (now said))
+        × (r .progress .counts .different ≤ r .progress .counts .answers) ⌝ }
     ensures { λ q. ⌜ (q .kept ≤ 131072) × (q .progress .counts .different ≤ q .progress .counts .answers) ⌝ }
 {
     let kept = r.kept;

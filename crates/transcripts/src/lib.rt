@@ -1,4 +1,5 @@
-// Lists of events written as lines, each with a letter: what a line does to a guard, and the line of its answer. tests/model/transcripts.py
+// Lists of events written as lines, each with a letter: what a line does to a guard, and the line of its answer.
+// tests/model/transcripts.py
 // writes such lists.
 //
 //     f NAME              a fresh guard, and buffers of 9,690 and 1,037 bytes; a list of this name begins

@@ -1,3 +1,4 @@
 pub mod CutLaws
+pub mod JudgedLaws
 pub mod RepliedLaws
 pub mod TruncateLaws

@@ -1,4 +1,5 @@
-// Runs NIST's response files for SHA-256 and counts the cases whose digest is the published one. Any other digest is printed; whatever
+// Runs NIST's response files for SHA-256 and counts the cases whose digest is the published one. Any other digest is
+// printed; whatever
 // else is damaged changes the digest, or the count. A file of damaged cases comes first.
 use libc::STDOUT_FILENO;
 use std::num::wrapping_add_usize;

@@ -1,5 +1,6 @@
 pub mod FetchLaws
-pub mod StoreLaws
+pub mod JudgedLaws
 pub mod PageLaws
 pub mod RepliedLaws
+pub mod StoreLaws
 pub mod WriteLaws

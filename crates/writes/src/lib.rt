@@ -1,30 +1,56 @@
-// A write by handle: begun, its pages fetched where a byte of them stays, made, stored in rising order; done when the last status came.
+// A write by handle: begun, its pages fetched where a byte of them stays, made, stored in rising order; done when the
+// last status came.
 ghost use mathlib.Core.Path.{_≡_};
-ghost use mathlib.Core.List.{List};
-ghost use Prim.Native.Nat.{ℕ, _+_, _*_, _<_, _≤_};
-ghost use lib.ListN.{length};
-ghost use Rattle.digest.specs.Sha256.{sha256};
-ghost use Rattle.filesystem.specs.Tables.{PAGE-BYTES, DATA-BYTES, ID-BYTES};
+ghost use Prim.Native.Nat.{ℕ, _<_, _≤_, _+_, _*_, _/_};
+ghost use Rattle.filesystem.specs.Tables.{NODES, PAGE-BYTES, DATA-BYTES};
 ghost use Rattle.memory.specs.Layout.{openRows, newDigests};
 ghost use Rattle.rules.specs.Calls.{write};
-ghost use Rattle.rules.specs.Pages.{writing, fetches};
-ghost use Rattle.rules.specs.Skeleton.{Config};
-ghost use Rattle.rules.specs.Rules.{callAction};
-ghost use Rattle.machine.specs.Machine.{askStore, onPage, pagesFrom, finishChange, apply, guard as digestStore};
-ghost use Rattle.machine.specs.Consistent.{Consistent};
-ghost use Rattle.handle_calls.specs.Passed.{PassedAt};
-ghost use Rattle.guard_state.specs.State.{stateOf, filePages, numbersIn};
-ghost use Rattle.outcomes.specs.Sent.{Sends};
-ghost use Rattle.outcomes.specs.Started.{startedBy};
-ghost use Rattle.outcomes.specs.Answered.{answered};
-ghost use Rattle.changes.specs.Sending.{Sending};
-ghost use Rattle.writes.specs.Writing.{Writing, writeIn};
 ghost use Rattle.memory.specs.Memories.{IsMemory};
+ghost use lib.ListN.{length};
+ghost use Rattle.rules.specs.Skeleton.{Config};
+ghost use Rattle.guard_state.specs.State.{stateOf, numbersIn, filePages};
+ghost use Rattle.outcomes.specs.Sent.{Sends};
+ghost use Rattle.outcomes.specs.Contracts.{AcceptsAsking, Begins};
 ghost use Rattle.numbers.specs.Slices.{KeepsLength};
 ghost use Rattle.requests.specs.Room.{HoldsRequest};
+ghost use mathlib.Core.Bool.{true};
+ghost use Rattle.handle_calls.specs.Judged.{Judgement};
+ghost use Rattle.handle_calls.specs.declared.Handled.the-variants.{Open};
+ghost use mathlib.Core.List.{List};
+ghost use Rattle.rules.specs.Pages.{writing, fetches};
+ghost use Rattle.machine.specs.Machine.{guard as digestStore, askStore, onPage, pagesFrom, finishChange};
+ghost use Rattle.page_changes.specs.Sending.{Sending};
+ghost use Rattle.page_changes.specs.Contracts.{Goes, StartsAt};
+ghost use Rattle.writes.specs.Writing.{Writing, writeIn};
+ghost use Rattle.guard_state.specs.Calls.{FETCHING, STORING};
 use guard_state::Guard;
 
 const FILE_PAGES: usize = Guard::FILE_BYTES / Guard::PAGE_BYTES;
+
+// write: 9 without right 2, 27, 28.
+fn judge_write(m: &[u8], n: usize, o: usize, handle: u64, bytes: &[u8]) -> handle_calls::Handled
+    requires { ⌜ (n ≤ NODES) × (o ≤ openRows) × IsMemory m ⌝ }
+    ensures { λ r. ⌜ Judgement (now (m .entry)) n o handle (write handle (now (bytes .entry))) r ⌝ }
+{
+    let k = tables::find_handle(m, o, handle);
+    if handle_calls::lacks_right(m, o, k, 2) {
+        return handle_calls::Handled::Refused(9);
+    }
+    // before the sum, which has to fit
+    if Guard::FILE_BYTES < bytes.len() {
+        return handle_calls::Handled::Refused(27);
+    }
+    let end = memory::open_cursor(m, k) as usize + bytes.len();
+    if Guard::FILE_BYTES < end {
+        return handle_calls::Handled::Refused(27);
+    }
+    let node = handle_calls::file_place(m, n, k, handle);
+    let size = numbers::larger(handle_calls::size_at(m, n, node), end as u32);
+    if handle_calls::is_full(m, n, node, size) {
+        return handle_calls::Handled::Refused(28);
+    }
+    handle_calls::Handled::Open { opened: k, node }
+}
 
 // Whether a byte of the page below the old end is not overwritten, so that the page is fetched first.
 fn is_fetched(position: usize, end: usize, size: usize, page: usize) -> bool
@@ -43,9 +69,10 @@ fn is_fetched(position: usize, end: usize, size: usize, page: usize) -> bool
 
 // A page of the pending write goes out, made from the one that was fetched or from none.
 fn store_page(m: &mut [u8], page: usize, fetched: &[u8], request: &mut [u8]) -> outcomes::Outcome
-    requires { ⌜ Writing (numbersIn m .call) × (numbersIn m .digests < newDigests) × (page ≤ filePages) × (length (now fetched) ≤ PAGE-BYTES) × IsMemory m × HoldsRequest request ⌝ }
-    ensures { λ r. ⌜ ((c : Config) → c .digest ≡ sha256 → Sending c (now (m .entry)) (writeIn (now (m .entry))) page → Sends c (askStore c (digestStore c) (stateOf c (now (m .entry))) (numbersIn (m .entry) .node) (numbersIn (m .entry) .opened) (writeIn (now (m .entry))) page (now (fetched .entry))) r (now (m .exit)) (now (request .entry)) (now (request .exit))) ⌝ }
-    ensures { λ _. ⌜ KeepsLength m ⌝ }
+    requires { ⌜ Writing (numbersIn m .call) × (numbersIn m .digests < newDigests) × (page ≤ filePages)
+        × (length (now fetched) ≤ PAGE-BYTES) × IsMemory m × HoldsRequest request ⌝ }
+    ensures { λ r. ⌜ Goes m request writeIn page (λ c s k o q. askStore c (digestStore c) s k o q page
+        (now (fetched .entry))) r ⌝ }
 {
     let g = Guard::load(m);
     let end = g.position + g.bytes;
@@ -54,19 +81,22 @@ fn store_page(m: &mut [u8], page: usize, fetched: &[u8], request: &mut [u8]) -> 
     let d = memory::open_descriptor(m, g.opened);
     let bytes = memory::staged(m, 0, g.bytes);
     let l = requests::write_store(request, d, page, size, fetched, g.position, bytes);
-    changes::send_store(m, guard_state::calls::STORING, page, request)
+    page_changes::send_store(m, guard_state::calls::STORING, page, request)
 }
 
 // The pending write is done: the file's size, its digests and the cursor.
 fn end_write(m: &mut [u8]) -> outcomes::Outcome
     requires { ⌜ Writing (numbersIn m .call) × IsMemory m ⌝ }
-    ensures { λ r. ⌜ ((c : Config) (i : ℕ) → Sending c (now (m .entry)) (writeIn (now (m .entry))) i → numbersIn (m .entry) .position + numbersIn (m .entry) .bytes ≤ i * PAGE-BYTES → (b : List ℕ) → Sends c (finishChange c (digestStore c) (stateOf c (now (m .entry))) (numbersIn (m .entry) .node) (numbersIn (m .entry) .opened) (writeIn (now (m .entry)))) r (now (m .exit)) b b) ⌝ }
+    ensures { λ r. ⌜ ((c : Config) (i : ℕ) → Sending c (now (m .entry)) (writeIn (now (m .entry))) i
+        → numbersIn (m .entry) .position + numbersIn (m .entry) .bytes ≤ i * PAGE-BYTES → (b : List ℕ)
+        → Sends c (finishChange c (digestStore c) (stateOf c (now (m .entry))) (numbersIn (m .entry) .node)
+        (numbersIn (m .entry) .opened) (writeIn (now (m .entry)))) r (now (m .exit)) b b) ⌝ }
     ensures { λ _. ⌜ KeepsLength m ⌝ }
 {
     let g = Guard::load(m);
     let end = (g.position + g.bytes) as u32;
     let size = numbers::larger(memory::node_size(m, g.node), end);
-    changes::end_change(
+    page_changes::end_change(
         m,
         g.node,
         g.opened,
@@ -80,15 +110,15 @@ fn end_write(m: &mut [u8]) -> outcomes::Outcome
 
 // A page of the pending write: it is fetched, or goes out at once.
 fn on_page(m: &mut [u8], page: usize, request: &mut [u8]) -> outcomes::Outcome
-    requires { ⌜ Writing (numbersIn m .call) × (numbersIn m .digests < newDigests) × (page ≤ filePages) × IsMemory m × HoldsRequest request ⌝ }
-    ensures { λ r. ⌜ ((c : Config) → c .digest ≡ sha256 → Sending c (now (m .entry)) (writeIn (now (m .entry))) page → Sends c (onPage c (digestStore c) (stateOf c (now (m .entry))) (numbersIn (m .entry) .node) (numbersIn (m .entry) .opened) (writeIn (now (m .entry))) page) r (now (m .exit)) (now (request .entry)) (now (request .exit))) ⌝ }
-    ensures { λ _. ⌜ KeepsLength m ⌝ }
+    requires { ⌜ Writing (numbersIn m .call) × (numbersIn m .digests < newDigests) × (page ≤ filePages) × IsMemory m
+        × HoldsRequest request ⌝ }
+    ensures { λ r. ⌜ Goes m request writeIn page (λ c s k o q. onPage c (digestStore c) s k o q page) r ⌝ }
 {
     let g = Guard::load(m);
     let end = g.position + g.bytes;
     let size = memory::node_size(m, g.node) as usize;
     if is_fetched(g.position, end, size, page) {
-        return changes::ask_page(m, guard_state::calls::FETCHING, page, request);
+        return page_changes::ask_page(m, guard_state::calls::FETCHING, page, request);
     }
     store_page(m, page, b"", request)
 }
@@ -96,8 +126,7 @@ fn on_page(m: &mut [u8], page: usize, request: &mut [u8]) -> outcomes::Outcome
 // The pending write goes on with this page, or is done. No consistent write has more digests than there is room for.
 fn carry_on(m: &mut [u8], page: usize, request: &mut [u8]) -> outcomes::Outcome
     requires { ⌜ Writing (numbersIn m .call) × (page ≤ filePages) × IsMemory m × HoldsRequest request ⌝ }
-    ensures { λ r. ⌜ ((c : Config) → c .digest ≡ sha256 → Sending c (now (m .entry)) (writeIn (now (m .entry))) page → Sends c (pagesFrom c (digestStore c) (stateOf c (now (m .entry))) (numbersIn (m .entry) .node) (numbersIn (m .entry) .opened) (writeIn (now (m .entry))) page) r (now (m .exit)) (now (request .entry)) (now (request .exit))) ⌝ }
-    ensures { λ _. ⌜ KeepsLength m ⌝ }
+    ensures { λ r. ⌜ Goes m request writeIn page (λ c s k o q. pagesFrom c (digestStore c) s k o q page) r ⌝ }
 {
     let g = Guard::load(m);
     if g.position + g.bytes <= page * Guard::PAGE_BYTES {
@@ -118,8 +147,7 @@ fn write_at(
     request: &mut [u8],
 ) -> outcomes::Outcome
     requires { ⌜ (opened < openRows) × (length (now bytes) ≤ DATA-BYTES) × IsMemory m × HoldsRequest request ⌝ }
-    ensures { λ r. ⌜ ((c : Config) → c .digest ≡ sha256 → Consistent c (stateOf c (now (m .entry))) → (handle : ℕ) → PassedAt (stateOf c (now (m .entry)) .skeleton .tables) handle (write handle (now (bytes .entry))) opened node → Sends c (apply c (digestStore c) (stateOf c (now (m .entry))) (callAction (stateOf c (now (m .entry)) .skeleton .tables) (c .width) (write handle (now (bytes .entry))))) r (now (m .exit)) (now (request .entry)) (now (request .exit))) ⌝ }
-    ensures { λ _. ⌜ KeepsLength m ⌝ }
+    ensures { λ r. ⌜ StartsAt m request (λ handle. write handle (now (bytes .entry))) opened node r ⌝ }
 {
     if bytes.len() == 0 {
         guard_state::finish(m);
@@ -143,11 +171,10 @@ fn write_at(
 // write: these bytes at the cursor of the open file with this handle.
 pub fn begin_write(m: &mut [u8], handle: u64, bytes: &[u8], request: &mut [u8]) -> outcomes::Outcome
     requires { ⌜ (length (now bytes) ≤ DATA-BYTES) × IsMemory m × HoldsRequest request ⌝ }
-    ensures { λ r. ⌜ ((c : Config) → c .digest ≡ sha256 → Consistent c (stateOf c (now (m .entry))) → Sends c (startedBy c (stateOf c (now (m .entry))) (write handle (now (bytes .entry)))) r (now (m .exit)) (now (request .entry)) (now (request .exit))) ⌝ }
-    ensures { λ _. ⌜ KeepsLength m ⌝ }
+    ensures { λ r. ⌜ Begins m request (write handle (now (bytes .entry))) r ⌝ }
 {
     let g = Guard::load(m);
-    let j = handle_calls::judge_write(m, g.nodes, g.opens, handle, bytes);
+    let j = judge_write(m, g.nodes, g.opens, handle, bytes);
     match j {
         handle_calls::Handled::Open { opened, node } => write_at(m, opened, node, bytes, request),
         handle_calls::Handled::Refused(b) => outcomes::Outcome::Refused(b),
@@ -158,9 +185,8 @@ pub fn begin_write(m: &mut [u8], handle: u64, bytes: &[u8], request: &mut [u8]) 
 
 // The page that the write fetched came.
 pub fn accept_fetched(m: &mut [u8], reply: &[u8], request: &mut [u8]) -> outcomes::Outcome
-    requires { ⌜ (numbersIn m .call ≡ 9) × IsMemory m × HoldsRequest request ⌝ }
-    ensures { λ r. ⌜ ((c : Config) → c .digest ≡ sha256 → Consistent c (stateOf c (now (m .entry))) → Sends c (answered c (stateOf c (now (m .entry))) (now (reply .entry))) r (now (m .exit)) (now (request .entry)) (now (request .exit))) ⌝ }
-    ensures { λ _. ⌜ KeepsLength m ⌝ }
+    requires { ⌜ (numbersIn m .call ≡ FETCHING) × IsMemory m × HoldsRequest request ⌝ }
+    ensures { λ r. ⌜ AcceptsAsking m reply request r ⌝ }
 {
     let g = Guard::load(m);
     let b = replies::judge_page(m, g.nodes, g.node, g.page, reply);
@@ -175,9 +201,8 @@ pub fn accept_fetched(m: &mut [u8], reply: &[u8], request: &mut [u8]) -> outcome
 
 // The page that the write stored is taken: 1,024 bytes of it.
 pub fn accept_stored(m: &mut [u8], reply: &[u8], request: &mut [u8]) -> outcomes::Outcome
-    requires { ⌜ (numbersIn m .call ≡ 10) × IsMemory m × HoldsRequest request ⌝ }
-    ensures { λ r. ⌜ ((c : Config) → c .digest ≡ sha256 → c .width ≡ ID-BYTES → Consistent c (stateOf c (now (m .entry))) → Sends c (answered c (stateOf c (now (m .entry))) (now (reply .entry))) r (now (m .exit)) (now (request .entry)) (now (request .exit))) ⌝ }
-    ensures { λ _. ⌜ KeepsLength m ⌝ }
+    requires { ⌜ (numbersIn m .call ≡ STORING) × IsMemory m × HoldsRequest request ⌝ }
+    ensures { λ r. ⌜ AcceptsAsking m reply request r ⌝ }
 {
     let b = replies::judge_status(reply, Guard::PAGE_BYTES as i32);
     if b != 0 {

@@ -23,8 +23,12 @@ loop-holds c = (omega arith, refl, refl)
 loop-again : tie.Need-loop-again Inv-loop μ-loop
 loop-again c =
     let l = c .before .before .loop in
-    let a = c .before .before .before .args in
-    (omega arith, simp length-set (l .inv .1), read-next 0 (l .b) (a .m .now) (a .at) (l .i) (omega arith) (omega arith) (l .inv .2))
+    let a = c .before .before .before .args in (
+      omega arith,
+      simp length-set (l .inv .1),
+      read-next 0 (l .b) (a .m .now) (a .at) (l .i) (omega arith) (omega arith)
+          (l .inv .2),
+    )
 
 returns : tie.Need-returns Inv-loop μ-loop
 returns c =
@@ -35,5 +39,6 @@ returns c =
 
 pub block-at-spec : {M : Type 1} → statement M
 block-at-spec =
-    tie.close (tie.spec Inv-loop μ-loop loop-holds (λ c. search needs) (λ c. search needs) (λ c. search needs) (λ c. search needs) (λ c. search needs) loop-again
+    tie.close (tie.spec Inv-loop μ-loop loop-holds (λ c. search needs) (λ c. search needs) (λ c. search needs)
+    (λ c. search needs) (λ c. search needs) loop-again
     returns)

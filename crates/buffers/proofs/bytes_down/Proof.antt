@@ -22,8 +22,12 @@ loop-holds c = (omega arith, refl, sym (move-none 0 (c .args .m .now) (c .args .
 loop-again : tie.Need-loop-again Inv-loop μ-loop
 loop-again c =
     let l = c .before .before .loop in
-    let a = c .before .before .before .args in
-    (omega arith, simp length-set (l .inv .1), rw (l .inv .2) (move-down 0 (a .m .now) (a .to) (a .from) (l .i) (omega arith) (omega arith)))
+    let a = c .before .before .before .args in (
+      omega arith,
+      simp length-set (l .inv .1),
+      rw (l .inv .2) (move-down 0 (a .m .now) (a .to) (a .from) (l .i)
+          (omega arith) (omega arith)),
+    )
 
 returns : tie.Need-returns Inv-loop μ-loop
 returns c =
@@ -34,5 +38,6 @@ returns c =
 
 pub bytes-down-spec : {M : Type 1} → statement M
 bytes-down-spec =
-    tie.close (tie.spec Inv-loop μ-loop loop-holds (λ c. search needs) (λ c. search needs) (λ c. search needs) (λ c. search needs) (λ c. search needs)
+    tie.close (tie.spec Inv-loop μ-loop loop-holds (λ c. search needs) (λ c. search needs) (λ c. search needs)
+    (λ c. search needs) (λ c. search needs)
     (λ c. search needs) loop-again (λ c. search needs) returns)

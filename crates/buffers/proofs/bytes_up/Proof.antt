@@ -12,13 +12,19 @@ use Rattle.buffers.proofs.bytes_up.Statement.{statement}
 use Rattle.buffers.proofs.bytes_up.Tie as tie
 
 abbrev Inv-loop : tie.InvT-loop
-Inv-loop m₀ from to n i₀ m i = (i ≤ n) × (length m ≡ length m₀) × (m ≡ overwrite m₀ (to + i) (part (from + i) (n - i) m₀))
+Inv-loop m₀ from to n i₀ m i = (i ≤ n) × (length m ≡ length m₀)
+    × (m ≡ overwrite m₀ (to + i) (part (from + i) (n - i) m₀))
 
 abbrev μ-loop : tie.MeasureT-loop
 μ-loop m₀ from to n i₀ m i = i
 
 loop-holds : tie.Need-loop-holds Inv-loop μ-loop
-loop-holds c = (omega arith, refl, rw (sub-self (c .args .n)) (sym (move-none 0 (c .args .m .now) (c .args .to + c .args .n) (c .args .from + c .args .n))))
+loop-holds c = (
+  omega arith,
+  refl,
+  rw (sub-self (c .args .n))
+      (sym (move-none 0 (c .args .m .now) (c .args .to + c .args .n) (c .args .from + c .args .n))),
+)
 
 loop-again : tie.Need-loop-again Inv-loop μ-loop
 loop-again c =
@@ -26,7 +32,8 @@ loop-again c =
     let a = c .before .before .before .args in (
       omega arith,
       simp length-set (l .inv .1),
-      rw (l .inv .2) (move-up 0 (a .m .now) (a .to) (a .from) (a .n) (l .i) (omega arith) (omega arith) (omega arith) (omega arith)),
+      rw (l .inv .2) (move-up 0 (a .m .now) (a .to) (a .from) (a .n) (l .i) (omega arith) (omega arith) (omega arith)
+          (omega arith)),
     )
 
 returns : tie.Need-returns Inv-loop μ-loop
@@ -41,5 +48,6 @@ returns c =
 
 pub bytes-up-spec : {M : Type 1} → statement M
 bytes-up-spec =
-    tie.close (tie.spec Inv-loop μ-loop loop-holds (λ c. search needs) (λ c. search needs) (λ c. search needs) (λ c. search needs) (λ c. search needs)
+    tie.close (tie.spec Inv-loop μ-loop loop-holds (λ c. search needs) (λ c. search needs) (λ c. search needs)
+    (λ c. search needs) (λ c. search needs)
     (λ c. search needs) loop-again (λ c. search needs) returns)

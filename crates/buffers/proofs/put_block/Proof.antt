@@ -25,7 +25,8 @@ loop-again c =
     let a = c .before .before .args in (
       omega arith,
       simp length-set (l .inv .1),
-      rw (l .inv .2) (overwrite-more 0 (a .m .now) (a .at) (a .t3) (l .i) (a .at + l .i) refl (omega arith) (omega arith)),
+      rw (l .inv .2) (overwrite-more 0 (a .m .now) (a .at) (a .t3) (l .i) (a .at + l .i) refl (omega arith)
+          (omega arith)),
     )
 
 returns : tie.Need-returns Inv-loop μ-loop
@@ -37,5 +38,6 @@ returns c =
 
 pub put-block-spec : {M : Type 1} → statement M
 put-block-spec =
-    tie.close (tie.spec Inv-loop μ-loop loop-holds (λ c. search needs) (λ c. search needs) (λ c. search needs) (λ c. search needs) (λ c. search needs) loop-again
+    tie.close (tie.spec Inv-loop μ-loop loop-holds (λ c. search needs) (λ c. search needs) (λ c. search needs)
+    (λ c. search needs) (λ c. search needs) loop-again
     (λ c. search needs) returns)

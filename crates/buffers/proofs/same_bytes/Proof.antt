@@ -35,8 +35,10 @@ returns-2 : tie.Need-returns-2 Inv-loop μ-loop
 returns-2 c =
     let a = c .before .before .args in
     let l = c .before .loop in
-    sym (equal-yes (a .a .now) (a .b .now) (alike-all (a .a .now) (a .b .now) (l .i) (omega arith) (omega arith) (l .inv .1)))
+    sym (equal-yes (a .a .now) (a .b .now) (alike-all (a .a .now) (a .b .now) (l .i) (omega arith) (omega arith)
+    (l .inv .1)))
 
 pub same-bytes-spec : {M : Type 1} → statement M
 same-bytes-spec =
-    tie.close (tie.spec Inv-loop μ-loop loop-holds (λ c. search needs) (λ c. search needs) returns (λ c. search needs) (λ c. search needs) loop-again returns-2)
+    tie.close (tie.spec Inv-loop μ-loop loop-holds (λ c. search needs) (λ c. search needs) returns (λ c. search needs)
+    (λ c. search needs) loop-again returns-2)

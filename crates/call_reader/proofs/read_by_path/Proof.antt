@@ -28,32 +28,42 @@ read-plain-requires-4 c κs = search needs
 returns : tie.Need-returns
 unfolding readFields madeBy pick
 returns c =
-    let a = c .before .before .before .args in
-    (of-kind ID-BYTES 9 (a .kind) (drop 1 (a .s .now)) _ (omega arith) (c .read-plain .ensures .0), c .read-plain .ensures .1)
+    let a = c .before .before .before .args in (
+      of-kind ID-BYTES 9 (a .kind) (drop 1 (a .s .now)) _ (omega arith) (c .read-plain .ensures .0),
+      c .read-plain .ensures .1,
+    )
 
 returns-2 : tie.Need-returns-2
 unfolding readFields madeBy pick
 returns-2 c =
-    let a = c .before .before .before .args in
-    (of-kind ID-BYTES 10 (a .kind) (drop 1 (a .s .now)) _ (omega arith) (c .read-plain2 .ensures .0), c .read-plain2 .ensures .1)
+    let a = c .before .before .before .args in (
+      of-kind ID-BYTES 10 (a .kind) (drop 1 (a .s .now)) _ (omega arith) (c .read-plain2 .ensures .0),
+      c .read-plain2 .ensures .1,
+    )
 
 returns-3 : tie.Need-returns-3
 unfolding readFields madeBy pick
 returns-3 c =
-    let a = c .before .before .before .args in
-    (of-kind ID-BYTES 11 (a .kind) (drop 1 (a .s .now)) _ (omega arith) (c .read-numbered .ensures .0), c .read-numbered .ensures .1)
+    let a = c .before .before .before .args in (
+      of-kind ID-BYTES 11 (a .kind) (drop 1 (a .s .now)) _ (omega arith) (c .read-numbered .ensures .0),
+      c .read-numbered .ensures .1,
+    )
 
 returns-4 : tie.Need-returns-4
 unfolding readFields madeBy pick
 returns-4 c =
-    let a = c .before .before .before .args in
-    (of-kind ID-BYTES 12 (a .kind) (drop 1 (a .s .now)) _ (omega arith) (c .read-plain3 .ensures .0), c .read-plain3 .ensures .1)
+    let a = c .before .before .before .args in (
+      of-kind ID-BYTES 12 (a .kind) (drop 1 (a .s .now)) _ (omega arith) (c .read-plain3 .ensures .0),
+      c .read-plain3 .ensures .1,
+    )
 
 returns-5 : tie.Need-returns-5
 unfolding readFields madeBy pick
 returns-5 c =
-    let a = c .before .before .before .args in
-    (of-kind ID-BYTES 13 (a .kind) (drop 1 (a .s .now)) _ (omega arith) (c .read-plain4 .ensures .0), c .read-plain4 .ensures .1)
+    let a = c .before .before .before .args in (
+      of-kind ID-BYTES 13 (a .kind) (drop 1 (a .s .now)) _ (omega arith) (c .read-plain4 .ensures .0),
+      c .read-plain4 .ensures .1,
+    )
 
 pub read-by-path-spec : {M : Type 1} → statement M
 read-by-path-spec =

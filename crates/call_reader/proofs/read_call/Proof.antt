@@ -21,23 +21,38 @@ read-opening-requires : tie.Need-read-opening-requires
 read-opening-requires c κs = search needs
 
 read-by-handle-requires : tie.Need-read-by-handle-requires
-read-by-handle-requires c κs =
-    (omega arith, bytes-of (c .before .before .before .before .before .before .args .s .now) (λ k. omega (arith, c .before .before .before .shared-slice-known2 .given k)), omega arith, omega arith)
+read-by-handle-requires c κs = (
+  omega arith,
+  bytes-of (c .before .before .before .before .before .before .args .s .now)
+      (λ k. omega (arith, c .before .before .before .shared-slice-known2 .given k)),
+  omega arith,
+  omega arith,
+)
 
 read-by-path-requires : tie.Need-read-by-path-requires
 read-by-path-requires c κs = search needs
 
 returns-2 : tie.Need-returns-2
-returns-2 c =
-    (c .read-opening .ensures .0 ∙ kind-read ID-BYTES (c .before .before .before .before .before .before .args .s .now) (omega arith), c .read-opening .ensures .1)
+returns-2 c = (
+  c .read-opening .ensures .0 ∙ kind-read ID-BYTES (c .before .before .before .before .before .before .args .s .now)
+      (omega arith),
+  c .read-opening .ensures .1,
+)
 
 returns-3 : tie.Need-returns-3
-returns-3 c =
-    (c .read-by-handle .ensures .0 ∙ kind-read ID-BYTES (c .before .before .before .before .before .before .before .args .s .now) (omega arith), c .read-by-handle .ensures .1)
+returns-3 c = (
+  c .read-by-handle .ensures .0
+      ∙ kind-read ID-BYTES (c .before .before .before .before .before .before .before .args .s .now) (omega arith),
+  c .read-by-handle .ensures .1,
+)
 
 returns-4 : tie.Need-returns-4
-returns-4 c =
-    (c .read-by-path .ensures .0 ∙ kind-read ID-BYTES (c .before .before .before .before .before .before .before .before .args .s .now) (omega arith), c .read-by-path .ensures .1)
+returns-4 c = (
+  c .read-by-path .ensures .0
+      ∙ kind-read ID-BYTES (c .before .before .before .before .before .before .before .before .args .s .now)
+      (omega arith),
+  c .read-by-path .ensures .1,
+)
 
 returns-5 : tie.Need-returns-5
 unfolding meant

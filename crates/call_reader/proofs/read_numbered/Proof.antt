@@ -24,14 +24,24 @@ returns-2 c =
 returns-3 : tie.Need-returns-3
 unfolding meant
 returns-3 c =
-    let a = c .before .before .before .before .args in
-    (number-high (a .least) (a .most) (madeBy (a .kind)) (a .s .now) (omega arith) (c .before .if2 .left) (c .if3 .taken), tt)
+    let a = c .before .before .before .before .args in (
+      number-high (a .least) (a .most) (madeBy (a .kind)) (a .s .now) (omega arith) (c .before .if2 .left)
+          (c .if3 .taken),
+      tt,
+    )
 
 returns-4 : tie.Need-returns-4
 unfolding meant
 returns-4 c =
-    let a = c .before .before .before .before .args in
-    (number-within (a .least) (a .most) (madeBy (a .kind)) (a .s .now) (omega arith) (c .before .if2 .left) (c .if3 .left), (omega arith, c .before .before .before .before .pre .1 _ (c .before .if2 .left) (c .if3 .left)))
+    let a = c .before .before .before .before .args in (
+      number-within (a .least) (a .most) (madeBy (a .kind)) (a .s .now) (omega arith) (c .before .if2 .left)
+          (c .if3 .left),
+      (
+        omega arith,
+        c .before .before .before .before .pre .1 _ (c .before .if2 .left)
+            (c .if3 .left),
+      ),
+    )
 
 pub read-numbered-spec : {M : Type 1} → statement M
 read-numbered-spec =

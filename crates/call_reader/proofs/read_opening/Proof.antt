@@ -22,20 +22,26 @@ read-numbered-requires-3 c κs = search needs
 returns : tie.Need-returns
 unfolding readFields madeBy pick
 returns c =
-    let a = c .before .before .before .args in
-    (of-kind ID-BYTES 1 (a .kind) (drop 1 (a .s .now)) _ (omega arith) (c .read-numbered .ensures .0), c .read-numbered .ensures .1)
+    let a = c .before .before .before .args in (
+      of-kind ID-BYTES 1 (a .kind) (drop 1 (a .s .now)) _ (omega arith) (c .read-numbered .ensures .0),
+      c .read-numbered .ensures .1,
+    )
 
 returns-2 : tie.Need-returns-2
 unfolding readFields madeBy pick
 returns-2 c =
-    let a = c .before .before .before .args in
-    (of-kind ID-BYTES 2 (a .kind) (drop 1 (a .s .now)) _ (omega arith) (c .read-numbered2 .ensures .0), c .read-numbered2 .ensures .1)
+    let a = c .before .before .before .args in (
+      of-kind ID-BYTES 2 (a .kind) (drop 1 (a .s .now)) _ (omega arith) (c .read-numbered2 .ensures .0),
+      c .read-numbered2 .ensures .1,
+    )
 
 returns-3 : tie.Need-returns-3
 unfolding readFields madeBy pick
 returns-3 c =
-    let a = c .before .before .before .args in
-    (of-kind ID-BYTES 3 (a .kind) (drop 1 (a .s .now)) _ (omega arith) (c .read-numbered3 .ensures .0), c .read-numbered3 .ensures .1)
+    let a = c .before .before .before .args in (
+      of-kind ID-BYTES 3 (a .kind) (drop 1 (a .s .now)) _ (omega arith) (c .read-numbered3 .ensures .0),
+      c .read-numbered3 .ensures .1,
+    )
 
 pub read-opening-spec : {M : Type 1} → statement M
 read-opening-spec =

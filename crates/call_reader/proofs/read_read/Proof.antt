@@ -34,7 +34,9 @@ unfolding meant
 returns-2 c =
     let a = c .before .before .before .before .before .args in
     let p = c .before .before .before .before .before .pre in (
-      pair-refused ID-BYTES (a .s .now) (p .0) 4 (λ n. leb n DATA-BYTES) read _ _ (c .before .before .number-at .ensures) (c .before .u32-at .ensures) (c .before .before .before .if1 .left) (lt-leb (c .before .u32-at .result) DATA-BYTES (omega arith)),
+      pair-refused ID-BYTES (a .s .now) (p .0) 4 (λ n. leb n DATA-BYTES) read _ _
+          (c .before .before .number-at .ensures) (c .before .u32-at .ensures) (c .before .before .before .if1 .left)
+          (lt-leb (c .before .u32-at .result) DATA-BYTES (omega arith)),
       tt,
     )
 
@@ -43,7 +45,9 @@ unfolding meant
 returns-3 c =
     let a = c .before .before .before .before .before .args in
     let p = c .before .before .before .before .before .pre in (
-      pair-allowed ID-BYTES (a .s .now) (p .0) 4 (λ n. leb n DATA-BYTES) read _ _ (c .before .before .number-at .ensures) (c .before .u32-at .ensures) (c .before .before .before .if1 .left) (le-leb (c .before .u32-at .result) DATA-BYTES (omega arith)),
+      pair-allowed ID-BYTES (a .s .now) (p .0) 4 (λ n. leb n DATA-BYTES) read _ _
+          (c .before .before .number-at .ensures) (c .before .u32-at .ensures) (c .before .before .before .if1 .left)
+          (le-leb (c .before .u32-at .result) DATA-BYTES (omega arith)),
       (number-below ID-BYTES 1 (a .s .now) _ (p .1) (omega arith) (c .before .before .number-at .ensures), omega arith),
     )
 

@@ -21,7 +21,8 @@ use Rattle.lists.specs.FormLaws.{whole-was-written}
 use Rattle.lists.specs.Formats.{num, then}
 use Rattle.filesystem.specs.Tables.{DATA-BYTES}
 use Rattle.filesystem.specs.Paths.{Path}
-use Rattle.rules.specs.Calls.{Call, byPath, byNumberAndPath, byHandle, byHandleAndNumber, byHandleAndBytes, readFields, readCall}
+use Rattle.rules.specs.Calls.{Call, byPath, byNumberAndPath, byHandle, byHandleAndNumber, byHandleAndBytes, readFields}
+use Rattle.rules.specs.Calls.{readCall}
 
 -- a number of w bytes from `at` on, and what is after it
 module _ (w at : ℕ) (s : List ℕ) where
@@ -43,23 +44,30 @@ unfolding ended
 ended-all F a [] h = refl
 ended-all F a (x ∷ r) h = absurd (omega arith)
 
-module _ {A : Type 0} (F : Form A) (n : ℕ) (width : (a : A) → length (F .put a) ≡ n) (s : List ℕ) (bytes : Bytes s) where
-  whole-none : 0 < length s → (length s ≡ 1 + n → ⊥) → whole F (drop 1 s) ≡ none
-  whole-none h wrong = go (whole F (drop 1 s)) refl
-    where
-      go : (o : Option A) → whole F (drop 1 s) ≡ o → whole F (drop 1 s) ≡ none
-      go none e = e
-      go (some a) e =
-          let q : length (drop 1 s) ≡ n = ap length (whole-was-written F (drop 1 s) a (all-drop 1 bytes) e .1) ∙ width a in
-          absurd (wrong (omega (arith, length-drop 1 s)))
+module _ {A : Type 0} (F : Form A) (n : ℕ) (width : (a : A) → length (F .put a) ≡ n) (s : List ℕ) (bytes : Bytes s)
+  where
+    whole-none : 0 < length s → (length s ≡ 1 + n → ⊥) → whole F (drop 1 s) ≡ none
+    whole-none h wrong = go (whole F (drop 1 s)) refl
+      where
+        go : (o : Option A) → whole F (drop 1 s) ≡ o → whole F (drop 1 s) ≡ none
+        go none e = e
+        go (some a) e =
+            let q : length (drop 1 s) ≡ n = ap length (whole-was-written F (drop 1 s) a (all-drop 1 bytes) e .1)
+            ∙ width a in
+            absurd (wrong (omega (arith, length-drop 1 s)))
 
 module _ (w : ℕ) (s : List ℕ) (there : 0 < length s) where
   -- a handle
-  pub handle-got : (make : ℕ → Call) (h : ℕ) → h ≡ decode (part 1 w s) → length s ≡ 1 + w → some (make h) ≡ byHandle w make (drop 1 s)
+  pub handle-got : (make : ℕ → Call) (h : ℕ) → h ≡ decode (part 1 w s) → length s ≡ 1 + w
+      → some (make h) ≡ byHandle w make (drop 1 s)
   unfolding byHandle whole bind
   handle-got make h e l =
       ap (λ x. some (make x)) e
-      ∙ sym (rw (num-got w 1 s (omega arith), ended-all (num w) (decode (part 1 w s)) (drop (1 + w) s) (rw length-drop (omega arith))))
+      ∙ sym (rw (
+        num-got w 1 s (omega arith),
+        ended-all (num w) (decode (part 1 w s)) (drop (1 + w) s)
+            (rw length-drop (omega arith)),
+      ))
 
   pub handle-wrong : (make : ℕ → Call) → Bytes s → (length s ≡ 1 + w → ⊥) → none ≡ byHandle w make (drop 1 s)
   unfolding byHandle bind
@@ -70,17 +78,20 @@ module _ (w : ℕ) (s : List ℕ) (there : 0 < length s) where
     pub pair-wrong : Bytes s → (length s ≡ 1 + w + v → ⊥) → none ≡ byHandleAndNumber w v allowed make (drop 1 s)
     unfolding byHandleAndNumber bind
     pair-wrong b wrong =
-        let width : (p : ℕ × ℕ) → length (encode w (p .0) ++ encode v (p .1)) ≡ w + v = λ p. length-append (encode w (p .0)) (encode v (p .1)) ∙ rw (length-encode w (p .0), length-encode v (p .1)) in
+        let width : (p : ℕ × ℕ) → length (encode w (p .0) ++ encode v (p .1)) ≡ w + v = λ p. length-append
+        (encode w (p .0)) (encode v (p .1)) ∙ rw (length-encode w (p .0), length-encode v (p .1)) in
         sym (rw (whole-none (then (num w) (λ _. num v)) (w + v) width s b there (λ e. wrong (omega arith))))
 
-    module _ (h n : ℕ) (first : h ≡ decode (part 1 w s)) (second : n ≡ decode (part (1 + w) v s)) (l : length s ≡ 1 + w + v) where
+    module _ (h n : ℕ) (first : h ≡ decode (part 1 w s)) (second : n ≡ decode (part (1 + w) v s))
+        (l : length s ≡ 1 + w + v) where
       pair-got : byHandleAndNumber w v allowed make (drop 1 s) ≡ pick (allowed n) (some (make h n)) none
       unfolding byHandleAndNumber whole get₂ bind
       pair-got =
           rw (
             num-got w 1 s (omega arith),
             num-got v (1 + w) s (omega arith),
-            ended-all (then (num w) (λ _. num v)) (decode (part 1 w s), decode (part (1 + w) v s)) (drop (1 + w + v) s) (rw length-drop (omega arith)),
+            ended-all (then (num w) (λ _. num v)) (decode (part 1 w s), decode (part (1 + w) v s)) (drop (1 + w + v) s)
+                (rw length-drop (omega arith)),
             first,
             second,
           )
@@ -99,7 +110,8 @@ module _ (w : ℕ) (s : List ℕ) (there : 0 < length s) where
 
     pub data-long : 1 + w ≤ length s → DATA-BYTES < length s - (1 + w) → none ≡ byHandleAndBytes w make (drop 1 s)
     unfolding byHandleAndBytes bind
-    data-long l m = sym (rw (num-got w 1 s l) (pick-false _ _ _ (lt-leb (length (drop (1 + w) s)) DATA-BYTES (rw length-drop m))))
+    data-long l m = sym (rw (num-got w 1 s l)
+        (pick-false _ _ _ (lt-leb (length (drop (1 + w) s)) DATA-BYTES (rw length-drop m))))
 
     pub data-got : (h : ℕ) → h ≡ decode (part 1 w s) → 1 + w ≤ length s → length s - (1 + w) ≤ DATA-BYTES
         → some (make h (drop (1 + w) s)) ≡ byHandleAndBytes w make (drop 1 s)
@@ -115,7 +127,8 @@ module _ (least most : ℕ) (make : ℕ → Path → Call) (s : List ℕ) where
   number-missing l = sym (rw (drop-of-length-le s {i = 1} (omega arith)))
 
   module _ (there : 1 < length s) where
-    number-got : byNumberAndPath least most make (drop 1 s) ≡ pick (leb least (getD s 1 0) && leb (getD s 1 0) most) (byPath (make (getD s 1 0)) (drop 2 s)) none
+    number-got : byNumberAndPath least most make (drop 1 s) ≡ pick (leb least (getD s 1 0) && leb (getD s 1 0) most)
+        (byPath (make (getD s 1 0)) (drop 2 s)) none
     unfolding byNumberAndPath
     number-got = rw (drop-cons s 1 0 there)
 
@@ -125,8 +138,10 @@ module _ (least most : ℕ) (make : ℕ → Path → Call) (s : List ℕ) where
     pub number-high : least ≤ getD s 1 0 → most < getD s 1 0 → none ≡ byNumberAndPath least most make (drop 1 s)
     number-high l h = sym (number-got ∙ pick-false _ _ _ (rw (le-leb least (getD s 1 0) l, lt-leb (getD s 1 0) most h)))
 
-    pub number-within : least ≤ getD s 1 0 → getD s 1 0 ≤ most → byPath (make (getD s 1 0)) (drop 2 s) ≡ byNumberAndPath least most make (drop 1 s)
-    number-within l h = sym (number-got ∙ pick-true _ _ _ (and-both _ _ (le-leb least (getD s 1 0) l) (le-leb (getD s 1 0) most h)))
+    pub number-within : least ≤ getD s 1 0 → getD s 1 0 ≤ most → byPath (make (getD s 1 0)) (drop 2 s) ≡ byNumberAndPath
+        least most make (drop 1 s)
+    number-within l h = sym (number-got
+        ∙ pick-true _ _ _ (and-both _ _ (le-leb least (getD s 1 0) l) (le-leb (getD s 1 0) most h)))
 
 -- by the kind
 module _ (w : ℕ) where
@@ -146,7 +161,8 @@ module _ (w : ℕ) where
   pub kind-none : (kind : ℕ) (t : List ℕ) → (1 ≤ kind → 13 < kind) → none ≡ readFields w kind t
   unfolding readFields pick
   kind-none kind t past =
-      let other : (k : ℕ) → 1 ≤ k → k ≤ 13 → eqb kind k ≡ false = λ k a b. ne-eqb kind k (λ e. omega (arith, past (omega arith))) in
+      let other : (k : ℕ) → 1 ≤ k → k ≤ 13 → eqb kind k ≡ false = λ k a b. ne-eqb kind k
+      (λ e. omega (arith, past (omega arith))) in
       sym (simp (
         other 1 (omega arith) (omega arith),
         other 2 (omega arith) (omega arith),

@@ -7,4 +7,5 @@ returns : tie.Need-returns
 returns c = cc
 
 pub state-sum-spec : {M : Type 1} → statement M
-state-sum-spec = tie.close (tie.spec (λ _ _. tt) (λ _ _. tt) (λ _ _. tt) (λ _ _. tt) (λ _ _. tt) (λ _ _. tt) (λ _ _. tt) (λ _ _. tt) returns)
+state-sum-spec = tie.close (tie.spec (λ _ _. tt) (λ _ _. tt) (λ _ _. tt) (λ _ _. tt) (λ _ _. tt) (λ _ _. tt) (λ _ _. tt)
+    (λ _ _. tt) returns)

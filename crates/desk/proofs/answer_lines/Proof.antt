@@ -12,7 +12,8 @@ use Rattle.desk.proofs.answer_lines.Tie as tie
 
 abbrev Inv-loop : tie.InvT-loop
 Inv-loop memory₀ text out₀ at₀ filled₀ memory out at filled =
-    Through memory₀ text at filled memory out₀ out × (at ≤ length text) × (filled ≤ length out) × (length out ≡ length out₀) × (length memory ≡ length memory₀)
+    Through memory₀ text at filled memory out₀ out × (at ≤ length text) × (filled ≤ length out)
+    × (length out ≡ length out₀) × (length memory ≡ length memory₀)
 
 abbrev μ-loop : tie.MeasureT-loop
 μ-loop memory₀ text out₀ at₀ filled₀ memory out at filled = length text - at
@@ -43,5 +44,6 @@ returns-2 c = let l = c .before .loop in record { through = l .inv .0; all = inr
 pub answer-lines-spec : {M : Type 1} → statement M
 answer-lines-spec =
     tie.close
-    (tie.spec Inv-loop μ-loop loop-holds (λ c. search needs) (λ c κs. search needs) (λ c. search needs) (λ c. search needs) returns (λ c κs. search needs) (λ c. search needs)
+    (tie.spec Inv-loop μ-loop loop-holds (λ c. search needs) (λ c κs. search needs) (λ c. search needs)
+    (λ c. search needs) returns (λ c κs. search needs) (λ c. search needs)
     (λ c. search needs) loop-again (λ c. search needs) (λ c. search needs) returns-2)

@@ -10,7 +10,9 @@ returns c =
     let w = c .before .before in
     let o = w .before .before .before .before .before .before .before .before in
     let a = o .before .before .before .before .before .before .before .args in
-    reply-answers (a .memory .now) (a .bytes .now) _ _ _ _ _ _ _ (a .out .now) _ (omega arith) (omega arith) (o .on-reply .ensures) (w .write-outcome .ensures)
+    reply-answers (a .memory .now) (a .bytes .now) _ _ _ _ _ _ _ (a .out .now) _ (omega arith) (omega arith)
+    (o .on-reply .ensures) (w .write-outcome .ensures)
 
 pub answer-reply-spec : {M : Type 1} → statement M
-answer-reply-spec = tie.close (tie.spec (λ c. search needs) (λ c. search needs) (λ c κs. search needs) (λ c. search needs) (λ c. search needs) (λ c κs. search needs) (λ c. search needs) (λ c. search needs) returns)
+answer-reply-spec = tie.close (tie.spec (λ c. search needs) (λ c. search needs) (λ c κs. search needs)
+    (λ c. search needs) (λ c. search needs) (λ c κs. search needs) (λ c. search needs) (λ c. search needs) returns)

@@ -32,7 +32,8 @@ answers-at m x i n r m′ d e same low a =
     let l₃ = length-take-le i d (omega arith) in
     record {
       puts = λ k. record {
-        buffer = ap (λ (z : List ℕ). take i d ++ (z ++ drop (n - i) (drop i d))) (a .prints k .buffer) ∙ overwrite-behind d (printedFor (held m) x) i n same;
+        buffer = ap (λ (z : List ℕ). take i d ++ (z ++ drop (n - i) (drop i d))) (a .prints k .buffer)
+            ∙ overwrite-behind d (printedFor (held m) x) i n same;
         end = ap (λ (z : ℕ). i + z) (a .prints k .count);
       };
       state = a .state;
@@ -46,9 +47,11 @@ answers-at m x i n r m′ d e same low a =
 text-more : (ls : List (List ℕ)) (l : List ℕ) → textOf (ls ++ (l ∷ [])) ≡ textOf ls ++ (l ++ (10 ∷ []))
 unfolding textOf
 text-more [] l = refl
-text-more (x ∷ ls) l = ap (λ (z : List ℕ). x ++ (10 ∷ z)) (text-more ls l) ∙ sym (append-assoc x (10 ∷ textOf ls) (l ++ (10 ∷ [])))
+text-more (x ∷ ls) l = ap (λ (z : List ℕ). x ++ (10 ∷ z)) (text-more ls l)
+    ∙ sym (append-assoc x (10 ∷ textOf ls) (l ++ (10 ∷ [])))
 
-state-more : (s : State (digestStore delivered)) (ls : List (List ℕ)) (l : List ℕ) → stateThrough s (ls ++ (l ∷ [])) ≡ stateFor (stateThrough s ls) (lineOf l)
+state-more : (s : State (digestStore delivered)) (ls : List (List ℕ)) (l : List ℕ)
+    → stateThrough s (ls ++ (l ∷ [])) ≡ stateFor (stateThrough s ls) (lineOf l)
 unfolding stateThrough
 state-more s [] l = refl
 state-more s (x ∷ ls) l = state-more (stateFor s (lineOf x)) ls l
@@ -111,7 +114,8 @@ through-none m text d = record {
   same-length = refl;
 }
 
-pub through-more : (m text : List ℕ) (a k : ℕ) (m₁ d d₁ : List ℕ) (e r : ℕ) (m₂ d₂ : List ℕ) → Through m text a k m₁ d d₁ → LineEnd text a e → e < length text
+pub through-more : (m text : List ℕ) (a k : ℕ) (m₁ d d₁ : List ℕ) (e r : ℕ) (m₂ d₂ : List ℕ)
+    → Through m text a k m₁ d d₁ → LineEnd text a e → e < length text
     → AnswersAt m₁ (lineOf (part a (e - a) text)) k r m₂ d₁ d₂ → Through m text (e + 1) r m₂ d d₂
 through-more m text a k m₁ d d₁ e r m₂ d₂ t line h x =
     let l = part a (e - a) text in
@@ -119,10 +123,14 @@ through-more m text a k m₁ d d₁ e r m₂ d₂ t line h x =
     record {
       lines = t .lines ++ (l ∷ []);
       are-lines = all-append (t .are-lines) (both (one-line text a e line) none);
-      taken = ended text a e line h ∙ ap (λ (z : List ℕ). z ++ (l ++ (10 ∷ []))) (t .taken) ∙ sym (text-more (t .lines) l);
+      taken = ended text a e line h ∙ ap (λ (z : List ℕ). z ++ (l ++ (10 ∷ []))) (t .taken)
+          ∙ sym (text-more (t .lines) l);
       prints = λ q. subst (λ (z : List ℕ). Prints z r d d₂) (sym (printed-more (held m) (t .lines) l))
-          (prints-more _ _ d d₁ d₂ k r (t .prints q) (subst (λ (z : State (digestStore delivered)). Puts (printedFor z (lineOf l)) k r d₁ d₂) (t .state q) (x .puts (t .kept q))));
-      state = λ q. x .state (t .kept q) ∙ ap (λ (z : State (digestStore delivered)). stateFor z (lineOf l)) (t .state q) ∙ sym (state-more (held m) (t .lines) l);
+          (prints-more _ _ d d₁ d₂ k r (t .prints q)
+          (subst (λ (z : State (digestStore delivered)). Puts (printedFor z (lineOf l)) k r d₁ d₂) (t .state q)
+          (x .puts (t .kept q))));
+      state = λ q. x .state (t .kept q) ∙ ap (λ (z : State (digestStore delivered)). stateFor z (lineOf l)) (t .state q)
+          ∙ sym (state-more (held m) (t .lines) l);
       kept = λ q. x .kept (t .kept q);
       within = omega arith;
       fits = x .fits;

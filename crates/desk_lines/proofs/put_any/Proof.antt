@@ -19,4 +19,5 @@ returns-2 c =
     at (puts-more (ascii " ") (hexOf (a .bytes .now)) (a .out .now) _ _ (a .at) _ _ (omega arith) (p .put .ensures) (c .before .before .put-hex .ensures))
 
 pub put-any-spec : {M : Type 1} → statement M
-put-any-spec = tie.close (tie.spec returns (λ c. search needs) (λ c κs. search needs) (λ c κs. search needs) (λ c. search needs) returns-2)
+put-any-spec = tie.close (tie.spec returns (λ c. search needs) (λ c κs. search needs) (λ c κs. search needs)
+    (λ c. search needs) returns-2)

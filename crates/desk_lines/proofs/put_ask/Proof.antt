@@ -10,7 +10,8 @@ use Rattle.desk_lines.proofs.put_ask.Tie as tie
 put-requires-2 : tie.Need-put-requires-2
 put-requires-2 c κs =
     let p = c .before .before .before .before in
-    let e = length-hexOf (p .before .before .before .before .before .before .before .before .before .args .request .now) in
+    let e = length-hexOf (p .before .before .before .before .before .before .before .before .before .args .request .now)
+    in
     let f = p .put-hex .ensures .end in
     let g = p .before .before .before .before .put .ensures .end in
     omega arith
@@ -23,7 +24,9 @@ returns c =
     let p = h .before .before .before .before in
     let a = p .before .before .before .before .before .args in
     let x = hexOf (a .request .now) in
-    prints-as _ _ _ _ _ (prints-more _ _ _ _ _ _ _ (prints-more _ _ _ _ _ _ _ (prints-first _ _ _ _ (p .put .ensures)) (h .put-hex .ensures)) (q .put2 .ensures)) (ask-pieces (a .request .now))
+    prints-as _ _ _ _ _ (prints-more _ _ _ _ _ _ _ (prints-more _ _ _ _ _ _ _ (prints-first _ _ _ _ (p .put .ensures))
+    (h .put-hex .ensures)) (q .put2 .ensures)) (ask-pieces (a .request .now))
 
 pub put-ask-spec : {M : Type 1} → statement M
-put-ask-spec = tie.close (tie.spec (λ c. search needs) (λ c κs. search needs) (λ c κs. search needs) (λ c. search needs) put-requires-2 (λ c. search needs) returns)
+put-ask-spec = tie.close (tie.spec (λ c. search needs) (λ c κs. search needs) (λ c κs. search needs) (λ c. search needs)
+    put-requires-2 (λ c. search needs) returns)

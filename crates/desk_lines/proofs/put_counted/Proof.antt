@@ -22,8 +22,10 @@ returns c =
     let h = q .before .before .before .before .before in
     let p = h .before .before .before .before in
     let a = p .before .before .before .before .args in
-    prints-as _ _ _ _ _ (prints-more _ _ _ _ _ _ _ (prints-more _ _ _ _ _ _ _ (prints-first _ _ _ _ (p .put .ensures)) (h .put-number .ensures .0)) (q .put2 .ensures))
+    prints-as _ _ _ _ _ (prints-more _ _ _ _ _ _ _ (prints-more _ _ _ _ _ _ _ (prints-first _ _ _ _ (p .put .ensures))
+    (h .put-number .ensures .0)) (q .put2 .ensures))
     (append-assoc (a .word .now) (decimalOf (a .number)) (ascii "\n"))
 
 pub put-counted-spec : {M : Type 1} → statement M
-put-counted-spec = tie.close (tie.spec (λ c κs. search needs) (λ c κs. search needs) (λ c. search needs) put-requires-2 (λ c. search needs) returns)
+put-counted-spec = tie.close (tie.spec (λ c κs. search needs) (λ c κs. search needs) (λ c. search needs) put-requires-2
+    (λ c. search needs) returns)

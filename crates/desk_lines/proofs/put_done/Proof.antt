@@ -34,11 +34,13 @@ returns c =
     let a = p .before .before .before .before .before .args in
     prints-as _ _ _ _ _
     (prints-more _ _ _ _ _ _ _
-    (prints-more _ _ _ _ _ _ _ (prints-more _ _ _ _ _ _ _ (prints-first _ _ _ _ (p .put .ensures)) (h .put-number .ensures .0)) (q .put-any .ensures))
+    (prints-more _ _ _ _ _ _ _ (prints-more _ _ _ _ _ _ _ (prints-first _ _ _ _ (p .put .ensures))
+    (h .put-number .ensures .0)) (q .put-any .ensures))
     (z .put2 .ensures))
     (done-pieces (a .number) (a .bytes .now))
 
 pub put-done-spec : {M : Type 1} → statement M
 put-done-spec =
     tie.close
-    (tie.spec (λ c. search needs) (λ c κs. search needs) (λ c κs. search needs) put-any-requires (λ c. search needs) put-requires-2 (λ c. search needs) returns)
+    (tie.spec (λ c. search needs) (λ c κs. search needs) (λ c κs. search needs) put-any-requires (λ c. search needs)
+    put-requires-2 (λ c. search needs) returns)

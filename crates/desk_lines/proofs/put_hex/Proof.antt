@@ -11,7 +11,12 @@ returns : tie.Need-returns
 returns c =
     let a = c .before .before .before .before .before .before .args in
     let e = length-hexOf (a .bytes .now) in
-    record { buffer = rw (c .before .before .encode .ensures) (overwrite-behind (a .out .now) (hexOf (a .bytes .now)) (a .at) _ refl); end = omega arith }
+    record {
+      buffer = rw (c .before .before .encode .ensures) (overwrite-behind (a .out .now) (hexOf (a .bytes .now))
+          (a .at) _ refl);
+      end = omega arith;
+    }
 
 pub put-hex-spec : {M : Type 1} → statement M
-put-hex-spec = tie.close (tie.spec (λ c. search needs) (λ c. search needs) (λ c. search needs) (λ c κs. search needs) (λ c. search needs) (λ c. search needs) (λ c. search needs) returns)
+put-hex-spec = tie.close (tie.spec (λ c. search needs) (λ c. search needs) (λ c. search needs) (λ c κs. search needs)
+    (λ c. search needs) (λ c. search needs) (λ c. search needs) returns)

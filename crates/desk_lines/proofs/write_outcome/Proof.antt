@@ -31,7 +31,8 @@ returns-3 c =
     let p = c .before .before in
     let o = p .before .before .before .before .o3 .given .1 in
     let a = p .before .before .before .before .before .before .before .before .before .args in
-    prints-as _ _ _ _ _ (p .put-counted .ensures) (ap (λ (x : Outcome). printed (answerIn x (a .answer .now) (a .request .now))) (sym o))
+    prints-as _ _ _ _ _ (p .put-counted .ensures)
+    (ap (λ (x : Outcome). printed (answerIn x (a .answer .now) (a .request .now))) (sym o))
 
 returns-4 : tie.Need-returns-4
 unfolding answerIn printed ascii
@@ -39,11 +40,15 @@ returns-4 c =
     let p = c .before .before in
     let o = p .before .before .before .before .o4 .given .1 in
     let a = p .before .before .before .before .before .before .before .before .before .args in
-    prints-as _ _ _ _ _ (p .put-counted2 .ensures) (ap (λ (x : Outcome). printed (answerIn x (a .answer .now) (a .request .now))) (sym o))
+    prints-as _ _ _ _ _ (p .put-counted2 .ensures)
+    (ap (λ (x : Outcome). printed (answerIn x (a .answer .now) (a .request .now))) (sym o))
 
 pub write-outcome-spec : {M : Type 1} → statement M
 write-outcome-spec =
     tie.close
-    (tie.spec (λ c. search needs) (λ c κs. search needs) (λ c κs. search needs) (λ c. search needs) (λ c κs. search needs) (λ c κs. search needs)
-    (λ c. search needs) (λ c. search needs) (λ c. search needs) (λ c κs. search needs) (λ c. search needs) (λ c. search needs) (λ c. search needs) (λ c κs. search needs)
-    (λ c. search needs) returns (λ c. search needs) returns-2 (λ c. search needs) returns-3 (λ c. search needs) returns-4)
+    (tie.spec (λ c. search needs) (λ c κs. search needs) (λ c κs. search needs) (λ c. search needs)
+    (λ c κs. search needs) (λ c κs. search needs)
+    (λ c. search needs) (λ c. search needs) (λ c. search needs) (λ c κs. search needs) (λ c. search needs)
+    (λ c. search needs) (λ c. search needs) (λ c κs. search needs)
+    (λ c. search needs) returns (λ c. search needs) returns-2 (λ c. search needs) returns-3 (λ c. search needs)
+    returns-4)

@@ -20,7 +20,8 @@ use Rattle.text.specs.declared.hex.Decoded.the-variants.{Bytes, BadDigit, Odd, 
 use Rattle.filesystem.specs.Tables.{NODES, NAME-BYTES, ID-BYTES}
 use Rattle.rules.specs.Skeleton.{Config, answerLength, atFront}
 use Rattle.desk_lines.specs.declared.Line.the-variants.{Call, Reply, Bad}
-use Rattle.desk_lines.specs.Lines.{mostBytes, DeskLine, callLine, replyLine, badLine, decodedAs, hexLine, lineOf, lineBytes, lineIn, Reads}
+use Rattle.desk_lines.specs.Lines.{mostBytes, DeskLine, callLine, replyLine, badLine, decodedAs, hexLine, lineOf}
+use Rattle.desk_lines.specs.Lines.{lineBytes, lineIn, Reads}
 
 -- the least length of the answer buffer
 pub most-answer : (c : Config) → c .width ≡ ID-BYTES → answerLength c ≡ mostBytes
@@ -31,14 +32,17 @@ pub most-number : mostBytes ≡ 9690
 most-number = refl
 
 -- digits decoded into the first n bytes of a buffer
-front-overwritten : (d x : List ℕ) (n : ℕ) → length x ≤ n → n ≤ length d → overwrite (take n d) 0 x ++ drop n d ≡ overwrite d 0 x
+front-overwritten : (d x : List ℕ) (n : ℕ) → length x ≤ n → n ≤ length d → overwrite (take n d) 0 x
+    ++ drop n d ≡ overwrite d 0 x
 unfolding part
 front-overwritten d x n h g =
     let l = length-take-le n d g in
     let m : length (overwrite (take n d) 0 x) ≡ n = length-overwrite (take n d) 0 x (omega arith) ∙ l in
-    sym (overwrite-part d 0 n 0 x (omega arith) (omega arith) ∙ overwrite-front d (overwrite (take n d) 0 x) ∙ ap (λ (k : ℕ). overwrite (take n d) 0 x ++ drop k d) m)
+    sym (overwrite-part d 0 n 0 x (omega arith) (omega arith) ∙ overwrite-front d (overwrite (take n d) 0 x)
+    ∙ ap (λ (k : ℕ). overwrite (take n d) 0 x ++ drop k d) m)
 
-pub decoded-front : (r : Decoded) (s d : List ℕ) (n : ℕ) → n ≤ length d → decodeOf s n ≡ r → decodedIn r s (take n d) ++ drop n d ≡ decodedIn r s d
+pub decoded-front : (r : Decoded) (s d : List ℕ) (n : ℕ) → n ≤ length d → decodeOf s n ≡ r → decodedIn r s (take n d)
+    ++ drop n d ≡ decodedIn r s d
 unfolding decodedIn
 decoded-front (Bytes k) s d n h e =
     let f = decodes s n k e in
@@ -48,7 +52,8 @@ decoded-front Odd s d n h e = take-append-drop n d
 decoded-front TooLong s d n h e = take-append-drop n d
 
 -- What was decoded of the digits s, r, as a line: the buffer before is d, now d′.
-module _ (s d d′ : List ℕ) (r : Decoded) (answer : r ≡ decodeOf s mostBytes) (left : d′ ≡ decodedIn r s d) (room : mostBytes ≤ length d) where
+module _ (s d d′ : List ℕ) (r : Decoded) (answer : r ≡ decodeOf s mostBytes) (left : d′ ≡ decodedIn r s d)
+    (room : mostBytes ≤ length d) where
   module _ (k : ℕ) (good : r ≡ Bytes k) where
     good-line : (kind : List ℕ → DeskLine) → hexLine kind s ≡ kind (bytesOf s)
     unfolding hexLine decodedAs
@@ -62,7 +67,8 @@ module _ (s d d′ : List ℕ) (r : Decoded) (answer : r ≡ decodeOf s mostByte
     good-most = let f = decodes s mostBytes k (sym answer ∙ good) in (omega (arith, length-bytesOf s), f .fits)
 
     good-front : take k d′ ≡ bytesOf s
-    good-front = ap (take k) good-buffer ∙ take-overwrite d 0 (bytesOf s) k (good-most .0 ∙ sym (zero-add _)) (omega arith)
+    good-front = ap (take k) good-buffer ∙ take-overwrite d 0 (bytesOf s) k (good-most .0 ∙ sym (zero-add _))
+        (omega arith)
 
     pub reads-call : Reads (hexLine callLine s) (Call k) d d′
     unfolding lineIn lineBytes
@@ -89,14 +95,16 @@ reads-bad x d d′ e f = record {
   most = omega arith;
 }
 
-bad-decoded : (kind : List ℕ → DeskLine) (r : Decoded) (s d : List ℕ) → ((k : ℕ) → r ≡ Bytes k → ⊥) → (decodedAs kind s r ≡ badLine) × (decodedIn r s d ≡ d)
+bad-decoded : (kind : List ℕ → DeskLine) (r : Decoded) (s d : List ℕ) → ((k : ℕ) → r ≡ Bytes k → ⊥)
+    → (decodedAs kind s r ≡ badLine) × (decodedIn r s d ≡ d)
 unfolding decodedAs decodedIn
 bad-decoded kind (Bytes k) s d h = absurd (h k refl)
 bad-decoded kind (BadDigit i) s d h = (refl, refl)
 bad-decoded kind Odd s d h = (refl, refl)
 bad-decoded kind TooLong s d h = (refl, refl)
 
-pub reads-other : (kind : List ℕ → DeskLine) (s d d′ : List ℕ) (r : Decoded) → r ≡ decodeOf s mostBytes → d′ ≡ decodedIn r s d
+pub reads-other : (kind : List ℕ → DeskLine) (s d d′ : List ℕ) (r : Decoded) → r ≡ decodeOf s mostBytes
+    → d′ ≡ decodedIn r s d
     → ((k : ℕ) → r ≡ Bytes k → ⊥)
     → Reads (hexLine kind s) Bad d d′
 unfolding hexLine

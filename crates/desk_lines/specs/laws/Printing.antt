@@ -29,8 +29,16 @@ pub overwrite-behind : (l x : List ℕ) (at n : ℕ) → n ≡ length l
     → take at l ++ (overwrite (take (n - at) (drop at l)) 0 x ++ drop (n - at) (drop at l)) ≡ overwrite l at x
 unfolding overwrite
 overwrite-behind l x at n e =
-    let z : drop (n - at) (drop at l) ≡ [] = drop-of-length-le (drop at l) {i = n - at} (rw (e, length-drop at l) (omega arith)) in
-    rw (all-behind l at n e, z, overwrite-front (drop at l) x, drop-drop (length x) at l, append-nil (x ++ drop (at + length x) l))
+    let z : drop (n - at) (drop at l) ≡ [] = drop-of-length-le (drop at l) {i = n - at}
+    (rw (e, length-drop at l) (omega arith)) in
+    rw (
+      all-behind l at n e,
+      z,
+      overwrite-front (drop at l) x,
+      drop-drop (length x) at l,
+      append-nil (x
+          ++ drop (at + length x) l),
+    )
 
 -- what was put at the front of a buffer fits in it
 front-fits : (x d : List ℕ) → length x ≤ length (overwrite d 0 x)
@@ -48,31 +56,36 @@ prints-more p x l d d′ k r g h =
     let a = g .count in
     let b = h .end in
     let n = length-append p x in
-    prints-front (p ++ x) l d′ r (h .buffer ∙ ap (λ (z : List ℕ). overwrite z k x) (g .buffer) ∙ overwrite-next l 0 p x k (omega arith) (omega arith)) (omega arith)
+    prints-front (p ++ x) l d′ r (h .buffer ∙ ap (λ (z : List ℕ). overwrite z k x) (g .buffer)
+    ∙ overwrite-next l 0 p x k (omega arith) (omega arith)) (omega arith)
 
 -- the same line, otherwise grouped
 pub prints-as : (x y d d′ : List ℕ) (r : ℕ) → Prints x r d d′ → x ≡ y → Prints y r d d′
 prints-as x y d d′ r h e = rw e at h
 
 -- an outcome's bytes stand at the front of a buffer
-pub prints-done : (o : Outcome) (n k : ℕ) (b a q d d′ : List ℕ) (r : ℕ) → o ≡ Done n k → b ≡ take k a → Prints (printed (done n b)) r d d′
+pub prints-done : (o : Outcome) (n k : ℕ) (b a q d d′ : List ℕ) (r : ℕ) → o ≡ Done n k → b ≡ take k a
+    → Prints (printed (done n b)) r d d′
     → Prints (printed (answerIn o a q)) r d d′
 unfolding answerIn
 prints-done o n k b a q d d′ r e f h = rw (e, ← f) h
 
-pub prints-ask : (o : Outcome) (k : ℕ) (b a q d d′ : List ℕ) (r : ℕ) → o ≡ Ask k → b ≡ take k q → Prints (printed (ask b)) r d d′
+pub prints-ask : (o : Outcome) (k : ℕ) (b a q d d′ : List ℕ) (r : ℕ) → o ≡ Ask k → b ≡ take k q
+    → Prints (printed (ask b)) r d d′
     → Prints (printed (answerIn o a q)) r d d′
 unfolding answerIn
 prints-ask o k b a q d d′ r e f h = rw (e, ← f) h
 
 -- two pieces are one
-pub puts-more : (x y d e f : List ℕ) (i k r : ℕ) → i ≤ length d → Puts x i k d e → Puts y k r e f → Puts (x ++ y) i r d f
+pub puts-more : (x y d e f : List ℕ) (i k r : ℕ) → i ≤ length d → Puts x i k d e → Puts y k r e f
+    → Puts (x ++ y) i r d f
 puts-more x y d e f i k r h g p =
     let a = g .end in
     let b = p .end in
     let n = length-append x y in
     record {
-      buffer = p .buffer ∙ ap (λ (z : List ℕ). overwrite z k y) (g .buffer) ∙ overwrite-next d i x y k (omega arith) (omega arith);
+      buffer = p .buffer ∙ ap (λ (z : List ℕ). overwrite z k y) (g .buffer) ∙ overwrite-next d i x y k (omega arith)
+          (omega arith);
       end = omega arith;
     }
 

@@ -1,4 +1,5 @@
--- Which lines are calls and which are replies: exactly those that are spelled as SPECIFICATION 12.2 says, a letter, a space, and bytes in
+-- Which lines are calls and which are replies: exactly those that are spelled as SPECIFICATION 12.2 says, a letter, a
+-- space, and bytes in
 -- lower-case hexadecimal, at most 9,690 of them. All others are bad.
 -- Assumes nothing.
 use mathlib.Core.Path.{_≡_, refl, sym, ap, _∙_}
@@ -69,7 +70,8 @@ module _ (s : List ℕ) where
 module _ (b : List ℕ) (bytes : all.Bytes b) (most : length b ≤ mostBytes) where
   hex-spelled : (kind : List ℕ → DeskLine) → hexLine kind (hexOf b) ≡ kind b
   unfolding hexLine decodedAs
-  hex-spelled kind = ap (decodedAs kind (hexOf b)) (decode-hexOf b mostBytes bytes most) ∙ ap kind (bytesOf-hexOf b bytes)
+  hex-spelled kind = ap (decodedAs kind (hexOf b)) (decode-hexOf b mostBytes bytes most)
+      ∙ ap kind (bytesOf-hexOf b bytes)
 
   pub call-spelled : lineOf (ascii "c " ++ hexOf b) ≡ callLine b
   unfolding ascii begins pick

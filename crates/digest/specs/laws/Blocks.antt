@@ -51,19 +51,27 @@ module _ (p q : List ℕ) (a b : ℕ) (h : (k : ℕ) → k < 64 → getD p (a + 
       )
 
 -- lists that agree on the first i blocks
-pub hash-agrees : (s : State) (p q : List ℕ) (i : ℕ) → ((k : ℕ) → k < 64 * i → getD p k 0 ≡ getD q k 0) → hash s p i ≡ hash s q i
+pub hash-agrees : (s : State) (p q : List ℕ) (i : ℕ) → ((k : ℕ) → k < 64 * i → getD p k 0 ≡ getD q k 0)
+    → hash s p i ≡ hash s q i
 unfolding hash
 hash-agrees s p q zero h = refl
 hash-agrees s p q (suc i) h =
-    rw (hash-agrees s p q i (λ k l. h k (omega arith)), block-agrees p q (64 * i) (64 * i) (λ k l. h (64 * i + k) (omega arith)))
+    rw (
+      hash-agrees s p q i (λ k l. h k (omega arith)),
+      block-agrees p q (64 * i) (64 * i)
+          (λ k l. h (64 * i + k) (omega arith)),
+    )
 
 -- the blocks of p after the blocks of xs
-pub hash-append : (s : State) (xs p : List ℕ) (i j : ℕ) → length xs ≡ 64 * i → hash (hash s xs i) p j ≡ hash s (xs ++ p) (i + j)
+pub hash-append : (s : State) (xs p : List ℕ) (i j : ℕ) → length xs ≡ 64 * i → hash (hash s xs i) p j ≡ hash s (xs ++ p)
+    (i + j)
 unfolding hash
-hash-append s xs p i zero e = rw add-zero (hash-agrees s xs (xs ++ p) i (λ k l. sym (List·getD-append xs p 0 k (omega arith))))
+hash-append s xs p i zero e = rw add-zero
+    (hash-agrees s xs (xs ++ p) i (λ k l. sym (List·getD-append xs p 0 k (omega arith))))
 hash-append s xs p i (suc j) e =
     rw (
       add-suc,
       hash-append s xs p i j e,
-      block-agrees p (xs ++ p) (64 * j) (64 * (i + j)) (λ k l. sym (ap (λ (n : ℕ). getD (xs ++ p) n 0) (omega arith) ∙ getD-append-add xs p (64 * j + k) 0)),
+      block-agrees p (xs ++ p) (64 * j) (64 * (i + j)) (λ k l. sym (ap (λ (n : ℕ). getD (xs ++ p) n 0) (omega arith)
+          ∙ getD-append-add xs p (64 * j + k) 0)),
     )

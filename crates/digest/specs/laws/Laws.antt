@@ -16,7 +16,10 @@ length-sha256 m = refl
 bytes-bytes : (s : State) → Bytes (bytes s)
 unfolding bytes
 bytes-bytes s =
-    all-append (all-append (all-append (all-append (all-append (all-append (all-append (bytes-bigEndian 4 _) (bytes-bigEndian 4 _)) (bytes-bigEndian 4 _)) (bytes-bigEndian 4 _)) (bytes-bigEndian 4 _)) (bytes-bigEndian 4 _)) (bytes-bigEndian 4 _)) (bytes-bigEndian 4 _)
+    all-append (all-append
+    (all-append (all-append (all-append (all-append (all-append (bytes-bigEndian 4 _) (bytes-bigEndian 4 _))
+    (bytes-bigEndian 4 _)) (bytes-bigEndian 4 _)) (bytes-bigEndian 4 _)) (bytes-bigEndian 4 _))
+    (bytes-bigEndian 4 _)) (bytes-bigEndian 4 _)
 
 -- each element is below 256
 pub bytes-sha256 : (m : List ℕ) → Bytes (sha256 m)

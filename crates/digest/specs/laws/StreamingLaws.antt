@@ -27,7 +27,8 @@ module _ (xs m : List ℕ) (n : ℕ) (whole : length xs % 64 ≡ 0) where
   finished-append s =
       ap bytes
       (hash-append s xs (ending m n) (length xs / 64) (length (ending m n) / 64) (omega arith)
-      ∙ rw ending-append (ap (hash s (ending (xs ++ m) n)) (omega (arith, length-append xs (ending m n), ap length ending-append))))
+      ∙ rw ending-append (ap (hash s (ending (xs ++ m) n))
+      (omega (arith, length-append xs (ending m n), ap length ending-append))))
 
 -- the parts of a message one after the other
 unfoldable pub joined : List (List ℕ) → List ℕ → List ℕ
@@ -43,7 +44,8 @@ finished-joined : (s : State) (ps : List (List ℕ)) (m : List ℕ) (n : ℕ) �
     → finished (absorbedAll s ps) m n ≡ finished s (joined ps m) n
 unfolding joined absorbedAll
 finished-joined s [] m n none = refl
-finished-joined s (p ∷ ps) m n (both h a) = finished-joined (absorbed s p) ps m n a ∙ finished-append p (joined ps m) n h s
+finished-joined s (p ∷ ps) m n (both h a) = finished-joined (absorbed s p) ps m n a
+    ∙ finished-append p (joined ps m) n h s
 
 pub streamed : (ps : List (List ℕ)) (m : List ℕ) → All (λ (p : List ℕ). length p % 64 ≡ 0) ps
     → finished (absorbedAll H0 ps) m (length (joined ps m)) ≡ sha256 (joined ps m)

@@ -1,4 +1,5 @@
--- `digest_file::run` is safe and ends. Nothing says that the input ends, so the turns are counted down from a number that no
+-- `digest_file::run` is safe and ends. Nothing says that the input ends, so the turns are counted down from a number
+-- that no
 -- run uses up. Assumes nothing.
 use native.Mathlib.Omega.{arith}
 use Rattle.digest_file.proofs.run.Statement.{statement}
@@ -13,4 +14,5 @@ abbrev μ-loop : tie.MeasureT-loop
 pub run-spec : {M : Type 1} → statement M
 run-spec =
     tie.close
-    (tie.spec Inv-loop μ-loop (λ _ _. tt) (λ c. tt) (λ _ _. tt) (λ c. omega arith) (λ c. omega arith) (λ c. tt) (λ c. tt) (λ c. tt))
+    (tie.spec Inv-loop μ-loop (λ _ _. tt) (λ c. tt) (λ _ _. tt) (λ c. omega arith) (λ c. omega arith) (λ c. tt)
+    (λ c. tt) (λ c. tt))

@@ -6,7 +6,8 @@ use Rattle.configuration.specs.Delivered.{delivered}
 use Rattle.guard.specs.Promise.{held}
 use Rattle.guard.specs.laws.Tested.{pending-number}
 use Rattle.guard.specs.laws.EventLaws.{long-enough, store-room, answer-room, reply-short, reply-read}
-use Rattle.guard.specs.laws.EntryLaws.{digest-delivered, width-delivered, reply-behind, turned, refused-as, taken-as, reply-ready}
+use Rattle.guard.specs.laws.EntryLaws.{digest-delivered, width-delivered, reply-behind, turned, refused-as}
+use Rattle.guard.specs.laws.EntryLaws.{taken-as, reply-ready}
 use borrow.Author.Needs.{needs}
 use Rattle.guard.proofs.take_reply.Statement.{statement}
 use Rattle.guard.proofs.take_reply.Tie as tie

@@ -1,7 +1,6 @@
 -- The promise of each entry, by what its tests found.
 -- Assumes nothing.
 use mathlib.Core.Path.{_≡_, refl, ap, sym, _∙_, subst}
-use mathlib.Core.Bool.{true}
 use mathlib.Core.List.{List, [], _++_}
 use Prim.Native.Nat.{ℕ, _<_, _≤_}
 use native.Mathlib.Omega.{arith}
@@ -11,21 +10,24 @@ use Rattle.lists.specs.PartLaws.{overwrite-none}
 use Rattle.digest.specs.Sha256.{sha256}
 use Rattle.filesystem.specs.Tables.{ID-BYTES, PAGES, DIGEST-BYTES, pageTotal}
 use Rattle.memory.specs.Layout.{memorySize}
-use Rattle.rules.specs.Skeleton.{Event, call, reply, save, load, EventBytes, Answer, done, ask, refused, stopped, answerBytes, requestBytes, atFront, Buffers, buffersAfter, answerLength, requestLength}
+use Rattle.rules.specs.Skeleton.{Event, call, reply, save, load, EventBytes, Answer, done, ask, refused, stopped}
+use Rattle.rules.specs.Skeleton.{answerBytes, requestBytes, atFront, Buffers, buffersAfter, answerLength, requestLength}
 use Rattle.rules.specs.Rules.{Move, refuse, judge}
 use Rattle.configuration.specs.Delivered.{delivered}
 use Rattle.machine.specs.Machine.{Result, apply, step, fresh, guard as digestStore}
 use Rattle.machine.specs.Consistent.{Consistent}
 use Rattle.guard_state.specs.Waits.{stops}
 use Rattle.outcomes.specs.declared.Outcome.{Outcome}
-use Rattle.outcomes.specs.declared.Outcome.the-variants.{Done, Refused, Stopped}
+use Rattle.outcomes.specs.declared.Outcome.the-variants.{Done, Refused}
 use Rattle.outcomes.specs.Sent.{settled, Leaves}
 use Rattle.outcomes.specs.laws.SentLaws.{refusal-sends, sends-leaves}
 use Rattle.saves.specs.Saved.{saveMove, savedInto, loadMove, loadedFrom, Saves, Loads}
 use Rattle.saves.specs.laws.SavedLaws.{refusal-saves}
-use Rattle.guard.specs.Promise.{GuardState, held, stepOf, firstOf, Ready, Steps, Enters, Saving, Own, Promise, SavePromise, LoadPromise, FreshPromise, buffers}
+use Rattle.guard.specs.Promise.{GuardState, held, stepOf, firstOf, Ready, Steps, Enters, Saving, Own, Promise}
+use Rattle.guard.specs.Promise.{SavePromise, LoadPromise, FreshPromise, buffers}
 use Rattle.guard.specs.laws.FrontLaws.{of-fronts, front-own}
-use Rattle.guard.specs.laws.EventLaws.{First, turned-away, goes-on, callNext, replyNext, call-first, reply-first, save-first, load-first}
+use Rattle.guard.specs.laws.EventLaws.{First, turned-away, goes-on, callNext, replyNext, call-first, reply-first}
+use Rattle.guard.specs.laws.EventLaws.{save-first, load-first}
 
 -- the delivered digest and width
 pub digest-delivered : delivered .digest ≡ sha256

@@ -1,4 +1,5 @@
--- What the machine makes of an event, by what the first tests found and then number by number in the specification's order.
+-- What the machine makes of an event, by what the first tests found and then number by number in the specification's
+-- order.
 -- Assumes nothing.
 use mathlib.Core.Path.{_≡_, refl, ap, sym, _∙_}
 use mathlib.Core.Bool.{Bool, true, false, not, _||_}
@@ -6,7 +7,6 @@ use mathlib.Core.List.{List, [], _∷_}
 use Prim.Native.Nat.{ℕ, _<_, _≤_}
 use native.Mathlib.Omega.{arith}
 use lib.Dec.{eqb, ltb}
-use lib.ListN.{length}
 use borrow.Author.Tests.{eq-eqb, ne-eqb, lt-ltb, le-ltb, ltb-false}
 use Rattle.lists.specs.Equal.{or-fst, or-snd}
 use Rattle.lists.specs.Pick.{pick, pick-true, pick-false}
@@ -17,7 +17,7 @@ use Rattle.rules.specs.Calls.{readCall}
 use Rattle.rules.specs.Rules.{Move, refuse, isIdle, isNone, callOr, callChecks, eventChecks, eventAction, judge}
 use Rattle.configuration.specs.Delivered.{delivered}
 use Rattle.machine.specs.Machine.{State, apply, guard as digestStore}
-use Rattle.calls.specs.Called.{called, calledWith}
+use Rattle.call_dispatch.specs.Called.{called, calledWith}
 use Rattle.outcomes.specs.Answered.{taken, answered}
 use Rattle.saves.specs.Saved.{saveMove, loadMove}
 use Rattle.guard.specs.Promise.{GuardState, firstOf}
@@ -36,8 +36,13 @@ module _ (a q : ℕ) where
   answer-long h = sym (ap (λ b. b || ltb q 1037) (le-ltb a 9690 h))
 
 -- buffers that are long enough
-pub long-enough : (a q : ℕ) → (ltb a (answerLength delivered) || ltb q (requestLength delivered)) ≡ false → (answerLength delivered ≤ a) × (requestLength delivered ≤ q)
-long-enough a q e = (ltb-false a (answerLength delivered) (or-fst _ _ e), ltb-false q (requestLength delivered) (or-snd (ltb a (answerLength delivered)) _ e))
+pub long-enough : (a q : ℕ) → (ltb a (answerLength delivered) || ltb q (requestLength delivered)) ≡ false
+    → (answerLength delivered ≤ a) × (requestLength delivered ≤ q)
+long-enough a q e = (
+  ltb-false a (answerLength delivered) (or-fst _ _ e),
+  ltb-false q (requestLength delivered)
+      (or-snd (ltb a (answerLength delivered)) _ e),
+)
 
 pub store-room : (q : ℕ) → requestLength delivered ≤ q → storeLength ≤ q
 unfolding requestLength
@@ -51,13 +56,15 @@ answer-room a h = omega arith
 abbrev pub First : (busy quiet : ℕ) → Skeleton → Move → Move
 First busy quiet sk v = pick (eqb (firstOf busy quiet sk) 0) v (refuse (firstOf busy quiet sk))
 
-busy-first : (s i : Bool) (cs : List Check) (x : Move) → let n : ℕ = pick s 5 (pick i 0 114) in decide refuse ((5, s) ∷ (114, not i) ∷ cs) x ≡ pick (eqb n 0) (decide refuse cs x) (refuse n)
+busy-first : (s i : Bool) (cs : List Check) (x : Move) → let n : ℕ = pick s 5 (pick i 0 114) in decide refuse ((5, s)
+    ∷ (114, not i) ∷ cs) x ≡ pick (eqb n 0) (decide refuse cs x) (refuse n)
 unfolding decide pick
 busy-first true i cs x = refl
 busy-first false true cs x = refl
 busy-first false false cs x = refl
 
-quiet-first : (s i : Bool) (cs : List Check) (x : Move) → let n : ℕ = pick s 5 (pick i 61 0) in decide refuse ((5, s) ∷ (61, i) ∷ cs) x ≡ pick (eqb n 0) (decide refuse cs x) (refuse n)
+quiet-first : (s i : Bool) (cs : List Check) (x : Move) → let n : ℕ = pick s 5 (pick i 61 0) in decide refuse ((5, s)
+    ∷ (61, i) ∷ cs) x ≡ pick (eqb n 0) (decide refuse cs x) (refuse n)
 unfolding decide pick
 quiet-first true i cs x = refl
 quiet-first false true cs x = refl
@@ -82,7 +89,8 @@ module _ (c : Config) (s : State (digestStore c)) where
 
     unfoldable pub callNext : Move
     callNext =
-        decide refuse ((34, isShort) ∷ (22, isNone (readCall (c .width) b)) ∷ callChecks (s .skeleton .tables) (callOr (readCall (c .width) b)))
+        decide refuse ((34, isShort) ∷ (22, isNone (readCall (c .width) b))
+        ∷ callChecks (s .skeleton .tables) (callOr (readCall (c .width) b)))
         (eventAction c (s .skeleton) (call b a q))
 
     unfoldable pub replyNext : Move

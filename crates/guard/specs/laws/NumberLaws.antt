@@ -2,7 +2,7 @@
 -- Assumes nothing.
 use mathlib.Core.Path.{_≡_, refl, ap, sym, _∙_}
 use mathlib.Core.Logic.{_⊎_, inl, inr}
-use mathlib.Core.Bool.{Bool, true, false, not, _&&_}
+use mathlib.Core.Bool.{true, false, not, _&&_}
 use mathlib.Core.List.{List, [], _∷_}
 use Prim.Native.Nat.{ℕ, zero, suc, _<_, _≤_}
 use native.Mathlib.Omega.{arith}
@@ -16,6 +16,7 @@ use Rattle.tables.specs.View.{viewOf}
 use Rattle.rules.specs.Requests.{Pending, idle}
 use Rattle.rules.specs.Skeleton.{Config}
 use Rattle.rules.specs.Rules.{isIdle}
+use Rattle.guard_state.specs.Calls.{IDLE, CREATING, CUTTING}
 use Rattle.guard_state.specs.declared.Guard.{Guard}
 use Rattle.guard_state.specs.State.{numbersOf, pendings, pendingIn, stateIn, stateOf}
 use Rattle.guard.specs.Numbers.{waits}
@@ -27,7 +28,7 @@ module _ (F : Pending → Type 0) where
   there (p ∷ l) (both e a) zero h = e
   there (p ∷ l) (both e a) (suc k) h = there l a k (omega arith)
 
-pub waits-between : (n : ℕ) → waits n ≡ true → (1 ≤ n) × (n ≤ 13)
+pub waits-between : (n : ℕ) → waits n ≡ true → (CREATING ≤ n) × (n ≤ CUTTING)
 unfolding waits
 waits-between n e =
     let z : n ≡ 0 → ⊥ = eqb-false n 0 (not-true _ (and-fst _ _ e)) in
@@ -57,16 +58,20 @@ module _ (c : Config) (m : List ℕ) where
   unfolding stateOf stateIn viewOf pendingIn pendings isIdle
   busy-number e = go (g .call) (waits-between (g .call) e)
     where
-      go : (n : ℕ) → (1 ≤ n) × (n ≤ 13) → isIdle (getD (pendings g (memOf m .staged)) n idle) ≡ false
+      go : (n : ℕ) → (CREATING ≤ n) × (n ≤ CUTTING) → isIdle (getD (pendings g (memOf m .staged)) n idle) ≡ false
       go zero h = absurd (omega arith)
       go (suc k) h =
           there (λ p. isIdle p ≡ false) _
-          (both refl (both refl (both refl (both refl (both refl (both refl (both refl (both refl (both refl (both refl (both refl (both refl (both refl none))))))))))))) k (omega arith)
+          (both refl (both refl
+          (both refl (both refl
+          (both refl (both refl
+          (both refl (both refl (both refl (both refl (both refl (both refl (both refl none))))))))))))) k
+          (omega arith)
 
   pub idle-number : waits (g .call) ≡ false → isIdle (stateOf c m .skeleton .pending) ≡ true
   unfolding stateOf stateIn viewOf pendingIn pendings isIdle
   idle-number e = go (waits-not (g .call) e)
     where
-      go : (g .call ≡ 0) ⊎ (14 ≤ g .call) → isIdle (getD (pendings g (memOf m .staged)) (g .call) idle) ≡ true
+      go : (g .call ≡ IDLE) ⊎ (14 ≤ g .call) → isIdle (getD (pendings g (memOf m .staged)) (g .call) idle) ≡ true
       go (inl z) = ap (λ (n : ℕ). isIdle (getD (pendings g (memOf m .staged)) n idle)) z
       go (inr h) = ap isIdle (List·getD-eq-default (pendings g (memOf m .staged)) idle {n = g .call} (omega arith))

@@ -1,15 +1,15 @@
 -- A memory of zeros, in which no guard was made fresh: every event is refused 5 and changes nothing (SPECIFICATION
 -- 6.5).
 -- Assumes nothing.
-use mathlib.Core.Path.{_≡_, ap, sym, _∙_}
+use mathlib.Core.Path.{_≡_, sym, _∙_}
 use mathlib.Core.Bool.{true}
-use mathlib.Core.List.{List, []}
+use mathlib.Core.List.{List}
 use Prim.Native.Nat.{ℕ}
 use native.Mathlib.Omega.{arith}
-use Rattle.lists.specs.Pick.{pick, pick-true}
+use Rattle.lists.specs.Pick.{pick-true}
 use Rattle.rules.specs.Skeleton.{Event, call, reply, save, load, refused, plain}
 use Rattle.configuration.specs.Delivered.{delivered}
-use Rattle.machine.specs.Machine.{Result, guard as digestStore}
+use Rattle.machine.specs.Machine.{guard as digestStore}
 use Rattle.machine.specs.StepOutcomes.{after-stop}
 use Rattle.guard_state.specs.laws.Zeros.{Zeros, zeros-stopped}
 use Rattle.guard.specs.Promise.{GuardState, held, stepOf, firstOf, Ready}

@@ -15,8 +15,12 @@ returns c =
     let s = c .before .before in
     let k = s .before .before .before .before in
     let a = k .before .before .before .args in
-    let z = memOf (a .m .now) in
-    (s .clear-span .ensures .0 ∙ rw (k .clear-call .ensures .0) (ap (λ (h : List ℕ). withHead h z) (head-cleared (z .head) (length-head (a .m .now)))), omega arith)
+    let z = memOf (a .m .now) in (
+      s .clear-span .ensures .0
+          ∙ rw (k .clear-call .ensures .0) (ap (λ (h : List ℕ). withHead h z)
+          (head-cleared (z .head) (length-head (a .m .now)))),
+      omega arith,
+    )
 
 pub clear-spec : {M : Type 1} → statement M
 clear-spec = tie.close (tie.spec (λ c κs. search needs) (λ c κs. search needs) (λ c. search needs) returns)

@@ -15,9 +15,18 @@ returns c =
     let p2 = p3 .before .before .before .before in
     let p1 = p2 .before .before .before .before in
     let k = p1 .before .before .before .before in (
-      p6 .put-head6 .ensures .0 ∙ rw (p5 .put-head5 .ensures .0, p4 .put-head4 .ensures .0, p3 .put-head3 .ensures .0, p2 .put-head2 .ensures .0, p1 .put-head .ensures .0, k .clear .ensures .0),
+      p6 .put-head6 .ensures .0 ∙ rw (
+        p5 .put-head5 .ensures .0,
+        p4 .put-head4 .ensures .0,
+        p3 .put-head3 .ensures .0,
+        p2 .put-head2 .ensures .0,
+        p1 .put-head .ensures .0,
+        k .clear .ensures .0,
+      ),
       omega arith,
     )
 
 pub put-read-spec : {M : Type 1} → statement M
-put-read-spec = tie.close (tie.spec (λ c κs. search needs) (λ c κs. search needs) (λ c κs. search needs) (λ c κs. search needs) (λ c κs. search needs) (λ c κs. search needs) (λ c κs. search needs) (λ c. search needs) returns)
+put-read-spec = tie.close (tie.spec (λ c κs. search needs) (λ c κs. search needs) (λ c κs. search needs)
+    (λ c κs. search needs) (λ c κs. search needs) (λ c κs. search needs) (λ c κs. search needs) (λ c. search needs)
+    returns)

@@ -17,8 +17,10 @@ returns c =
     let b = k .before .before .before in
     let a = b .args in
     let z = memOf (a .m .now) in
-    let e : memOf _ ≡ withHead (set (set (clearedHead (z .head)) 0 (a .nodes)) 1 (a .opens)) z = p2 .put-head2 .ensures .0 ∙ rw (p1 .put-head .ensures .0, k .clear .ensures .0) in
+    let e : memOf _ ≡ withHead (set (set (clearedHead (z .head)) 0 (a .nodes)) 1 (a .opens)) z =
+    p2 .put-head2 .ensures .0 ∙ rw (p1 .put-head .ensures .0, k .clear .ensures .0) in
     (λ q. rests-as q (a .m .now) _ (a .nodes) (a .opens) (b .pre .0) (b .pre .1) e, omega arith)
 
 pub rest-spec : {M : Type 1} → statement M
-rest-spec = tie.close (tie.spec (λ c κs. search needs) (λ c κs. search needs) (λ c κs. search needs) (λ c. search needs) returns)
+rest-spec = tie.close (tie.spec (λ c κs. search needs) (λ c κs. search needs) (λ c κs. search needs) (λ c. search needs)
+    returns)

@@ -15,7 +15,8 @@ returns c =
     let k = p .before .before .before .before in
     let a = k .before .before .before .args in
     let z = memOf (a .m .now) in
-    let e : memOf _ ≡ withHead (set (clearedHead (z .head)) 2 0) z = p .put-head .ensures .0 ∙ rw (k .clear .ensures .0) in
+    let e : memOf _ ≡ withHead (set (clearedHead (z .head)) 2 0) z = p .put-head .ensures .0
+    ∙ rw (k .clear .ensures .0) in
     (λ q. stops-as q (a .m .now) _ e, omega arith)
 
 pub stop-spec : {M : Type 1} → statement M

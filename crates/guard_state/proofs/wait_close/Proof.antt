@@ -26,4 +26,5 @@ returns c =
     (λ q. waits-as q (a .m .now) _ _ e refl refl (asked (closing (a .opened))) gatheredNone refl f refl, omega arith)
 
 pub wait-close-spec : {M : Type 1} → statement M
-wait-close-spec = tie.close (tie.spec (λ c κs. search needs) (λ c κs. search needs) (λ c κs. search needs) (λ c. search needs) returns)
+wait-close-spec = tie.close (tie.spec (λ c κs. search needs) (λ c κs. search needs) (λ c κs. search needs)
+    (λ c. search needs) returns)

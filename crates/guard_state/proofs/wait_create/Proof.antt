@@ -10,7 +10,8 @@ use Prim.Native.Nat.{ℕ, _+_, _%_}
 use Rattle.filesystem.specs.Tables.{DATA-BYTES}
 use Rattle.memory.specs.Layout.{memOf, withHead, withStaged}
 use Rattle.rules.specs.Requests.{asked, creating}
-use Rattle.guard_state.specs.State.{numbersOf, clearedHead, pendings, pendingIn, gatheredIn, gatheredNone, stagedBytes}
+use Rattle.guard_state.specs.State.{numbersOf, clearedHead, pendings, pendingIn, gatheredIn, gatheredNone}
+use Rattle.guard_state.specs.State.{stagedBytes}
 use Rattle.guard_state.specs.laws.WaitLaws.{kept, staged-waits}
 use borrow.Author.Needs.{needs}
 use Rattle.guard_state.proofs.wait_create.Statement.{statement}
@@ -28,12 +29,28 @@ returns c =
     let s = k .before .before .before .before in
     let a = s .before .before .before .before .args in
     let z = memOf (a .m .now) in
-    let e : memOf _ ≡ withHead (set (set (set (set (set (clearedHead (z .head)) 3 1) 6 (a .parent)) 7 (a .kind)) 8 (a .mode)) 14 (length (a .name .now))) (withStaged (overwrite (z .staged) 0 (a .name .now)) z) =
-    p5 .put-head5 .ensures .0 ∙ rw (p4 .put-head4 .ensures .0, p3 .put-head3 .ensures .0, p2 .put-head2 .ensures .0, p1 .put-head .ensures .0, k .clear .ensures .0, s .stage .ensures .0) in
-    let t : take (length (a .name .now)) (overwrite (z .staged) 0 (a .name .now)) ≡ a .name .now = take-overwrite (z .staged) 0 (a .name .now) (length (a .name .now)) (omega arith) (omega arith) in
-    let n : length (a .name .now) % (DATA-BYTES + 1) ≡ length (a .name .now) = kept _ (DATA-BYTES + 1) (omega (arith, s .before .before .before .before .pre .0)) in
-    let f = ap (λ (x : List ℕ). asked (creating (a .parent) (a .kind) (a .mode) x)) (ap (λ (i : ℕ). take i (overwrite (z .staged) 0 (a .name .now))) n ∙ t) in
-    (λ q. staged-waits q (a .m .now) _ _ (overwrite (z .staged) 0 (a .name .now)) e refl refl (asked (creating (a .parent) (a .kind) (a .mode) (a .name .now))) gatheredNone refl f refl, omega arith)
+    let e : memOf _ ≡ withHead (set (set (set (set (set (clearedHead (z .head)) 3 1) 6 (a .parent)) 7 (a .kind)) 8
+    (a .mode)) 14 (length (a .name .now))) (withStaged (overwrite (z .staged) 0 (a .name .now)) z) =
+    p5 .put-head5 .ensures .0 ∙ rw (
+      p4 .put-head4 .ensures .0,
+      p3 .put-head3 .ensures .0,
+      p2 .put-head2 .ensures .0,
+      p1 .put-head .ensures .0,
+      k .clear .ensures .0,
+      s .stage .ensures .0,
+    ) in
+    let t : take (length (a .name .now)) (overwrite (z .staged) 0 (a .name .now)) ≡ a .name .now = take-overwrite
+    (z .staged) 0 (a .name .now) (length (a .name .now)) (omega arith) (omega arith) in
+    let n : length (a .name .now) % (DATA-BYTES + 1) ≡ length (a .name .now) = kept _ (DATA-BYTES + 1)
+    (omega (arith, s .before .before .before .before .pre .0)) in
+    let f = ap (λ (x : List ℕ). asked (creating (a .parent) (a .kind) (a .mode) x))
+    (ap (λ (i : ℕ). take i (overwrite (z .staged) 0 (a .name .now))) n ∙ t) in (
+      λ q. staged-waits q (a .m .now) _ _ (overwrite (z .staged) 0 (a .name .now)) e refl refl
+          (asked (creating (a .parent) (a .kind) (a .mode) (a .name .now))) gatheredNone refl f refl,
+      omega arith,
+    )
 
 pub wait-create-spec : {M : Type 1} → statement M
-wait-create-spec = tie.close (tie.spec (λ c κs. search needs) (λ c κs. search needs) (λ c κs. search needs) (λ c κs. search needs) (λ c κs. search needs) (λ c κs. search needs) (λ c κs. search needs) (λ c. search needs) returns)
+wait-create-spec = tie.close (tie.spec (λ c κs. search needs) (λ c κs. search needs) (λ c κs. search needs)
+    (λ c κs. search needs) (λ c κs. search needs) (λ c κs. search needs) (λ c κs. search needs) (λ c. search needs)
+    returns)

@@ -17,8 +17,12 @@ returns c =
     let b = p1 .before .before .before in
     let a = b .args in
     let z = memOf (a .m .now) in
-    let e : memOf _ ≡ withHead (set (set (set (z .head) 2 1) 3 (a .call)) 13 (a .page)) z = p3 .put-head3 .ensures .0 ∙ rw (p2 .put-head2 .ensures .0, p1 .put-head .ensures .0) in
-    (λ q. goes-on q (a .m .now) _ (a .call) (a .page) (b .pre .0) (b .pre .1) (b .pre .2) (b .pre .3) (b .pre .4) e, omega arith)
+    let e : memOf _ ≡ withHead (set (set (set (z .head) 2 1) 3 (a .call)) 13 (a .page)) z = p3 .put-head3 .ensures .0
+    ∙ rw (p2 .put-head2 .ensures .0, p1 .put-head .ensures .0) in (
+      λ q. goes-on q (a .m .now) _ (a .call) (a .page) (b .pre .0) (b .pre .1) (b .pre .2) (b .pre .3) (b .pre .4) e,
+      omega arith,
+    )
 
 pub wait-further-spec : {M : Type 1} → statement M
-wait-further-spec = tie.close (tie.spec (λ c κs. search needs) (λ c κs. search needs) (λ c κs. search needs) (λ c. search needs) returns)
+wait-further-spec = tie.close (tie.spec (λ c κs. search needs) (λ c κs. search needs) (λ c κs. search needs)
+    (λ c. search needs) returns)

@@ -27,8 +27,10 @@ wait-further-requires c κs =
     let b = n .before .before .before in
     let a = b .args in
     let k = n .number .ensures in
-    let e = h .put-head .ensures .0 ∙ ap (λ (t : Mem). withHead (set (t .head) 15 (n .number .result + 1)) t) (s .stage-digest .ensures .0) in
-    let q = call-sent (a .m .now) _ (a .digest) _ k (omega (arith, k, b .pre .5)) (omega (arith, b .good)) (b .pre .6) e in
+    let e = h .put-head .ensures .0 ∙ ap (λ (t : Mem). withHead (set (t .head) 15 (n .number .result + 1)) t)
+    (s .stage-digest .ensures .0) in
+    let q = call-sent (a .m .now) _ (a .digest) _ k (omega (arith, k, b .pre .5)) (omega (arith, b .good)) (b .pre .6)
+    e in
     (omega (arith, q, b .pre .0), omega (arith, q, b .pre .1), b .pre .2, b .pre .3, b .pre .4, omega arith)
 
 returns : tie.Need-returns
@@ -41,8 +43,13 @@ returns c =
     let b = n .before .before .before in
     let a = b .args in
     let k = n .number .ensures in
-    let e = h .put-head .ensures .0 ∙ ap (λ (t : Mem). withHead (set (t .head) 15 (n .number .result + 1)) t) (s .stage-digest .ensures .0) in
-    (λ q. w .wait-further .ensures .0 q ∙ goes-on-sent (a .m .now) _ (a .digest) _ k (omega (arith, k, b .pre .5)) (omega (arith, b .good)) (b .pre .6) e q (a .call) (a .page) (b .pre .0) (b .pre .1), omega arith)
+    let e = h .put-head .ensures .0 ∙ ap (λ (t : Mem). withHead (set (t .head) 15 (n .number .result + 1)) t)
+    (s .stage-digest .ensures .0) in (
+      λ q. w .wait-further .ensures .0 q ∙ goes-on-sent (a .m .now) _ (a .digest) _ k (omega (arith, k, b .pre .5))
+          (omega (arith, b .good)) (b .pre .6) e q (a .call) (a .page) (b .pre .0) (b .pre .1),
+      omega arith,
+    )
 
 pub wait-sent-spec : {M : Type 1} → statement M
-wait-sent-spec = tie.close (tie.spec (λ c κs. search needs) stage-digest-requires (λ c. search needs) (λ c κs. search needs) wait-further-requires (λ c. search needs) returns)
+wait-sent-spec = tie.close (tie.spec (λ c κs. search needs) stage-digest-requires (λ c. search needs)
+    (λ c κs. search needs) wait-further-requires (λ c. search needs) returns)

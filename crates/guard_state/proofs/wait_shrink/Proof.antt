@@ -29,12 +29,19 @@ returns c =
     let z = memOf (a .m .now) in
     let y = set (set (set (set (clearedHead (z .head)) 3 11) 4 (a .node)) 5 (a .opened)) 12 (a .size) in
     let e : memOf _ ≡ withHead y z =
-    p4 .put-head4 .ensures .0 ∙ rw (p3 .put-head3 .ensures .0, p2 .put-head2 .ensures .0, p1 .put-head .ensures .0, k .clear .ensures .0) in
+    p4 .put-head4 .ensures .0 ∙ rw (
+      p3 .put-head3 .ensures .0,
+      p2 .put-head2 .ensures .0,
+      p1 .put-head .ensures .0,
+      k .clear .ensures .0,
+    ) in
     let n = shrink-numbers (z .head) (a .node) (a .opened) (omega arith) (omega arith) (a .size) (omega arith) in (
-      λ q. waits-as q (a .m .now) _ y e refl refl (fetching (a .node) (a .opened) (shrinking (a .size)) 0) gatheredNone refl
+      λ q. waits-as q (a .m .now) _ y e refl refl (fetching (a .node) (a .opened) (shrinking (a .size)) 0) gatheredNone
+          refl
           (ap (λ (g : Guard). pendingIn g (z .staged)) n) (ap (λ (g : Guard). gatheredIn g (z .staged)) n),
       (ap (λ (t : Mem). numbersOf (t .head)) e ∙ n, omega arith),
     )
 
 pub wait-shrink-spec : {M : Type 1} → statement M
-wait-shrink-spec = tie.close (tie.spec (λ c κs. search needs) (λ c κs. search needs) (λ c κs. search needs) (λ c κs. search needs) (λ c κs. search needs) (λ c. search needs) returns)
+wait-shrink-spec = tie.close (tie.spec (λ c κs. search needs) (λ c κs. search needs) (λ c κs. search needs)
+    (λ c κs. search needs) (λ c κs. search needs) (λ c. search needs) returns)

@@ -10,11 +10,30 @@ use Rattle.rules.specs.Pages.{pageAt, Change, writing, shrinking, first, last, 
 use Rattle.tables.specs.View.{Changeable}
 
 -- a change that the file can have, with a digest for each page that it stores
-pub change-changeable : (ns : List Node) (k : ℕ) (q : Change) → k < length ns → FitsSize q (nodeAt ns k .size) → pageTotal ns ≤ PAGES
+pub change-changeable : (ns : List Node) (k : ℕ) (q : Change) → k < length ns → FitsSize q (nodeAt ns k .size)
+    → pageTotal ns ≤ PAGES
     → pageTotal (setSize ns k (sizeAfter q (nodeAt ns k .size))) ≤ PAGES
     → last q - first q ≤ newDigests → Changeable ns k (sizeAfter q (nodeAt ns k .size)) (first q) (last q - first q)
 unfolding sizeAfter first last pageAt pagesFor
 change-changeable ns k (writing p d) h g b a f =
-    record { known = h; room-before = b; room-after = a; begins = let z = g .0 in omega arith; ends = let z = g .0 in omega arith; covered = let z = g .0 in omega arith; few = f }
+    record {
+      known = h;
+      room-before = b;
+      room-after = a;
+      begins = let z = g .0 in omega arith;
+      ends = let z = g .0 in
+          omega arith;
+      covered = let z = g .0 in omega arith;
+      few = f;
+    }
 change-changeable ns k (shrinking n) h g b a f =
-    record { known = h; room-before = b; room-after = a; begins = omega arith; ends = omega arith; covered = omega arith; few = f }
+    record {
+      known = h;
+      room-before = b;
+      room-after = a;
+      begins = omega arith;
+      ends = omega arith;
+      covered = omega
+          arith;
+      few = f;
+    }

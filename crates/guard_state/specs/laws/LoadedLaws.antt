@@ -27,19 +27,23 @@ module _ (m : List ℕ) (g : Guard) (e : g ≡ numbersOf (memOf m .head)) where
 
   pub nodes-loaded : (c : Config) → length (stateOf c m .skeleton .tables .nodes) ≡ g .nodes
   unfolding tablesIn
-  nodes-loaded c = ap (λ (x : Tables). length (x .nodes)) (sym (tables-loaded c)) ∙ count-nodes m (g .nodes) (counts-fit .0)
+  nodes-loaded c = ap (λ (x : Tables). length (x .nodes)) (sym (tables-loaded c))
+      ∙ count-nodes m (g .nodes) (counts-fit .0)
 
 -- the rows in use, by the numbers that the header holds
 module _ (m : List ℕ) (c : Config) where
-  pub node-loaded : (n k : ℕ) → n ≡ numbersOf (memOf m .head) .nodes → nodeAt (take n (memOf m .nodes)) k ≡ nodeAt (stateOf c m .skeleton .tables .nodes) k
+  pub node-loaded : (n k : ℕ) → n ≡ numbersOf (memOf m .head) .nodes → nodeAt (take n (memOf m .nodes)) k ≡ nodeAt
+      (stateOf c m .skeleton .tables .nodes) k
   unfolding stateOf stateIn viewOf
   node-loaded n k e = ap (λ (i : ℕ). nodeAt (take i (memOf m .nodes)) k) e
 
-  pub open-loaded : (o : ℕ) → o < numbersOf (memOf m .head) .opens → openAt (memOf m .opens) o ≡ openAt (stateOf c m .skeleton .tables .opens) o
+  pub open-loaded : (o : ℕ) → o < numbersOf (memOf m .head) .opens
+      → openAt (memOf m .opens) o ≡ openAt (stateOf c m .skeleton .tables .opens) o
   unfolding stateOf stateIn viewOf
   open-loaded o h = sym (open-front (numbersOf (memOf m .head) .opens) (memOf m .opens) o h)
 
-  pub node-there : (k : ℕ) → k < numbersOf (memOf m .head) .nodes → nodeAt (memOf m .nodes) k ≡ nodeAt (stateOf c m .skeleton .tables .nodes) k
+  pub node-there : (k : ℕ) → k < numbersOf (memOf m .head) .nodes
+      → nodeAt (memOf m .nodes) k ≡ nodeAt (stateOf c m .skeleton .tables .nodes) k
   unfolding stateOf stateIn viewOf
   node-there k h = sym (node-front (numbersOf (memOf m .head) .nodes) (memOf m .nodes) k h)
 

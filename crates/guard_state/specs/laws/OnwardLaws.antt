@@ -1,4 +1,5 @@
--- A change of a file's bytes, read from the header: the numbers as it begins, what it has gathered, and the state as it goes on.
+-- A change of a file's bytes, read from the header: the numbers as it begins, what it has gathered, and the state as it
+-- goes on.
 -- Assumes nothing.
 use mathlib.Core.Path.{_≡_, refl, ap, ap₂, sym, _∙_}
 use mathlib.Core.Bool.{false}
@@ -10,15 +11,20 @@ use lib.Seq.{getD-drop, getD-set-same, getD-set-other}
 use Rattle.lists.specs.Cells.{tab}
 use Rattle.lists.specs.Parts.{overwrite}
 use Rattle.filesystem.specs.Tables.{NODES, FILE-BYTES, DATA-BYTES}
-use Rattle.memory.specs.Layout.{Mem, memOf, headNumbers, openRows, newDigests, digestWidth, dataSize, memorySize, withHead, withStaged}
+use Rattle.memory.specs.Layout.{Mem, memOf, headNumbers, openRows, newDigests, digestWidth, dataSize, memorySize}
+use Rattle.memory.specs.Layout.{withHead, withStaged}
 use Rattle.memory.specs.laws.MemLaws.{length-head, length-staged}
-use Rattle.rules.specs.Requests.{asked, Pending, idle, creating, opening, closing, removing, changing, listing, stating, reading, fetching, storing, cutting}
+use Rattle.rules.specs.Requests.{asked, Pending, idle, creating, opening, closing, removing, changing, listing, stating}
+use Rattle.rules.specs.Requests.{reading, fetching, storing, cutting}
 use Rattle.rules.specs.Pages.{writing, shrinking}
 use Rattle.rules.specs.Skeleton.{Config}
 use Rattle.machine.specs.Machine.{Gathered}
 use Rattle.tables.specs.View.{viewOf, stagedDigests}
+use Rattle.guard_state.specs.Calls.{FETCHING, SHRINK-FETCHING, CUTTING}
 use Rattle.guard_state.specs.declared.Guard.{Guard}
-use Rattle.guard_state.specs.State.{filePages, numbersOf, pendings, pendingIn, gatheredIn, gatheredNone, gatheredBytes, gatheredDigests, stagedBytes, stateWith, stateIn, stateOf, clearedHead}
+use Rattle.guard_state.specs.State.{filePages, numbersOf, pendings, pendingIn, gatheredIn, gatheredNone}
+use Rattle.guard_state.specs.State.{gatheredBytes, gatheredDigests, stagedBytes, stateWith, stateIn, stateOf}
+use Rattle.guard_state.specs.State.{clearedHead}
 use Rattle.guard_state.specs.laws.StageLaws.{bytes-kept, digests-more}
 use Rattle.guard_state.specs.Waits.{waits}
 use Rattle.guard_state.specs.Onward.{writeNumbers, shrinkNumbers, goesOn}
@@ -27,13 +33,14 @@ use Rattle.guard_state.specs.laws.WaitLaws.{kept, head-cells, waits-as}
 -- as it begins
 module _ (h : List ℕ) (k o : ℕ) (f : k < NODES) (g : o < openRows) where
   pub write-numbers : (p n : ℕ) → p ≤ FILE-BYTES → n ≤ DATA-BYTES
-      → numbersOf (set (set (set (set (set (clearedHead h) 3 9) 4 k) 5 o) 10 p) 14 n) ≡ writeNumbers (numbersOf h) k o p n
+      → numbersOf (set (set (set (set (set (clearedHead h) 3 9) 4 k) 5 o) 10 p) 14 n) ≡ writeNumbers (numbersOf h) k o p
+      n
   unfolding numbersOf clearedHead writeNumbers
   write-numbers p n a b = λ i. record {
     nodes = getD h 0 0 % (NODES + 1);
     opens = getD h 1 0 % (openRows + 1);
     stopped = false;
-    call = 9;
+    call = FETCHING;
     node = kept k NODES f i;
     opened = kept o openRows g i;
     parent = 0;
@@ -48,13 +55,14 @@ module _ (h : List ℕ) (k o : ℕ) (f : k < NODES) (g : o < openRows) where
     digests = 0;
   }
 
-  pub shrink-numbers : (z : ℕ) → z ≤ FILE-BYTES → numbersOf (set (set (set (set (clearedHead h) 3 11) 4 k) 5 o) 12 z) ≡ shrinkNumbers (numbersOf h) k o z
+  pub shrink-numbers : (z : ℕ) → z ≤ FILE-BYTES
+      → numbersOf (set (set (set (set (clearedHead h) 3 11) 4 k) 5 o) 12 z) ≡ shrinkNumbers (numbersOf h) k o z
   unfolding numbersOf clearedHead shrinkNumbers
   shrink-numbers z a = λ i. record {
     nodes = getD h 0 0 % (NODES + 1);
     opens = getD h 1 0 % (openRows + 1);
     stopped = false;
-    call = 11;
+    call = SHRINK-FETCHING;
     node = kept k NODES f i;
     opened = kept o openRows g i;
     parent = 0;
@@ -78,7 +86,8 @@ five x d (suc (suc (suc zero))) h = refl
 five x d (suc (suc (suc (suc zero)))) h = refl
 five x d (suc (suc (suc (suc (suc n))))) h = absurd (omega arith)
 
-pub gathered-change : (g : Guard) (s : List ℕ) → 9 ≤ g .call → g .call ≤ 13 → gatheredIn g s ≡ gatheredDigests g s
+pub gathered-change : (g : Guard) (s : List ℕ) → FETCHING ≤ g .call → g .call ≤ CUTTING
+    → gatheredIn g s ≡ gatheredDigests g s
 unfolding gatheredIn
 gathered-change g s a b =
     let e : g .call ≡ 9 + (g .call - 9) = omega arith in
@@ -147,16 +156,20 @@ numbers-onward h call page e f =
 module _ (h : List ℕ) (call page : ℕ) where
   count-onward : (k : ℕ) → k < 2 → getD (onwardHead call page h) k 0 ≡ getD h k 0
   count-onward k f =
-      getD-set-other (set (set h 2 1) 3 call) 13 k page 0 (omega arith) ∙ getD-set-other (set h 2 1) 3 k call 0 (omega arith) ∙ getD-set-other h 2 k 1 0 (omega arith)
+      getD-set-other (set (set h 2 1) 3 call) 13 k page 0 (omega arith) ∙ getD-set-other (set h 2 1) 3 k call 0
+      (omega arith) ∙ getD-set-other h 2 k 1 0 (omega arith)
 
   stop-onward : 2 < length h → getD (onwardHead call page h) 2 0 ≡ 1
   stop-onward f =
-      getD-set-other (set (set h 2 1) 3 call) 13 2 page 0 (omega arith) ∙ getD-set-other (set h 2 1) 3 2 call 0 (omega arith) ∙ getD-set-same h 2 1 0 f
+      getD-set-other (set (set h 2 1) 3 call) 13 2 page 0 (omega arith) ∙ getD-set-other (set h 2 1) 3 2 call 0
+      (omega arith) ∙ getD-set-same h 2 1 0 f
 
-pub goes-on : (c : Config) (m x : List ℕ) (call page : ℕ) → 9 ≤ numbersOf (memOf m .head) .call → numbersOf (memOf m .head) .call ≤ 13 → 9 ≤ call → call ≤ 13
+pub goes-on : (c : Config) (m x : List ℕ) (call page : ℕ) → FETCHING ≤ numbersOf (memOf m .head) .call
+    → numbersOf (memOf m .head) .call ≤ CUTTING → FETCHING ≤ call → call ≤ CUTTING
     → page ≤ filePages
     → memOf x ≡ withHead (onwardHead call page (memOf m .head)) (memOf m)
-    → stateOf c x ≡ waits c (stateOf c m) (pendingIn (goesOn call page (numbersOf (memOf m .head))) (memOf m .staged)) (stateOf c m .progress)
+    → stateOf c x ≡ waits c (stateOf c m) (pendingIn (goesOn call page (numbersOf (memOf m .head))) (memOf m .staged))
+    (stateOf c m .progress)
 unfolding stateOf stateIn viewOf pendingIn pendings stagedBytes goesOn
 goes-on c m x call page a b f g p e =
     let h = memOf m .head in
@@ -165,11 +178,14 @@ goes-on c m x call page a b f g p e =
     let was : gatheredIn (numbersOf h) s ≡ gatheredDigests (numbersOf h) s = gathered-change (numbersOf h) s a b in
     let is : gatheredIn (numbersOf (onwardHead call page h)) s ≡ gatheredIn (numbersOf h) s =
     ap (λ (q : Guard). gatheredIn q s) n ∙ gathered-change (onwardNumbers call page (numbersOf h)) s f g ∙ sym was in
-    waits-as c m x (onwardHead call page h) e (count-onward h call page 0 (omega arith)) (count-onward h call page 1 (omega arith))
-    (pendingIn (goesOn call page (numbersOf h)) s) (gatheredIn (numbersOf h) s) (stop-onward h call page (omega (arith, length-head m))) (ap (λ (q : Guard). pendingIn q s) n) is
+    waits-as c m x (onwardHead call page h) e (count-onward h call page 0 (omega arith))
+    (count-onward h call page 1 (omega arith))
+    (pendingIn (goesOn call page (numbersOf h)) s) (gatheredIn (numbersOf h) s)
+    (stop-onward h call page (omega (arith, length-head m))) (ap (λ (q : Guard). pendingIn q s) n) is
 
 -- the header's count of new digests, and the staging area, say nothing of the tables
-waits-over : (c : Config) (m x y s : List ℕ) (p : Pending) (a : Gathered) → memOf x ≡ withHead y (withStaged s (memOf m))
+waits-over : (c : Config) (m x y s : List ℕ) (p : Pending) (a : Gathered)
+    → memOf x ≡ withHead y (withStaged s (memOf m))
     → getD y 0 0 ≡ getD (memOf m .head) 0 0 → getD y 1 0 ≡ getD (memOf m .head) 1 0
     → waits c (stateOf c x) p a ≡ waits c (stateOf c m) p a
 unfolding stateOf stateIn viewOf waits numbersOf
@@ -198,34 +214,41 @@ digestNumbers n g = record {
   digests = n;
 }
 
-numbers-digest : (h : List ℕ) (n : ℕ) → length h ≡ headNumbers → n ≤ newDigests → numbersOf (set h 15 n) ≡ digestNumbers n (numbersOf h)
+numbers-digest : (h : List ℕ) (n : ℕ) → length h ≡ headNumbers → n ≤ newDigests → numbersOf (set h 15 n) ≡ digestNumbers
+    n (numbersOf h)
 unfolding numbersOf tab
 numbers-digest h n e f =
-    ap (λ (x : List ℕ). numbersOf (set x 15 n)) (head-cells 16 h (omega arith)) ∙ ap (λ (x : ℕ). digestNumbers x (numbersOf h)) (kept n (newDigests + 1) (omega arith))
+    ap (λ (x : List ℕ). numbersOf (set x 15 n)) (head-cells 16 h (omega arith))
+    ∙ ap (λ (x : ℕ). digestNumbers x (numbersOf h)) (kept n (newDigests + 1) (omega arith))
 
 abbrev sentDigests : List (List ℕ) → Gathered
 sentDigests l = record { bytes = []; digests = l }
 
 -- a digest is staged behind those before
-module _ (m x d : List ℕ) (k : ℕ) (at : k ≡ numbersOf (memOf m .head) .digests) (room : k < newDigests) (wide : length d ≡ digestWidth) (fits : memorySize ≤ length m)
-    (e : memOf x ≡ withHead (set (memOf m .head) 15 (k + 1)) (withStaged (overwrite (memOf m .staged) (dataSize + k * digestWidth) d) (memOf m))) where
+module _ (m x d : List ℕ) (k : ℕ) (at : k ≡ numbersOf (memOf m .head) .digests) (room : k < newDigests)
+    (wide : length d ≡ digestWidth) (fits : memorySize ≤ length m)
+    (e : memOf x ≡ withHead (set (memOf m .head) 15 (k + 1))
+    (withStaged (overwrite (memOf m .staged) (dataSize + k * digestWidth) d) (memOf m))) where
   numbers-sent : numbersOf (memOf x .head) ≡ digestNumbers (k + 1) (numbersOf (memOf m .head))
-  numbers-sent = ap (λ (t : Mem). numbersOf (t .head)) e ∙ numbers-digest (memOf m .head) (k + 1) (length-head m) (omega arith)
+  numbers-sent = ap (λ (t : Mem). numbersOf (t .head)) e ∙ numbers-digest (memOf m .head) (k + 1) (length-head m)
+      (omega arith)
 
   -- the call is as it was
   pub call-sent : numbersOf (memOf x .head) .call ≡ numbersOf (memOf m .head) .call
   call-sent = ap (λ (g : Guard). g .call) numbers-sent
 
   pending-sent : (call page : ℕ)
-      → pendingIn (goesOn call page (numbersOf (memOf x .head))) (memOf x .staged) ≡ pendingIn (goesOn call page (numbersOf (memOf m .head))) (memOf m .staged)
+      → pendingIn (goesOn call page (numbersOf (memOf x .head))) (memOf x .staged) ≡ pendingIn
+      (goesOn call page (numbersOf (memOf m .head))) (memOf m .staged)
   unfolding numbersOf goesOn pendingIn pendings stagedBytes
   pending-sent call page =
       let g = goesOn call page (numbersOf (memOf m .head)) in
       ap (λ (q : Guard). pendingIn (goesOn call page q) (memOf x .staged)) numbers-sent
       ∙ ap (λ (t : Mem). pendingIn g (t .staged)) e
-      ∙ pending-kept g (overwrite (memOf m .staged) (dataSize + k * digestWidth) d) (memOf m .staged) (bytes-kept (memOf m .staged) (length-staged m fits) d g k (omega arith) wide room)
+      ∙ pending-kept g (overwrite (memOf m .staged) (dataSize + k * digestWidth) d) (memOf m .staged)
+      (bytes-kept (memOf m .staged) (length-staged m fits) d g k (omega arith) wide room)
 
-  progress-sent : (c : Config) → 9 ≤ numbersOf (memOf m .head) .call → numbersOf (memOf m .head) .call ≤ 13
+  progress-sent : (c : Config) → FETCHING ≤ numbersOf (memOf m .head) .call → numbersOf (memOf m .head) .call ≤ CUTTING
       → stateOf c x .progress ≡ record { bytes = []; digests = stateOf c m .progress .digests ++ (d ∷ []) }
   unfolding stateOf stateIn viewOf
   progress-sent c a b =
@@ -233,7 +256,8 @@ module _ (m x d : List ℕ) (k : ℕ) (at : k ≡ numbersOf (memOf m .head) .dig
       let s = overwrite (memOf m .staged) (dataSize + k * digestWidth) d in
       let n = digestNumbers (k + 1) g in
       let y : stagedDigests k (memOf m .staged) ≡ gatheredIn g (memOf m .staged) .digests =
-      ap (λ (i : ℕ). stagedDigests i (memOf m .staged)) at ∙ sym (ap (λ (q : Gathered). q .digests) (gathered-change g (memOf m .staged) a b)) in
+      ap (λ (i : ℕ). stagedDigests i (memOf m .staged)) at
+      ∙ sym (ap (λ (q : Gathered). q .digests) (gathered-change g (memOf m .staged) a b)) in
       ap (λ (q : Guard). gatheredIn q (memOf x .staged)) numbers-sent
       ∙ ap (λ (t : Mem). gatheredIn n (t .staged)) e
       ∙ gathered-change n s a b
@@ -241,10 +265,15 @@ module _ (m x d : List ℕ) (k : ℕ) (at : k ≡ numbersOf (memOf m .head) .dig
       ∙ ap (λ (l : List (List ℕ)). sentDigests (l ++ (d ∷ []))) y
 
   -- a state that goes on from there
-  pub goes-on-sent : (c : Config) (call page : ℕ) → 9 ≤ numbersOf (memOf m .head) .call → numbersOf (memOf m .head) .call ≤ 13
-      → waits c (stateOf c x) (pendingIn (goesOn call page (numbersOf (memOf x .head))) (memOf x .staged)) (stateOf c x .progress)
-      ≡ waits c (stateOf c m) (pendingIn (goesOn call page (numbersOf (memOf m .head))) (memOf m .staged)) (record { bytes = []; digests = stateOf c m .progress .digests ++ (d ∷ []) })
+  pub goes-on-sent : (c : Config) (call page : ℕ) → FETCHING ≤ numbersOf (memOf m .head) .call
+      → numbersOf (memOf m .head) .call ≤ CUTTING
+      → waits c (stateOf c x) (pendingIn (goesOn call page (numbersOf (memOf x .head))) (memOf x .staged))
+      (stateOf c x .progress)
+      ≡ waits c (stateOf c m) (pendingIn (goesOn call page (numbersOf (memOf m .head))) (memOf m .staged))
+      (record { bytes = []; digests = stateOf c m .progress .digests ++ (d ∷ []) })
   goes-on-sent c call page a b =
       ap₂ (waits c (stateOf c x)) (pending-sent call page) (progress-sent c a b)
-      ∙ waits-over c m x (set (memOf m .head) 15 (k + 1)) (overwrite (memOf m .staged) (dataSize + k * digestWidth) d) _ _ e
-      (getD-set-other (memOf m .head) 15 0 (k + 1) 0 (omega arith)) (getD-set-other (memOf m .head) 15 1 (k + 1) 0 (omega arith))
+      ∙ waits-over c m x (set (memOf m .head) 15 (k + 1)) (overwrite (memOf m .staged) (dataSize + k * digestWidth) d) _
+      _ e
+      (getD-set-other (memOf m .head) 15 0 (k + 1) 0 (omega arith)) (getD-set-other (memOf m .head) 15 1 (k + 1) 0
+      (omega arith))

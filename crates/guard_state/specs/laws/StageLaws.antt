@@ -21,7 +21,8 @@ module _ (s : List ℕ) (full : length s ≡ stagingSize) (x : List ℕ) where
   pub bytes-more : (n : ℕ) → n + length x ≤ dataSize → take (n + length x) (overwrite s n x) ≡ take n s ++ x
   bytes-more n h = take-overwrite s n x (n + length x) refl (omega arith)
 
-  pub digests-kept : (n k : ℕ) → n + length x ≤ dataSize → k ≤ newDigests → stagedDigests k (overwrite s n x) ≡ stagedDigests k s
+  pub digests-kept : (n k : ℕ) → n + length x ≤ dataSize → k ≤ newDigests
+      → stagedDigests k (overwrite s n x) ≡ stagedDigests k s
   unfolding stagedDigests
   digests-kept n k h g = ap (rows digestWidth k) (part-after s n x dataSize (k * digestWidth) h (omega arith))
 
@@ -40,8 +41,10 @@ module _ (s : List ℕ) (full : length s ≡ stagingSize) (x : List ℕ) where
       let l : length (rows digestWidth (k + 1) b) ≡ k + 1 = length-rows digestWidth (k + 1) b in
       let front : take k (rows digestWidth (k + 1) b) ≡ rows digestWidth k (part dataSize (k * digestWidth) s) =
       sym (rows-part digestWidth (k + 1) b 0 k (omega arith) (omega arith))
-      ∙ ap (rows digestWidth k) (part-part dataSize ((k + 1) * digestWidth) (0 * digestWidth) (k * digestWidth) s (omega arith)) in
-      ap (rows digestWidth (k + 1)) (part-within s (dataSize + k * digestWidth) x dataSize ((k + 1) * digestWidth) (k * digestWidth) refl (omega arith) (omega arith))
+      ∙ ap (rows digestWidth k) (part-part dataSize ((k + 1) * digestWidth) (0 * digestWidth) (k * digestWidth) s
+      (omega arith)) in
+      ap (rows digestWidth (k + 1)) (part-within s (dataSize + k * digestWidth) x dataSize ((k + 1) * digestWidth)
+      (k * digestWidth) refl (omega arith) (omega arith))
       ∙ rows-set digestWidth (k + 1) b k x e (omega arith) (omega arith)
       ∙ set-split (rows digestWidth (k + 1) b) k x (omega arith)
       ∙ rw (front, drop-of-length-le (rows digestWidth (k + 1) b) {i = suc k} (omega arith))

@@ -3,7 +3,7 @@
 use mathlib.Core.Path.{_≡_, ap}
 use mathlib.Core.Bool.{true}
 use mathlib.Core.List.{List, [], _∷_}
-use Prim.Native.Nat.{ℕ, _*_}
+use Prim.Native.Nat.{ℕ}
 use native.Mathlib.Omega.{arith}
 use lib.Dec.{eqb}
 use lib.ListN.{take, drop}
@@ -27,4 +27,5 @@ pub zeros-stopped : (c : Config) (m : List ℕ) → Zeros m → stateOf c m .ske
 unfolding stateOf stateIn numbersOf memOf memFrom part table rows
 zeros-stopped c m h =
     ap (λ (n : ℕ). eqb n 0)
-    (decode-zeros (take 8 (drop 8 (drop 8 (take nodesAt (drop 0 m))))) (all-take 8 (all-drop 8 (all-drop 8 (all-take nodesAt (all-drop 0 h))))))
+    (decode-zeros (take 8 (drop 8 (drop 8 (take nodesAt (drop 0 m)))))
+    (all-take 8 (all-drop 8 (all-drop 8 (all-take nodesAt (all-drop 0 h))))))

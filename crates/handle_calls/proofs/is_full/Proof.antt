@@ -25,7 +25,8 @@ returns-2 c w o s =
     let a = c .before .before .before .before .before .before .args in
     let e = count-nodes (a .m .now) (a .n) (omega arith) in
     let new = c .before .before .before .pages-for .ensures .0 in
-    let old = c .before .pages-for2 .ensures .0 ∙ ap pagesFor (c .before .before .node-size .ensures ∙ sym (size-front (a .n) (memOf (a .m .now) .nodes) (a .k) (omega arith))) in
+    let old = c .before .pages-for2 .ensures .0 ∙ ap pagesFor (c .before .before .node-size .ensures
+    ∙ sym (size-front (a .n) (memOf (a .m .now) .nodes) (a .k) (omega arith))) in
     sym (room-left w (tablesIn (a .n) o (memOf (a .m .now))) (a .k) (a .size) s (omega arith) (omega (arith, new, old)))
 
 returns-3 : tie.Need-returns-3
@@ -33,4 +34,5 @@ unfolding noRoom tablesIn
 returns-3 c w o s = ap (ltb 1024) (c .pages-with .ensures)
 
 pub is-full-spec : {M : Type 1} → statement M
-is-full-spec = tie.close (tie.spec returns (λ c κs. search needs) (λ c κs. search needs) (λ c κs. search needs) returns-2 (λ c κs. search needs) returns-3)
+is-full-spec = tie.close (tie.spec returns (λ c κs. search needs) (λ c κs. search needs) (λ c κs. search needs)
+    returns-2 (λ c κs. search needs) returns-3)

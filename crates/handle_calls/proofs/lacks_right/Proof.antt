@@ -25,7 +25,8 @@ returns-2 c =
     let a = c .before .before .before .args in
     let os = take (a .o) (memOf (a .m .now) .opens) in
     let e : length os ≡ a .o = count-opens (a .m .now) (a .o) (omega arith) in
-    let q = c .open-rights .ensures ∙ ap (λ (x : OpenFile). x .rights) (sym (open-front (a .o) (memOf (a .m .now) .opens) (a .k) (omega arith))) in
+    let q = c .open-rights .ensures
+    ∙ ap (λ (x : OpenFile). x .rights) (sym (open-front (a .o) (memOf (a .m .now) .opens) (a .k) (omega arith))) in
     ap (λ x. not (eqb (x / a .right % 2) 1)) q ∙ sym (lacks-there os (a .right) (a .k) (omega arith))
 
 pub lacks-right-spec : {M : Type 1} → statement M

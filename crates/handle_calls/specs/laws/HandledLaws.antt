@@ -1,22 +1,23 @@
 -- The calls by handle check after check, and the tables of a memory read through the rows in use.
 -- Assumes nothing.
-use mathlib.Core.Path.{_≡_, ap, ap₂, sym, subst, _∙_}
-use mathlib.Core.Bool.{Bool, true, false, not}
-use mathlib.Core.List.{List, [], _∷_}
-use Prim.Native.Nat.{ℕ, _+_, _/_, _%_, _≤_, _<_, max}
+use mathlib.Core.Path.{_≡_, ap, sym, subst, _∙_}
+use mathlib.Core.Bool.{true, false, not}
+use mathlib.Core.List.{List, []}
+use Prim.Native.Nat.{ℕ, _/_, _%_, _≤_, _<_}
 use native.Mathlib.Omega.{arith}
-use lib.Dec.{eqb, ltb}
+use lib.Dec.{eqb}
 use lib.ListN.{length, take, List·getD-eq-default}
 use lib.Seq.{getD-take, set-out}
 use borrow.Author.Tests.{leb-false, le-leb, lt-leb, lt-ltb, le-ltb}
 use Rattle.lists.specs.Equal.{or-fst}
-use Rattle.lists.specs.Checks.{decide, check-last, check-passes, check-stops}
-use Rattle.filesystem.specs.Tables.{FILE-BYTES, PAGES, Node, OpenFile, Tables, noNode, nodeAt, openAt, absent, findId, findHandle, pagesFor, pageTotal, setSize}
+use Rattle.lists.specs.Checks.{check-last, check-stops}
+use Rattle.filesystem.specs.Tables.{PAGES, Node, OpenFile, Tables, noNode, nodeAt, openAt, absent, findId, findHandle}
+use Rattle.filesystem.specs.Tables.{pagesFor, pageTotal, setSize}
 use Rattle.filesystem.specs.Image.{soundNodes}
 use Rattle.filesystem.specs.Sound.{to-sound}
 use Rattle.memory.specs.Layout.{memOf, openRows}
-use Rattle.rules.specs.Calls.{Call, close, seek, read, write, truncate}
-use Rattle.rules.specs.Rules.{noRoom, callChecks}
+use Rattle.rules.specs.Calls.{Call}
+use Rattle.rules.specs.Rules.{noRoom}
 use Rattle.handle_calls.specs.Judged.{handledFor, Judgement, lacksRight, endChecked}
 use Rattle.handle_calls.specs.declared.Handled.{Handled}
 use Rattle.handle_calls.specs.declared.Handled.the-variants.{Open, Refused}
@@ -27,18 +28,26 @@ use Rattle.tables.specs.laws.ChangeLaws.{total-set}
 
 -- A judgement: of a refusal, of an open file in place k, and read at tables that are the memory's.
 module _ {m : List ℕ} {n o h : ℕ} {q : Call} where
-  pub judged-refused : (x : ℕ) → ((w : ℕ) → soundNodes w (take n (memOf m .nodes)) ≡ true → handledFor (tablesIn n o (memOf m)) h q ≡ Refused x)
+  pub judged-refused : (x : ℕ) → ((w : ℕ) → soundNodes w (take n (memOf m .nodes)) ≡ true
+      → handledFor (tablesIn n o (memOf m)) h q ≡ Refused x)
       → Judgement m n o h q (Refused x)
-  judged-refused x e = record { judged = λ w s. sym (e w s); there = λ i j f. absurd (let z : _≡_ {A = ℕ} 0 1 = cc in omega arith) }
+  judged-refused x e = record {
+    judged = λ w s. sym (e w s);
+    there = λ i j f. absurd (let z : _≡_ {A = ℕ} 0 1 = cc in
+        omega arith);
+  }
 
-  pub judged-open : (k j : ℕ) → k < o → ((w : ℕ) → soundNodes w (take n (memOf m .nodes)) ≡ true → handledFor (tablesIn n o (memOf m)) h q ≡ Open k j)
+  pub judged-open : (k j : ℕ) → k < o → ((w : ℕ) → soundNodes w (take n (memOf m .nodes)) ≡ true
+      → handledFor (tablesIn n o (memOf m)) h q ≡ Open k j)
       → Judgement m n o h q (Open k j)
   judged-open k j l e = record { judged = λ w s. sym (e w s); there = λ i z f. let p : k ≡ i = cc in omega arith }
 
-  pub judged-at : (r : Handled) → Judgement m n o h q r → (t : Tables) → tablesIn n o (memOf m) ≡ t → (w : ℕ) → soundNodes w (t .nodes) ≡ true
+  pub judged-at : (r : Handled) → Judgement m n o h q r → (t : Tables) → tablesIn n o (memOf m) ≡ t → (w : ℕ)
+      → soundNodes w (t .nodes) ≡ true
       → r ≡ handledFor t h q
   unfolding tablesIn
-  judged-at r g t e w s = g .judged w (subst (λ (x : Tables). soundNodes w (x .nodes) ≡ true) (sym e) s) ∙ ap (λ (x : Tables). handledFor x h q) e
+  judged-at r g t e w s = g .judged w (subst (λ (x : Tables). soundNodes w (x .nodes) ≡ true) (sym e) s)
+      ∙ ap (λ (x : Tables). handledFor x h q) e
 
 -- a size, within the nodes and past them
 pub size-front : (n : ℕ) (ns : List Node) (k : ℕ) → k < n → nodeAt (take n ns) k .size ≡ nodeAt ns k .size
@@ -53,7 +62,8 @@ size-past ns k h = ap (λ (x : Node). x .size) (List·getD-eq-default ns noNode 
 module _ (w : ℕ) (t : Tables) (k size : ℕ) (s : soundNodes w (t .nodes) ≡ true) where
   pub room-past : length (t .nodes) ≤ k → noRoom t k size ≡ false
   unfolding noRoom setSize
-  room-past h = le-ltb _ _ (subst (λ (p : ℕ). p ≤ PAGES) (sym (ap pageTotal (set-out (t .nodes) k _ h))) (to-sound w (t .nodes) s .pages))
+  room-past h = le-ltb _ _ (subst (λ (p : ℕ). p ≤ PAGES) (sym (ap pageTotal (set-out (t .nodes) k _ h)))
+      (to-sound w (t .nodes) s .pages))
 
   pub room-left : k < length (t .nodes) → pagesFor size ≤ pagesFor (nodeAt (t .nodes) k .size) → noRoom t k size ≡ false
   unfolding noRoom
@@ -78,94 +88,33 @@ module _ (os : List OpenFile) (right k : ℕ) where
   has-there e = leb-false (length os) k (or-fst _ _ e)
 
 -- an open file with a right, among those of a memory
-module _ (m : List ℕ) (o right k : ℕ) (fits : o ≤ openRows) (has : lacksRight (take o (memOf m .opens)) right k ≡ false) where
-  pub has-place : k < o
-  has-place = let e = count-opens m o fits in let h = has-there (take o (memOf m .opens)) right k has in omega arith
+module _ (m : List ℕ) (o right k : ℕ) (fits : o ≤ openRows) (has : lacksRight (take o (memOf m .opens)) right k ≡ false)
+  where
+    pub has-place : k < o
+    has-place = let e = count-opens m o fits in let h = has-there (take o (memOf m .opens)) right k has in omega arith
 
-  pub has-cursor : openAt (memOf m .opens) k .cursor ≡ openAt (take o (memOf m .opens)) k .cursor
-  has-cursor = ap (λ (x : OpenFile). x .cursor) (sym (open-front o (memOf m .opens) k has-place))
+    pub has-cursor : openAt (memOf m .opens) k .cursor ≡ openAt (take o (memOf m .opens)) k .cursor
+    has-cursor = ap (λ (x : OpenFile). x .cursor) (sym (open-front o (memOf m .opens) k has-place))
 
 -- where the position is past the end, and where not
 module _ (ns : List Node) (h k p node size : ℕ) (known : node ≡ findId ns h) (sized : size ≡ nodeAt ns node .size) where
-  size-known : size ≡ nodeAt ns (findId ns h) .size
+  pub size-known : size ≡ nodeAt ns (findId ns h) .size
   size-known = sized ∙ ap (λ (j : ℕ). nodeAt ns j .size) known
 
   pub end-past : size < p → endChecked ns h k p ≡ Refused 22
   unfolding endChecked
-  end-past l = let e = size-known in check-stops Refused 22 _ [] _ (lt-ltb (nodeAt ns (findId ns h) .size) p (omega arith))
+  end-past l = let e = size-known in check-stops Refused 22 _ [] _ (lt-ltb (nodeAt ns (findId ns h) .size) p
+      (omega arith))
 
   pub end-within : p ≤ size → endChecked ns h k p ≡ Open k node
   unfolding endChecked
-  end-within l = let e = size-known in check-last Refused 22 _ _ (le-ltb (nodeAt ns (findId ns h) .size) p (omega arith)) ∙ ap (λ (j : ℕ). Open k j) (sym known)
+  end-within l = let e = size-known in check-last Refused 22 _ _ (le-ltb (nodeAt ns (findId ns h) .size) p
+      (omega arith)) ∙ ap (λ (j : ℕ). Open k j) (sym known)
 
--- The calls, of which the open file is in place k.
+-- the open file of a call is in place k
 module _ (t : Tables) (h k : ℕ) (found : k ≡ findHandle (t .opens) h) where
-  there : absent (t .opens) (findHandle (t .opens) h) ≡ absent (t .opens) k
+  pub there : absent (t .opens) (findHandle (t .opens) h) ≡ absent (t .opens) k
   there = ap (absent (t .opens)) (sym found)
 
-  allowed : (right : ℕ) → lacksRight (t .opens) right (findHandle (t .opens) h) ≡ lacksRight (t .opens) right k
+  pub allowed : (right : ℕ) → lacksRight (t .opens) right (findHandle (t .opens) h) ≡ lacksRight (t .opens) right k
   allowed right = ap (lacksRight (t .opens) right) (sym found)
-
-  pub close-refused : length (t .opens) ≤ k → handledFor t h (close h) ≡ Refused 9
-  unfolding handledFor callChecks
-  close-refused l = check-stops Refused 9 _ [] _ (there ∙ le-leb _ _ l)
-
-  pub close-handled : (node : ℕ) → node ≡ findId (t .nodes) h → k < length (t .opens) → handledFor t h (close h) ≡ Open k node
-  unfolding handledFor callChecks
-  close-handled node e l = check-last Refused 9 _ _ (there ∙ lt-leb _ _ l) ∙ ap₂ (λ (i j : ℕ). Open i j) (sym found) (sym e)
-
-  pub read-refused : (n : ℕ) → lacksRight (t .opens) 1 k ≡ true → handledFor t h (read h n) ≡ Refused 9
-  unfolding handledFor callChecks lacksRight
-  read-refused n e = check-stops Refused 9 _ [] _ (allowed 1 ∙ e)
-
-  pub read-handled : (n node : ℕ) → node ≡ findId (t .nodes) h → lacksRight (t .opens) 1 k ≡ false → handledFor t h (read h n) ≡ Open k node
-  unfolding handledFor callChecks lacksRight
-  read-handled n node q e = check-last Refused 9 _ _ (allowed 1 ∙ e) ∙ ap₂ (λ (i j : ℕ). Open i j) (sym found) (sym q)
-
-  pub seek-refused : (p : ℕ) → length (t .opens) ≤ k → handledFor t h (seek h p) ≡ Refused 9
-  unfolding handledFor callChecks
-  seek-refused p l = check-stops Refused 9 _ _ _ (there ∙ le-leb _ _ l)
-
-  pub seek-handled : (p : ℕ) → k < length (t .opens) → handledFor t h (seek h p) ≡ endChecked (t .nodes) h k p
-  unfolding handledFor callChecks endChecked
-  seek-handled p l = check-passes Refused 9 _ _ _ (there ∙ lt-leb _ _ l) ∙ ap (λ j. endChecked (t .nodes) h j p) (sym found)
-
-  pub truncate-refused : (p : ℕ) → lacksRight (t .opens) 2 k ≡ true → handledFor t h (truncate h p) ≡ Refused 9
-  unfolding handledFor callChecks lacksRight
-  truncate-refused p e = check-stops Refused 9 _ _ _ (allowed 2 ∙ e)
-
-  pub truncate-handled : (p : ℕ) → lacksRight (t .opens) 2 k ≡ false → handledFor t h (truncate h p) ≡ endChecked (t .nodes) h k p
-  unfolding handledFor callChecks endChecked lacksRight
-  truncate-handled p e = check-passes Refused 9 _ _ _ (allowed 2 ∙ e) ∙ ap (λ j. endChecked (t .nodes) h j p) (sym found)
-
-  pub write-refused : (d : List ℕ) → lacksRight (t .opens) 2 k ≡ true → handledFor t h (write h d) ≡ Refused 9
-  unfolding handledFor callChecks lacksRight
-  write-refused d e = check-stops Refused 9 _ _ _ (allowed 2 ∙ e)
-
-  -- a write with its right, by where it ends
-  module _ (d : List ℕ) (end : ℕ) (ends : end ≡ openAt (t .opens) k .cursor + length d) (has : lacksRight (t .opens) 2 k ≡ false) where
-    write-passed : handledFor t h (write h d)
-        ≡ decide Refused ((27, ltb FILE-BYTES end) ∷ (28, noRoom t (findId (t .nodes) h) (max (nodeAt (t .nodes) (findId (t .nodes) h) .size) end)) ∷ []) (Open k (findId (t .nodes) h))
-    unfolding handledFor callChecks lacksRight
-    write-passed =
-        check-passes Refused 9 _ _ _ (allowed 2 ∙ has)
-        ∙ ap₂ (λ (j e : ℕ). decide Refused ((27, ltb FILE-BYTES e) ∷ (28, noRoom t (findId (t .nodes) h) (max (nodeAt (t .nodes) (findId (t .nodes) h) .size) e)) ∷ []) (Open j (findId (t .nodes) h)))
-        (sym found) (ap (λ (j : ℕ). openAt (t .opens) j .cursor + length d) (sym found) ∙ sym ends)
-
-    pub write-long : FILE-BYTES < end → handledFor t h (write h d) ≡ Refused 27
-    write-long l = write-passed ∙ check-stops Refused 27 _ _ _ (lt-ltb FILE-BYTES end l)
-
-    -- and by the size that its file would have
-    module _ (node size larger : ℕ) (full : Bool) (known : node ≡ findId (t .nodes) h) (sized : size ≡ nodeAt (t .nodes) node .size) (grown : larger ≡ max size end) (room : full ≡ noRoom t node larger) where
-      full-known : noRoom t (findId (t .nodes) h) (max (nodeAt (t .nodes) (findId (t .nodes) h) .size) end) ≡ full
-      full-known = sym (room ∙ ap₂ (noRoom t) known (grown ∙ ap (λ (s : ℕ). max s end) (size-known (t .nodes) h k end node size known sized)))
-
-      pub write-full : end ≤ FILE-BYTES → full ≡ true → handledFor t h (write h d) ≡ Refused 28
-      write-full l e = write-passed ∙ check-passes Refused 27 _ _ _ (le-ltb FILE-BYTES end l) ∙ check-stops Refused 28 _ _ _ (full-known ∙ e)
-
-      pub write-handled : end ≤ FILE-BYTES → full ≡ false → handledFor t h (write h d) ≡ Open k node
-      write-handled l e =
-          write-passed
-          ∙ check-passes Refused 27 _ _ _ (le-ltb FILE-BYTES end l)
-          ∙ check-last Refused 28 _ _ (full-known ∙ e)
-          ∙ ap (λ (j : ℕ). Open k j) (sym known)

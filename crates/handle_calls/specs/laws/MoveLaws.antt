@@ -33,4 +33,5 @@ module _ (t : Tables) (h : ℕ) (q : Call) (r : Handled) (e : r ≡ handledFor t
   unfolding handledFor
   passed-at k j f =
       decide-ind Refused (λ y. y ≡ Open k j → PassedAt t h q k j) (callChecks t q) _
-      (λ n g z. absurd (let y : _≡_ {A = ℕ} 0 1 = cc in omega arith)) (λ p z. record { checks = p; open-place = cc; file-place = cc }) (sym e ∙ f)
+      (λ n g z. absurd (let y : _≡_ {A = ℕ} 0 1 = cc in omega arith))
+      (λ p z. record { checks = p; open-place = cc; file-place = cc }) (sym e ∙ f)

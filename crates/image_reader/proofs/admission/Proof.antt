@@ -20,7 +20,8 @@ use Rattle.image_reader.proofs.admission.Statement.{statement}
 use Rattle.image_reader.proofs.admission.Tie as tie
 
 is-in-limits-requires : tie.Need-is-in-limits-requires
-is-in-limits-requires c κs = let h = record-least ID-BYTES (c .before .before .args .image .now) (c .before .before .args .at) in omega (arith, h)
+is-in-limits-requires c κs = let h = record-least ID-BYTES (c .before .before .args .image .now)
+    (c .before .before .args .at) in omega (arith, h)
 
 returns : tie.Need-returns
 returns c =
@@ -68,7 +69,8 @@ add-result-2 c =
     let if2 = c .before .before .before .before .before .if2 in
     let is-named = c .before .before .before .before .before .before .is-named in
     let n = c .before .before .before .before .before .before .before .record-name .result .now in
-    let h : length n ≤ 32 = leb-true _ _ (and-snd (componentForm n) _ (sym (is-named .ensures) ∙ not-false _ (if2 .left))) in
+    let h : length n ≤ 32 = leb-true _ _ (and-snd (componentForm n) _ (sym (is-named .ensures)
+    ∙ not-false _ (if2 .left))) in
     omega (arith, c .shared-slice-known3 .given (c .before .before .parent-place .result))
 
 returns-5 : tie.Need-returns-5
@@ -85,9 +87,11 @@ returns-5 c =
     let x = recordAt ID-BYTES s (a .at) in
     let b = nodesFrom ID-BYTES s 4 (a .i) in
     let l = a .lengths .now in
-    let nq : (is-named .result) ≡ isNamed x = is-named .ensures ∙ ap (λ (n : List ℕ). componentForm n && leb (length n) NAME-BYTES) (record-name .ensures) in
+    let nq : (is-named .result) ≡ isNamed x = is-named .ensures
+    ∙ ap (λ (n : List ℕ). componentForm n && leb (length n) NAME-BYTES) (record-name .ensures) in
     let j = c .before .before .parent-place .ensures in
-    let h = admit-yes ID-BYTES b l x (sym (is-in-limits .ensures) ∙ not-false _ (if1 .left)) (sym nq ∙ not-false _ (if2 .left))
+    let h = admit-yes ID-BYTES b l x (sym (is-in-limits .ensures) ∙ not-false _ (if1 .left)) (sym nq
+    ∙ not-false _ (if2 .left))
     (sym (clashes .ensures) ∙ if3 .left)
     (omega (arith, length-from ID-BYTES s 4 (a .i), j)) in
     let e = ap length (record-name .ensures) in
@@ -96,5 +100,6 @@ returns-5 c =
 
 pub admission-spec : {M : Type 1} → statement M
 admission-spec =
-    tie.close (tie.spec is-in-limits-requires returns (λ c κs. search needs) (λ c κs. search needs) returns-2 (λ c κs. search needs) returns-3 (λ c κs. search needs)
+    tie.close (tie.spec is-in-limits-requires returns (λ c κs. search needs) (λ c κs. search needs) returns-2
+    (λ c κs. search needs) returns-3 (λ c κs. search needs)
     returns-4 (λ c. search needs) (λ c. search needs) cast-result add-result-2 returns-5)

@@ -7,7 +7,8 @@ use mathlib.Core.List.{[], _∷_}
 use Prim.Native.Nat.{ℕ, _+_, _-_, _≤_, _<_}
 use lib.ListN.{length, take, length-set}
 use Rattle.image_reader.specs.laws.RecordLaws.{record-least, record-in, end-next, end-rises}
-use Rattle.image_reader.specs.laws.StepLaws.{first-end, first-admitted, next-end, admitted-stop, admitted-step, admitted-end}
+use Rattle.image_reader.specs.laws.StepLaws.{first-end, first-admitted, next-end, admitted-stop, admitted-step}
+use Rattle.image_reader.specs.laws.StepLaws.{admitted-end}
 use Rattle.image_reader.specs.Admission.{admitted}
 use borrow.Author.Needs.{needs}
 use Rattle.image_reader.proofs.all_admitted.Statement.{statement}
@@ -15,8 +16,11 @@ use Rattle.image_reader.proofs.all_admitted.Tie as tie
 
 abbrev Inv-loop : tie.InvT-loop
 Inv-loop image n lengths₀ at₀ i₀ lengths at i =
-    (0 < i) × (i ≤ n) × (length lengths ≡ length lengths₀) × (at ≡ endFrom ID-BYTES image 4 i) × (endFrom ID-BYTES image at (n - i) ≡ endFrom ID-BYTES image 4 n)
-    × (admitted ID-BYTES (nodesFrom ID-BYTES image 4 i) (take i lengths) (nodesFrom ID-BYTES image at (n - i)) ≡ admitted ID-BYTES (recordAt ID-BYTES image 4 ∷ []) (0 ∷ []) (nodesFrom ID-BYTES image (recordEnd ID-BYTES image 4) (n - 1)))
+    (0 < i) × (i ≤ n) × (length lengths ≡ length lengths₀) × (at ≡ endFrom ID-BYTES image 4 i)
+    × (endFrom ID-BYTES image at (n - i) ≡ endFrom ID-BYTES image 4 n)
+    × (admitted ID-BYTES (nodesFrom ID-BYTES image 4 i) (take i lengths) (nodesFrom ID-BYTES image at (n - i)) ≡
+    admitted ID-BYTES (recordAt ID-BYTES image 4 ∷ []) (0 ∷ [])
+    (nodesFrom ID-BYTES image (recordEnd ID-BYTES image 4) (n - 1)))
 
 abbrev μ-loop : tie.MeasureT-loop
 μ-loop image n lengths₀ at₀ i₀ lengths at i = n - i
@@ -52,17 +56,20 @@ admission-requires c κs =
     (omega (arith, g), omega (arith, h, l .inv .4), omega (arith, l .inv .2, length-set (a .lengths .now) 0 0))
 
 same-length : tie.Need-same-length Inv-loop μ-loop
-same-length c = let a = c .before .before .before .before .before .before .before .before .args in let l = c .before .before .before .before .loop in l .inv .2 ∙ length-set (a .lengths .now) 0 0
+same-length c = let a = c .before .before .before .before .before .before .before .before .args in let l =
+    c .before .before .before .before .loop in l .inv .2 ∙ length-set (a .lengths .now) 0 0
 
 returns : tie.Need-returns Inv-loop μ-loop
 returns c =
     let a = c .before .before .before .before .before .before .before .before .args in
     let s = a .image .now in
     let l = c .before .before .before .before .loop in
-    sym (sym (l .inv .5) ∙ admitted-stop ID-BYTES s (l .at) (l .i) (a .n) (l .lengths) (l .inv .3) (omega arith) (omega (arith, c .before .admission .ensures)))
+    sym (sym (l .inv .5) ∙ admitted-stop ID-BYTES s (l .at) (l .i) (a .n) (l .lengths) (l .inv .3) (omega arith)
+    (omega (arith, c .before .admission .ensures)))
 
 slice-write-lengths-2 : tie.Need-slice-write-lengths-2 Inv-loop μ-loop
-slice-write-lengths-2 c = let a = c .before .before .before .before .before .before .before .before .args in omega (arith, c .before .before .before .before .loop .inv .2, length-set (a .lengths .now) 0 0)
+slice-write-lengths-2 c = let a = c .before .before .before .before .before .before .before .before .args in omega
+    (arith, c .before .before .before .before .loop .inv .2, length-set (a .lengths .now) 0 0)
 
 record-end-requires-2 : tie.Need-record-end-requires-2 Inv-loop μ-loop
 record-end-requires-2 c κs =
@@ -86,20 +93,25 @@ loop-again c =
       length-set (l .lengths) (l .i) _ ∙ l .inv .2,
       next-end ID-BYTES s (l .at) (l .i) (l .inv .3) r,
       ap₂ (endFrom ID-BYTES s) r e ∙ sym (end-next ID-BYTES s (l .at) (a .n - l .i) (omega arith)) ∙ l .inv .4,
-      admitted-step ID-BYTES s (l .at) (l .i) (a .n) (l .lengths) (l .inv .3) (omega arith) _ _ (omega (arith, l .inv .2, k)) (c .before .before .admission .ensures) (omega arith) r ∙ l .inv .5,
+      admitted-step ID-BYTES s (l .at) (l .i) (a .n) (l .lengths) (l .inv .3) (omega arith) _ _
+          (omega (arith, l .inv .2, k)) (c .before .before .admission .ensures) (omega arith) r ∙ l .inv .5,
     )
 
 same-length-2 : tie.Need-same-length-2 Inv-loop μ-loop
-same-length-2 c = let a = c .before .before .before .before .before .args in let l = c .before .loop in l .inv .2 ∙ length-set (a .lengths .now) 0 0
+same-length-2 c = let a = c .before .before .before .before .before .args in let l = c .before .loop in l .inv .2
+    ∙ length-set (a .lengths .now) 0 0
 
 returns-2 : tie.Need-returns-2 Inv-loop μ-loop
 returns-2 c =
     let a = c .before .before .before .before .before .args in
     let s = a .image .now in
     let l = c .before .loop in
-    sym (sym (l .inv .5) ∙ admitted-end ID-BYTES s (nodesFrom ID-BYTES s 4 (l .i)) (take (l .i) (l .lengths)) (l .at) (a .n - l .i) (omega arith))
+    sym (sym (l .inv .5) ∙ admitted-end ID-BYTES s (nodesFrom ID-BYTES s 4 (l .i)) (take (l .i) (l .lengths)) (l .at)
+    (a .n - l .i) (omega arith))
 
 pub all-admitted-spec : {M : Type 1} → statement M
 all-admitted-spec =
-    tie.close (tie.spec Inv-loop μ-loop (λ c. search needs) record-end-requires loop-holds admission-requires same-length returns (λ c. search needs)
-    slice-write-lengths-2 record-end-requires-2 (λ c. search needs) (λ c. search needs) loop-again same-length-2 returns-2)
+    tie.close (tie.spec Inv-loop μ-loop (λ c. search needs) record-end-requires loop-holds admission-requires
+    same-length returns (λ c. search needs)
+    slice-write-lengths-2 record-end-requires-2 (λ c. search needs) (λ c. search needs) loop-again same-length-2
+    returns-2)

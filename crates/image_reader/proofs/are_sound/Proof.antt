@@ -62,10 +62,12 @@ returns-5 c =
     let s = a .image .now in
     let h = positive (a .n) (c .before .before .before .before .before .before .before .before .before .if1 .left) in
     c .before .all-admitted .ensures
-    ∙ by-admission ID-BYTES s (a .n) h (sym (is-root .ensures) ∙ not-false _ (if2 .left)) (sym (is-in-limits .ensures) ∙ not-false _ (if3 .left))
+    ∙ by-admission ID-BYTES s (a .n) h (sym (is-root .ensures) ∙ not-false _ (if2 .left)) (sym (is-in-limits .ensures)
+    ∙ not-false _ (if3 .left))
     (omega arith) (omega (arith, page-sum .ensures))
 
 pub are-sound-spec : {M : Type 1} → statement M
 are-sound-spec =
-    tie.close (tie.spec returns is-root-requires returns-2 is-in-limits-requires returns-3 (λ c κs. search needs) returns-4 (λ c. search needs)
+    tie.close (tie.spec returns is-root-requires returns-2 is-in-limits-requires returns-3 (λ c κs. search needs)
+    returns-4 (λ c. search needs)
     (λ c κs. search needs) returns-5)

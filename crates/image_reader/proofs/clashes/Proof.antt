@@ -14,7 +14,8 @@ use Rattle.image_reader.proofs.clashes.Tie as tie
 abbrev Inv-loop : tie.InvT-loop
 Inv-loop image at i a₀ seen₀ a seen =
     (seen ≤ i) × (endFrom ID-BYTES image a (i - seen) ≡ endFrom ID-BYTES image 4 i)
-    × (any (clash (recordAt ID-BYTES image at)) (nodesFrom ID-BYTES image a (i - seen)) ≡ any (clash (recordAt ID-BYTES image at)) (nodesFrom ID-BYTES image 4 i))
+    × (any (clash (recordAt ID-BYTES image at)) (nodesFrom ID-BYTES image a (i - seen)) ≡ any
+    (clash (recordAt ID-BYTES image at)) (nodesFrom ID-BYTES image 4 i))
 
 abbrev μ-loop : tie.MeasureT-loop
 μ-loop image at i a₀ seen₀ a seen = i - seen
@@ -43,7 +44,8 @@ returns c =
     let s = a .image .now in
     let l = c .before .before .before .loop in
     let x = recordAt ID-BYTES s (a .at) in
-    sym (sym (l .inv .2) ∙ any-hit ID-BYTES s (clash x) (l .a) (a .i - l .seen) (omega arith) (sym (c .before .is-clash .ensures) ∙ c .if1 .taken))
+    sym (sym (l .inv .2) ∙ any-hit ID-BYTES s (clash x) (l .a) (a .i - l .seen) (omega arith)
+    (sym (c .before .is-clash .ensures) ∙ c .if1 .taken))
 
 record-end-requires : tie.Need-record-end-requires Inv-loop μ-loop
 record-end-requires c κs =
@@ -66,7 +68,8 @@ loop-again c =
       omega arith,
       ap₂ (endFrom ID-BYTES s) r e ∙ sym (end-next ID-BYTES s (l .a) (a .i - l .seen) (omega arith)) ∙ l .inv .1,
       ap₂ (λ (p n : ℕ). any (clash x) (nodesFrom ID-BYTES s p n)) r e
-          ∙ sym (any-miss ID-BYTES s (clash x) (l .a) (a .i - l .seen) (omega arith) (sym (c .before .before .is-clash .ensures) ∙ c .before .if1 .left))
+          ∙ sym (any-miss ID-BYTES s (clash x) (l .a) (a .i - l .seen) (omega arith)
+          (sym (c .before .before .is-clash .ensures) ∙ c .before .if1 .left))
           ∙ l .inv .2,
     )
 
@@ -80,4 +83,5 @@ returns-2 c =
 
 pub clashes-spec : {M : Type 1} → statement M
 clashes-spec =
-    tie.close (tie.spec Inv-loop μ-loop loop-holds is-clash-requires returns record-end-requires (λ c. search needs) (λ c. search needs) loop-again returns-2)
+    tie.close (tie.spec Inv-loop μ-loop loop-holds is-clash-requires returns record-end-requires (λ c. search needs)
+    (λ c. search needs) loop-again returns-2)

@@ -15,16 +15,19 @@ use Rattle.image_reader.proofs.is_clash.Statement.{statement}
 use Rattle.image_reader.proofs.is_clash.Tie as tie
 
 record-id-requires : tie.Need-record-id-requires
-record-id-requires c κs = let h = record-least ID-BYTES (c .before .args .image .now) (c .before .args .a) in omega (arith, h)
+record-id-requires c κs = let h = record-least ID-BYTES (c .before .args .image .now) (c .before .args .a) in omega
+    (arith, h)
 
 record-id-requires-2 : tie.Need-record-id-requires-2
-record-id-requires-2 c κs = let h = record-least ID-BYTES (c .before .before .args .image .now) (c .before .before .args .b) in omega (arith, h)
+record-id-requires-2 c κs = let h = record-least ID-BYTES (c .before .before .args .image .now)
+    (c .before .before .args .b) in omega (arith, h)
 
 returns : tie.Need-returns
 returns c =
     let a = c .before .before .before .before .args in
     let s = a .image .now in let x = recordAt ID-BYTES s (a .a) in let y = recordAt ID-BYTES s (a .b) in
-    let e : eqb (x .id) (y .id) ≡ true = eq-eqb _ _ (sym (c .before .before .record-id .ensures) ∙ c .if1 .taken ∙ c .before .record-id2 .ensures) in rw e
+    let e : eqb (x .id) (y .id) ≡ true = eq-eqb _ _ (sym (c .before .before .record-id .ensures) ∙ c .if1 .taken
+    ∙ c .before .record-id2 .ensures) in rw e
 
 record-parent-requires : tie.Need-record-parent-requires
 record-parent-requires c κs =
@@ -43,9 +46,11 @@ returns-2 c =
     let record-id = c .before .before .before .before .before .record-id in
     let a = c .before .before .before .before .before .before .before .args in
     let s = a .image .now in let x = recordAt ID-BYTES s (a .a) in let y = recordAt ID-BYTES s (a .b) in
-    let d : eqb (x .id) (y .id) ≡ false = ne-eqb _ _ (λ q. if1 .left (record-id .ensures ∙ q ∙ sym (record-id2 .ensures))) in
+    let d : eqb (x .id) (y .id) ≡ false = ne-eqb _ _ (λ q. if1 .left (record-id .ensures ∙ q
+    ∙ sym (record-id2 .ensures))) in
     let e : eqb (x .parent) (y .parent) ≡ false = ne-eqb _ _
-    (λ q. c .if2 .taken (c .before .before .record-parent .ensures ∙ q ∙ sym (c .before .record-parent2 .ensures))) in rw (d, e)
+    (λ q. c .if2 .taken (c .before .before .record-parent .ensures ∙ q ∙ sym (c .before .record-parent2 .ensures))) in
+    rw (d, e)
 
 returns-3 : tie.Need-returns-3
 returns-3 c =
@@ -57,11 +62,15 @@ returns-3 c =
     let record-id = c .before .before .before .before .before .before .before .before .record-id in
     let a = c .before .before .before .before .before .before .before .before .before .before .args in
     let s = a .image .now in let x = recordAt ID-BYTES s (a .a) in let y = recordAt ID-BYTES s (a .b) in
-    let d : eqb (x .id) (y .id) ≡ false = ne-eqb _ _ (λ q. if1 .left (record-id .ensures ∙ q ∙ sym (record-id2 .ensures))) in
-    let e : eqb (x .parent) (y .parent) ≡ true = eq-eqb _ _ (sym (record-parent .ensures) ∙ if2 .left ∙ record-parent2 .ensures) in
-    rw (d, e) (c .same .ensures ∙ ap₂ (λ (u v : List ℕ). equal u v) (c .before .before .record-name .ensures) (c .before .record-name2 .ensures))
+    let d : eqb (x .id) (y .id) ≡ false = ne-eqb _ _ (λ q. if1 .left (record-id .ensures ∙ q
+    ∙ sym (record-id2 .ensures))) in
+    let e : eqb (x .parent) (y .parent) ≡ true = eq-eqb _ _ (sym (record-parent .ensures) ∙ if2 .left
+    ∙ record-parent2 .ensures) in
+    rw (d, e) (c .same .ensures ∙ ap₂ (λ (u v : List ℕ). equal u v) (c .before .before .record-name .ensures)
+    (c .before .record-name2 .ensures))
 
 pub is-clash-spec : {M : Type 1} → statement M
 is-clash-spec =
-    tie.close (tie.spec record-id-requires record-id-requires-2 returns record-parent-requires record-parent-requires-2 returns-2 (λ c κs. search needs)
+    tie.close (tie.spec record-id-requires record-id-requires-2 returns record-parent-requires record-parent-requires-2
+    returns-2 (λ c κs. search needs)
     (λ c κs. search needs) (λ c κs. search needs) returns-3)

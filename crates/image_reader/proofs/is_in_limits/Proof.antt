@@ -21,7 +21,8 @@ returns : tie.Need-returns
 unfolding inLimits
 returns c =
     let a = c .before .before .before .args in
-    let x = recordAt ID-BYTES (a .image .now) (a .at) in let e : eqb (x .id) 0 ≡ true = eq-eqb _ _ (sym (c .before .record-id .ensures) ∙ c .if1 .taken) in rw e
+    let x = recordAt ID-BYTES (a .image .now) (a .at) in let e : eqb (x .id) 0 ≡ true = eq-eqb _ _
+    (sym (c .before .record-id .ensures) ∙ c .if1 .taken) in rw e
 
 returns-2 : tie.Need-returns-2
 unfolding inLimits
@@ -41,13 +42,17 @@ returns-3 c =
     let a = c .before .before .before .before .before .before .before .before .args in
     let x = recordAt ID-BYTES (a .image .now) (a .at) in
     let s = a .image .now in
-    let b : Bytes s = bytes-of s (λ k. omega (arith, c .before .before .before .before .before .before .before .shared-slice-known .given k)) in
+    let b : Bytes s = bytes-of s
+    (λ k. omega (arith, c .before .before .before .before .before .before .before .shared-slice-known .given k)) in
     let d : eqb (x .id) 0 ≡ false = ne-eqb _ _ (λ q. if1 .left (record-id .ensures ∙ q)) in
     let g : ltb (x .id) (256 ^ ID-BYTES) ≡ true = lt-ltb _ _ (id-below ID-BYTES s (a .at) b (omega arith)) in
-    let e : leb (x .mode) 7 ≡ true = le-leb (x .mode) 7 (omega (arith, c .before .before .before .before .record-mode .ensures)) in
-    rw (d, g, e) (c .is-kind-and-size .ensures ∙ ap₂ (λ (k z : ℕ). eqb k 1 && leb z 65536 || eqb k 2 && eqb z 0) (c .before .before .record-kind .ensures) (c .before .record-size .ensures))
+    let e : leb (x .mode) 7 ≡ true = le-leb (x .mode) 7
+    (omega (arith, c .before .before .before .before .record-mode .ensures)) in
+    rw (d, g, e) (c .is-kind-and-size .ensures ∙ ap₂ (λ (k z : ℕ). eqb k 1 && leb z 65536 || eqb k 2 && eqb z 0)
+    (c .before .before .record-kind .ensures) (c .before .record-size .ensures))
 
 pub is-in-limits-spec : {M : Type 1} → statement M
 is-in-limits-spec =
-    tie.close (tie.spec (λ c κs. search needs) returns (λ c κs. search needs) returns-2 (λ c κs. search needs) (λ c κs. search needs) (λ c κs. search needs)
+    tie.close (tie.spec (λ c κs. search needs) returns (λ c κs. search needs) returns-2 (λ c κs. search needs)
+    (λ c κs. search needs) (λ c κs. search needs)
     returns-3)

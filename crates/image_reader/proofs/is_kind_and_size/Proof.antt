@@ -10,7 +10,8 @@ returns-2 : tie.Need-returns-2
 returns-2 c = folder-case (c .before .before .args .kind) (c .before .before .args .size) (c .if2 .taken)
 
 returns-3 : tie.Need-returns-3
-returns-3 c = neither-case (c .before .before .args .kind) (c .before .before .args .size) (c .before .if1 .left) (c .if2 .left)
+returns-3 c = neither-case (c .before .before .args .kind) (c .before .before .args .size) (c .before .if1 .left)
+    (c .if2 .left)
 
 pub is-kind-and-size-spec : {M : Type 1} → statement M
 is-kind-and-size-spec = tie.close (tie.spec returns returns-2 returns-3)

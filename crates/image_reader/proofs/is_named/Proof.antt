@@ -15,7 +15,8 @@ use Rattle.image_reader.proofs.is_named.Statement.{statement}
 use Rattle.image_reader.proofs.is_named.Tie as tie
 
 returns : tie.Need-returns
-returns c = let n = c .before .before .args .name .now in rw (lt-leb (length n) 32 (c .if1 .taken)) (sym (and-false (componentForm n)))
+returns c = let n = c .before .before .args .name .now in rw (lt-leb (length n) 32 (c .if1 .taken))
+    (sym (and-false (componentForm n)))
 
 returns-2 : tie.Need-returns-2
 returns-2 c = let n = c .before .before .before .before .args .name .now in
@@ -25,7 +26,8 @@ returns-2 c = let n = c .before .before .before .before .args .name .now in
 returns-3 : tie.Need-returns-3
 returns-3 c = let n = c .before .before .before .before .before .args .name .now in
     let e : isName n ≡ true = sym (c .before .before .is-name .ensures) ∙ not-false _ (c .before .if2 .left) in
-    rw (component-name n, e, le-leb (length n) 32 (c .before .before .before .if1 .left)) (c .is-plain .ensures ∙ sym (and-true (every plainByte n)))
+    rw (component-name n, e, le-leb (length n) 32 (c .before .before .before .if1 .left)) (c .is-plain .ensures
+    ∙ sym (and-true (every plainByte n)))
 
 pub is-named-spec : {M : Type 1} → statement M
 is-named-spec = tie.close (tie.spec returns (λ c κs. search needs) returns-2 (λ c κs. search needs) returns-3)

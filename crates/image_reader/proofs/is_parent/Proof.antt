@@ -11,14 +11,17 @@ use Rattle.image_reader.proofs.is_parent.Statement.{statement}
 use Rattle.image_reader.proofs.is_parent.Tie as tie
 
 returns : tie.Need-returns
-returns c = let x = recordAt ID-BYTES (c .before .before .before .args .image .now) (c .before .before .before .args .a) in
-    let e : eqb (x .id) (c .before .before .before .args .id) ≡ false = ne-eqb _ _ (λ q. c .if1 .taken (c .before .record-id .ensures ∙ q)) in rw e
+returns c = let x = recordAt ID-BYTES (c .before .before .before .args .image .now) (c .before .before .before .args .a)
+    in
+    let e : eqb (x .id) (c .before .before .before .args .id) ≡ false = ne-eqb _ _
+    (λ q. c .if1 .taken (c .before .record-id .ensures ∙ q)) in rw e
 
 returns-2 : tie.Need-returns-2
 returns-2 c =
     let a = c .before .before .before .before .args in
     let x = recordAt ID-BYTES (a .image .now) (a .a) in
-    let e : eqb (x .id) (a .id) ≡ true = eq-eqb _ _ (sym (c .before .before .record-id .ensures) ∙ c .before .if1 .left) in rw e
+    let e : eqb (x .id) (a .id) ≡ true = eq-eqb _ _ (sym (c .before .before .record-id .ensures)
+    ∙ c .before .if1 .left) in rw e
     (ap (λ (k : ℕ). eqb k 2) (c .record-kind .ensures))
 
 pub is-parent-spec : {M : Type 1} → statement M

@@ -26,18 +26,22 @@ returns c =
 
 returns-2 : tie.Need-returns-2 Inv-loop μ-loop
 returns-2 c =
-    let n = c .before .before .before .before .before .before .args .name .now in let l = c .before .before .before .before .before .loop in sym
+    let n = c .before .before .before .before .before .before .args .name .now in let l =
+    c .before .before .before .before .before .loop in sym
     (sym (l .inv .1) ∙ plain-slash n (l .i) (omega arith) (c .if2 .taken))
 
 loop-again : tie.Need-loop-again Inv-loop μ-loop
 loop-again c =
-    let n = c .before .before .before .before .before .before .args .name .now in let l = c .before .before .before .before .before .loop in
+    let n = c .before .before .before .before .before .before .args .name .now in let l =
+    c .before .before .before .before .before .loop in
     (omega arith, sym (plain-next n (l .i) (omega arith) (c .before .before .if1 .left) (c .if2 .left)) ∙ l .inv .1)
 
 returns-3 : tie.Need-returns-3 Inv-loop μ-loop
-returns-3 c = let n = c .before .before .args .name .now in let l = c .before .loop in sym (sym (l .inv .1) ∙ plain-end n (l .i) (omega arith))
+returns-3 c = let n = c .before .before .args .name .now in let l = c .before .loop in sym (sym (l .inv .1)
+    ∙ plain-end n (l .i) (omega arith))
 
 pub is-plain-spec : {M : Type 1} → statement M
 is-plain-spec =
-    tie.close (tie.spec Inv-loop μ-loop loop-holds (λ c. search needs) returns (λ c. search needs) returns-2 (λ c. search needs) (λ c. search needs) loop-again
+    tie.close (tie.spec Inv-loop μ-loop loop-holds (λ c. search needs) returns (λ c. search needs) returns-2
+    (λ c. search needs) (λ c. search needs) loop-again
     returns-3)

@@ -16,7 +16,8 @@ use Rattle.image_reader.proofs.is_root.Statement.{statement}
 use Rattle.image_reader.proofs.is_root.Tie as tie
 
 record-id-requires : tie.Need-record-id-requires
-record-id-requires c κs = let h = record-least ID-BYTES (c .before .args .image .now) (c .before .args .at) in omega (arith, h)
+record-id-requires c κs = let h = record-least ID-BYTES (c .before .args .image .now) (c .before .args .at) in omega
+    (arith, h)
 
 returns : tie.Need-returns
 returns c =
@@ -33,7 +34,8 @@ returns-2 : tie.Need-returns-2
 returns-2 c =
     let record-id = c .before .before .before .record-id in
     let a = c .before .before .before .before .before .args in
-    let x = recordAt ID-BYTES (a .image .now) (a .at) in let d : eqb (x .id) 1 ≡ true = eq-eqb _ _ (sym (record-id .ensures) ∙ c .before .before .if1 .left) in
+    let x = recordAt ID-BYTES (a .image .now) (a .at) in let d : eqb (x .id) 1 ≡ true = eq-eqb _ _
+    (sym (record-id .ensures) ∙ c .before .before .if1 .left) in
     let e : eqb (x .kind) 2 ≡ false = ne-eqb _ _ (λ q. c .if2 .taken (c .before .record-kind .ensures ∙ q)) in rw (d, e)
 
 record-parent-requires : tie.Need-record-parent-requires
@@ -46,20 +48,27 @@ returns-3 c =
     let if1 = c .before .before .before .before .if1 in
     let record-id = c .before .before .before .before .before .record-id in
     let a = c .before .before .before .before .before .before .before .args in
-    let x = recordAt ID-BYTES (a .image .now) (a .at) in let d : eqb (x .id) 1 ≡ true = eq-eqb _ _ (sym (record-id .ensures) ∙ if1 .left) in
-    let e : eqb (x .kind) 2 ≡ true = eq-eqb _ _ (sym (c .before .before .before .record-kind .ensures) ∙ c .before .before .if2 .left) in
-    let f : eqb (x .parent) 0 ≡ false = ne-eqb _ _ (λ q. c .if3 .taken (c .before .record-parent .ensures ∙ q)) in rw (d, e, f)
+    let x = recordAt ID-BYTES (a .image .now) (a .at) in let d : eqb (x .id) 1 ≡ true = eq-eqb _ _
+    (sym (record-id .ensures) ∙ if1 .left) in
+    let e : eqb (x .kind) 2 ≡ true = eq-eqb _ _ (sym (c .before .before .before .record-kind .ensures)
+    ∙ c .before .before .if2 .left) in
+    let f : eqb (x .parent) 0 ≡ false = ne-eqb _ _ (λ q. c .if3 .taken (c .before .record-parent .ensures ∙ q)) in
+    rw (d, e, f)
 
 returns-4 : tie.Need-returns-4
 returns-4 c =
     let if1 = c .before .before .before .before .before .if1 in
     let record-id = c .before .before .before .before .before .before .record-id in
     let a = c .before .before .before .before .before .before .before .before .args in
-    let x = recordAt ID-BYTES (a .image .now) (a .at) in let d : eqb (x .id) 1 ≡ true = eq-eqb _ _ (sym (record-id .ensures) ∙ if1 .left) in
-    let e : eqb (x .kind) 2 ≡ true = eq-eqb _ _ (sym (c .before .before .before .before .record-kind .ensures) ∙ c .before .before .before .if2 .left) in
-    let f : eqb (x .parent) 0 ≡ true = eq-eqb _ _ (sym (c .before .before .record-parent .ensures) ∙ c .before .if3 .left) in
+    let x = recordAt ID-BYTES (a .image .now) (a .at) in let d : eqb (x .id) 1 ≡ true = eq-eqb _ _
+    (sym (record-id .ensures) ∙ if1 .left) in
+    let e : eqb (x .kind) 2 ≡ true = eq-eqb _ _ (sym (c .before .before .before .before .record-kind .ensures)
+    ∙ c .before .before .before .if2 .left) in
+    let f : eqb (x .parent) 0 ≡ true = eq-eqb _ _ (sym (c .before .before .record-parent .ensures)
+    ∙ c .before .if3 .left) in
     rw (d, e, f) (ap (λ (l : List ℕ). eqb (length l) 0) (c .record-name .ensures) ∙ no-bytes (x .name))
 
 pub is-root-spec : {M : Type 1} → statement M
 is-root-spec =
-    tie.close (tie.spec record-id-requires returns record-kind-requires returns-2 record-parent-requires returns-3 (λ c κs. search needs) returns-4)
+    tie.close (tie.spec record-id-requires returns record-kind-requires returns-2 record-parent-requires returns-3
+    (λ c κs. search needs) returns-4)

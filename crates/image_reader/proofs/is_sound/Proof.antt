@@ -21,7 +21,8 @@ returns : tie.Need-returns
 returns c =
     let s = c .before .before .before .args .image .now in
     let b : Bytes s = bytes-of s (λ k. omega (arith, c .before .before .shared-slice-known .given k)) in
-    sym (unparsed ID-BYTES s b (form-none ID-BYTES s (c .before .form .result) (c .before .form .ensures) (c .if1 .taken)))
+    sym (unparsed ID-BYTES s b (form-none ID-BYTES s (c .before .form .result) (c .before .form .ensures)
+    (c .if1 .taken)))
 
 u32-at-requires : tie.Need-u32-at-requires
 u32-at-requires c κs =
@@ -32,7 +33,8 @@ u32-at-requires c κs =
 are-sound-requires : tie.Need-are-sound-requires
 are-sound-requires c κs =
     let s = c .before .before .before .before .args .image .now in
-    let (e, f) = form-some ID-BYTES s (c .before .before .form .result) (c .before .before .form .ensures) (c .before .if1 .left) in
+    let (e, f) = form-some ID-BYTES s (c .before .before .form .result) (c .before .before .form .ensures)
+    (c .before .if1 .left) in
     let q = ap (endFrom ID-BYTES s 4) (c .u32-at .ensures) in
     (omega (arith, f .count, c .u32-at .ensures), omega (arith, f .within, q))
 
@@ -42,9 +44,11 @@ returns-2 c =
     let form = c .before .before .before .before .form in
     let s = c .before .before .before .before .before .before .args .image .now in
     let (e, f) = form-some ID-BYTES s (form .result) (form .ensures) (if1 .left) in
-    let z : soundNodes ID-BYTES (imageNodes ID-BYTES s) ≡ false = ap (λ (n : ℕ). soundNodes ID-BYTES (nodesFrom ID-BYTES s 4 n))
+    let z : soundNodes ID-BYTES (imageNodes ID-BYTES s) ≡ false =
+    ap (λ (n : ℕ). soundNodes ID-BYTES (nodesFrom ID-BYTES s 4 n))
     (sym (c .before .before .u32-at .ensures)) ∙ sym (c .before .are-sound .ensures) ∙ not-true _ (c .if2 .taken) in
-    sym (parsed-formed ID-BYTES s f ∙ ap (λ (b : Bool). b && eqb (digestCount ID-BYTES s) (pageTotal (imageNodes ID-BYTES s))) z)
+    sym (parsed-formed ID-BYTES s f
+    ∙ ap (λ (b : Bool). b && eqb (digestCount ID-BYTES s) (pageTotal (imageNodes ID-BYTES s))) z)
 
 u32-at-requires-2 : tie.Need-u32-at-requires-2
 u32-at-requires-2 c κs =
@@ -71,13 +75,18 @@ returns-3 c =
     let s = c .before .before .before .before .before .before .before .before .args .image .now in
     let (e, f) = form-some ID-BYTES s (form .result) (form .ensures) (if1 .left) in
     let q = c .before .before .before .before .u32-at .ensures in
-    let z : soundNodes ID-BYTES (imageNodes ID-BYTES s) ≡ true = ap (λ (n : ℕ). soundNodes ID-BYTES (nodesFrom ID-BYTES s 4 n)) (sym q)
+    let z : soundNodes ID-BYTES (imageNodes ID-BYTES s) ≡ true =
+    ap (λ (n : ℕ). soundNodes ID-BYTES (nodesFrom ID-BYTES s 4 n)) (sym q)
     ∙ sym (are-sound .ensures) ∙ not-false _ (c .before .before .if2 .left) in
-    let d : c .before .u32-at2 .result ≡ digestCount ID-BYTES s = c .before .u32-at2 .ensures ∙ ap (λ (p : ℕ). decode (part p 4 s)) e in
-    let g : c .page-sum .result ≡ pageTotal (imageNodes ID-BYTES s) = c .page-sum .ensures ∙ ap (λ (n : ℕ). pageTotal (nodesFrom ID-BYTES s 4 n)) q in
-    ap₂ eqb d g ∙ sym (parsed-formed ID-BYTES s f ∙ ap (λ (b : Bool). b && eqb (digestCount ID-BYTES s) (pageTotal (imageNodes ID-BYTES s))) z)
+    let d : c .before .u32-at2 .result ≡ digestCount ID-BYTES s = c .before .u32-at2 .ensures
+    ∙ ap (λ (p : ℕ). decode (part p 4 s)) e in
+    let g : c .page-sum .result ≡ pageTotal (imageNodes ID-BYTES s) = c .page-sum .ensures
+    ∙ ap (λ (n : ℕ). pageTotal (nodesFrom ID-BYTES s 4 n)) q in
+    ap₂ eqb d g ∙ sym (parsed-formed ID-BYTES s f
+    ∙ ap (λ (b : Bool). b && eqb (digestCount ID-BYTES s) (pageTotal (imageNodes ID-BYTES s))) z)
 
 pub is-sound-spec : {M : Type 1} → statement M
 is-sound-spec =
-    tie.close (tie.spec (λ c κs. search needs) returns u32-at-requires (λ c. search needs) are-sound-requires returns-2 u32-at-requires-2 (λ c. search needs)
+    tie.close (tie.spec (λ c κs. search needs) returns u32-at-requires (λ c. search needs) are-sound-requires returns-2
+    u32-at-requires-2 (λ c. search needs)
     page-sum-requires returns-3)

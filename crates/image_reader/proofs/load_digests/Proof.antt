@@ -20,9 +20,14 @@ put-digests-requires c κs =
     let a = c .before .before .before .before .before .args in
     let s = a .image .now in
     let p = c .before .before .before .before .before .pre in
-    let d : c .before .before .u32-at .result ≡ digestCount ID-BYTES s = c .before .before .u32-at .ensures ∙ ap (λ (e : ℕ). decode (part e 4 s)) (p .0) in
-    let n = length-drop (a .end + 4) s in
-    (omega (arith, d, p .2), length-take-le (length s - (a .end + 4)) (drop (a .end + 4) s) (omega (arith, n)) ∙ omega (arith, d, p .1), omega (arith, p .3))
+    let d : c .before .before .u32-at .result ≡ digestCount ID-BYTES s = c .before .before .u32-at .ensures
+    ∙ ap (λ (e : ℕ). decode (part e 4 s)) (p .0) in
+    let n = length-drop (a .end + 4) s in (
+      omega (arith, d, p .2),
+      length-take-le (length s - (a .end + 4)) (drop (a .end + 4) s) (omega (arith, n))
+          ∙ omega (arith, d, p .1),
+      omega (arith, p .3),
+    )
 
 returns : tie.Need-returns
 unfolding imageDigests
@@ -33,10 +38,16 @@ returns c =
     let p = c .before .before .before .before .before .before .before .before .pre in
     let d : u32-at .result ≡ digestCount ID-BYTES s = u32-at .ensures ∙ ap (λ (e : ℕ). decode (part e 4 s)) (p .0) in
     let n = length-drop (a .end + 4) s in
-    let x = take-all (length s - (a .end + 4)) (drop (a .end + 4) s) (omega (arith, n)) ∙ ap (λ (e : ℕ). drop (e + 4) s) (p .0) in
-    (c .before .before .put-digests .ensures .0 ∙ ap (λ (r : List (List ℕ)). withDigests (overwrite (memOf (a .m .now) .digests) 0 r) (memOf (a .m .now))) (ap₂ (rows 32) d x), c .before .before .put-digests .ensures .1)
+    let x = take-all (length s - (a .end + 4)) (drop (a .end + 4) s) (omega (arith, n))
+    ∙ ap (λ (e : ℕ). drop (e + 4) s) (p .0) in (
+      c .before .before .put-digests .ensures .0
+          ∙ ap (λ (r : List (List ℕ)). withDigests (overwrite (memOf (a .m .now) .digests) 0 r) (memOf (a .m .now)))
+          (ap₂ (rows 32) d x),
+      c .before .before .put-digests .ensures .1,
+    )
 
 pub load-digests-spec : {M : Type 1} → statement M
 load-digests-spec =
-    tie.close (tie.spec (λ c κs. search needs) (λ c. search needs) (λ c. search needs) (λ c. search needs) (λ c. search needs) (λ c. search needs)
+    tie.close (tie.spec (λ c κs. search needs) (λ c. search needs) (λ c. search needs) (λ c. search needs)
+    (λ c. search needs) (λ c. search needs)
     put-digests-requires (λ c. search needs) returns)

@@ -17,7 +17,8 @@ u32-at-requires : tie.Need-u32-at-requires
 u32-at-requires c κs =
     let a = c .before .before .args in
     let s = a .image .now in
-    let i = to-sound-image ID-BYTES s (bytes-of s (λ k. omega (arith, c .before .shared-slice-known .given k))) (c .before .before .pre .0) in
+    let i = to-sound-image ID-BYTES s (bytes-of s (λ k. omega (arith, c .before .shared-slice-known .given k)))
+    (c .before .before .pre .0) in
     let f = i .form in
     omega (arith, f .four)
 
@@ -25,7 +26,8 @@ load-records-requires : tie.Need-load-records-requires
 load-records-requires c κs =
     let b = c .before .before .before .before in
     let s = b .args .image .now in
-    let i = to-sound-image ID-BYTES s (bytes-of s (λ k. omega (arith, c .before .before .before .shared-slice-known .given k))) (b .pre .0) in
+    let i = to-sound-image ID-BYTES s
+    (bytes-of s (λ k. omega (arith, c .before .before .before .shared-slice-known .given k))) (b .pre .0) in
     let f = i .form in
     let q = c .before .u32-at .ensures in
     let e = ap (endFrom ID-BYTES s 4) q in (
@@ -44,21 +46,27 @@ load-digests-requires c κs =
     let s = b .args .image .now in
     let i = to-sound-image ID-BYTES s (bytes-of s (λ k. omega (arith, shared-slice-known .given k))) (b .pre .0) in
     let f = i .form in
-    let r : load-records .result ≡ recordsEnd ID-BYTES s = load-records .ensures .1 ∙ ap (endFrom ID-BYTES s 4) (u32-at .ensures) in
+    let r : load-records .result ≡ recordsEnd ID-BYTES s = load-records .ensures .1
+    ∙ ap (endFrom ID-BYTES s 4) (u32-at .ensures) in
     (r, omega (arith, r, f .ends), i .few, omega (arith, load-records .ensures .0 .1, b .pre .1))
 
 returns : tie.Need-returns
 returns c =
     let load-records = c .before .before .before .before .before .before .load-records in
-    let shared-slice-known = c .before .before .before .before .before .before .before .before .before .before .shared-slice-known in
+    let shared-slice-known =
+    c .before .before .before .before .before .before .before .before .before .before .shared-slice-known in
     let b = c .before .before .before .before .before .before .before .before .before .before .before in
     let s = b .args .image .now in
     let i = to-sound-image ID-BYTES s (bytes-of s (λ k. omega (arith, shared-slice-known .given k))) (b .pre .0) in
     let q = c .before .before .before .before .before .before .before .before .u32-at .ensures in
     let m = b .args .m .now in
-    let x = load-records .ensures .0 .0 ∙ ap (λ (n : ℕ). withNodes (overwrite (memOf m .nodes) 0 (nodesFrom ID-BYTES s 4 n)) (memOf m)) q in
-    (both-loaded s m _ _ _ i q x (c .before .before .load-digests .ensures .0), c .before .before .load-digests .ensures .1 ∙ load-records .ensures .0 .1)
+    let x = load-records .ensures .0 .0
+    ∙ ap (λ (n : ℕ). withNodes (overwrite (memOf m .nodes) 0 (nodesFrom ID-BYTES s 4 n)) (memOf m)) q in (
+      both-loaded s m _ _ _ i q x (c .before .before .load-digests .ensures .0),
+      c .before .before .load-digests .ensures .1 ∙ load-records .ensures .0 .1,
+    )
 
 pub load-image-spec : {M : Type 1} → statement M
 load-image-spec =
-    tie.close (tie.spec u32-at-requires (λ c. search needs) load-records-requires load-digests-requires (λ c. search needs) returns)
+    tie.close (tie.spec u32-at-requires (λ c. search needs) load-records-requires load-digests-requires
+    (λ c. search needs) returns)

@@ -55,16 +55,20 @@ returns c =
     let record-parent = c .before .before .before .before .before .before .before .before .record-parent in
     let record-id = c .before .before .before .before .before .before .before .before .before .record-id in
     let record-name = c .before .before .before .before .before .before .before .before .before .before .record-name in
-    let a = c .before .before .before .before .before .before .before .before .before .before .before .before .before .args in
+    let a = c .before .before .before .before .before .before .before .before .before .before .before .before .before
+    .args in
     let s = a .image .now in
     let x = c .before .before .before .before .node-row .ensures
-    ∙ same-node ID-BYTES s (a .at) (record-id .ensures) (record-parent .ensures) (record-kind .ensures) (record-mode .ensures) (record-size .ensures)
+    ∙ same-node ID-BYTES s (a .at) (record-id .ensures) (record-parent .ensures) (record-kind .ensures)
+    (record-mode .ensures) (record-size .ensures)
     (record-name .ensures) in (
-      c .before .before .put-node .ensures .0 ∙ ap (λ (n : Node). withNodes (set (memOf (a .m .now) .nodes) (a .i) n) (memOf (a .m .now))) x,
+      c .before .before .put-node .ensures .0
+          ∙ ap (λ (n : Node). withNodes (set (memOf (a .m .now) .nodes) (a .i) n) (memOf (a .m .now))) x,
       c .before .before .put-node .ensures .1,
     )
 
 pub load-record-spec : {M : Type 1} → statement M
 load-record-spec =
-    tie.close (tie.spec (λ c κs. search needs) record-id-requires record-parent-requires record-kind-requires record-mode-requires record-size-requires
+    tie.close (tie.spec (λ c κs. search needs) record-id-requires record-parent-requires record-kind-requires
+    record-mode-requires record-size-requires
     node-row-requires (λ c κs. search needs) (λ c. search needs) returns)

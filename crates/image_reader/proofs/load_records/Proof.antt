@@ -19,7 +19,8 @@ use Rattle.image_reader.proofs.load_records.Tie as tie
 
 abbrev Inv-loop : tie.InvT-loop
 Inv-loop image n m₀ at₀ i₀ m at i =
-    (i ≤ n) × (length m ≡ length m₀) × (at ≡ endFrom ID-BYTES image 4 i) × (endFrom ID-BYTES image at (n - i) ≡ endFrom ID-BYTES image 4 n)
+    (i ≤ n) × (length m ≡ length m₀) × (at ≡ endFrom ID-BYTES image 4 i)
+    × (endFrom ID-BYTES image at (n - i) ≡ endFrom ID-BYTES image 4 n)
     × (memOf m ≡ withNodes (overwrite (memOf m₀ .nodes) 0 (nodesFrom ID-BYTES image 4 i)) (memOf m₀))
 
 abbrev μ-loop : tie.MeasureT-loop
@@ -35,7 +36,8 @@ loop-holds c =
       refl,
       sym (end-last ID-BYTES s 4),
       ap (endFrom ID-BYTES s 4) e,
-      ap (λ (r : List Node). withNodes r (memOf (a .m .now))) (sym (ap (overwrite ns 0) (nodes-last ID-BYTES s 4) ∙ overwrite-none noNode ns 0)),
+      ap (λ (r : List Node). withNodes r (memOf (a .m .now))) (sym (ap (overwrite ns 0) (nodes-last ID-BYTES s 4)
+          ∙ overwrite-none noNode ns 0)),
     )
 
 load-record-requires : tie.Need-load-record-requires Inv-loop μ-loop
@@ -74,7 +76,8 @@ loop-again c =
       c .before .before .before .load-record .ensures .1 ∙ l .inv .1,
       next-end ID-BYTES s (l .at) (l .i) (l .inv .2) r,
       ap₂ (endFrom ID-BYTES s) r e ∙ sym (end-next ID-BYTES s (l .at) (a .n - l .i) (omega arith)) ∙ l .inv .3,
-      c .before .before .before .load-record .ensures .0 ∙ ap (λ (M : Mem). withNodes (set (M .nodes) (l .i) x) M) (l .inv .4)
+      c .before .before .before .load-record .ensures .0 ∙ ap (λ (M : Mem). withNodes (set (M .nodes) (l .i) x) M)
+          (l .inv .4)
           ∙ ap (λ (ns : List Node). withNodes ns (memOf (a .m .now)))
           (loaded-next ID-BYTES s (memOf (a .m .now) .nodes) (l .i) (l .at) (l .inv .2) (omega (arith, k, pre .1))),
     )
@@ -85,10 +88,12 @@ returns c =
     let s = a .image .now in
     let l = c .before .loop in
     let e : l .i ≡ a .n = omega arith in
-    let made = λ (n : ℕ). withNodes (overwrite (memOf (a .m .now) .nodes) 0 (nodesFrom ID-BYTES s 4 n)) (memOf (a .m .now)) in
+    let made : ℕ → Mem = λ n. withNodes (overwrite (memOf (a .m .now) .nodes) 0 (nodesFrom ID-BYTES s 4 n))
+    (memOf (a .m .now)) in
     ((l .inv .4 ∙ ap made e, l .inv .1), l .inv .2 ∙ ap (endFrom ID-BYTES s 4) e)
 
 pub load-records-spec : {M : Type 1} → statement M
 load-records-spec =
-    tie.close (tie.spec Inv-loop μ-loop loop-holds load-record-requires record-end-requires (λ c. search needs) (λ c. search needs) loop-again (λ c. search needs)
+    tie.close (tie.spec Inv-loop μ-loop loop-holds load-record-requires record-end-requires (λ c. search needs)
+    (λ c. search needs) loop-again (λ c. search needs)
     returns)

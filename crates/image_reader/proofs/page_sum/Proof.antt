@@ -73,5 +73,6 @@ returns c =
 
 pub page-sum-spec : {M : Type 1} → statement M
 page-sum-spec =
-    tie.close (tie.spec Inv-loop μ-loop loop-holds record-size-requires (λ c κs. search needs) add-total record-end-requires (λ c. search needs) (λ c. search needs)
+    tie.close (tie.spec Inv-loop μ-loop loop-holds record-size-requires (λ c κs. search needs) add-total
+    record-end-requires (λ c. search needs) (λ c. search needs)
     loop-again returns)

@@ -7,7 +7,8 @@ use mathlib.Core.Bool.{true, false, _&&_}
 use lib.Dec.{eqb}
 use Prim.Native.Nat.{ℕ, _+_, _-_, _≤_}
 use Rattle.image_reader.specs.Admission.{isParent}
-use Rattle.image_reader.specs.laws.RecordLaws.{record-least, record-in, end-next, place-hit, place-miss, place-end}
+use Rattle.image_reader.specs.laws.RecordLaws.{record-least, record-in, end-next, place-hit, place-miss}
+use Rattle.image_reader.specs.laws.RecordLaws.{place-end}
 use Rattle.lists.specs.Search.{place}
 use borrow.Author.Needs.{needs}
 use Rattle.image_reader.proofs.parent_place.Statement.{statement}
@@ -16,13 +17,15 @@ use Rattle.image_reader.proofs.parent_place.Tie as tie
 abbrev Inv-loop : tie.InvT-loop
 Inv-loop image at i id a₀ k₀ a k =
     (k ≤ i) × (endFrom ID-BYTES image a (i - k) ≡ endFrom ID-BYTES image 4 i)
-    × (k + place (isParent (recordAt ID-BYTES image at)) (nodesFrom ID-BYTES image a (i - k)) ≡ place (isParent (recordAt ID-BYTES image at)) (nodesFrom ID-BYTES image 4 i))
+    × (k + place (isParent (recordAt ID-BYTES image at)) (nodesFrom ID-BYTES image a (i - k)) ≡ place
+    (isParent (recordAt ID-BYTES image at)) (nodesFrom ID-BYTES image 4 i))
 
 abbrev μ-loop : tie.MeasureT-loop
 μ-loop image at i id a₀ k₀ a k = i - k
 
 record-parent-requires : tie.Need-record-parent-requires Inv-loop μ-loop
-record-parent-requires c κs = let h = record-least ID-BYTES (c .before .args .image .now) (c .before .args .at) in omega (arith, h)
+record-parent-requires c κs = let h = record-least ID-BYTES (c .before .args .image .now) (c .before .args .at) in omega
+    (arith, h)
 
 loop-holds : tie.Need-loop-holds Inv-loop μ-loop
 loop-holds c =
@@ -79,8 +82,12 @@ loop-again c =
     let t : isParent x y ≡ false = ap (λ (p : ℕ). eqb (y .id) p && eqb (y .kind) 2) (sym (record-parent .ensures))
     ∙ sym (c .before .before .is-parent .ensures) ∙ c .before .if1 .left in
     let h = place-miss ID-BYTES s (isParent x) (l .a) (a .i - l .k) (omega arith) t in
-    let g = ap₂ (λ (p n : ℕ). place (isParent x) (nodesFrom ID-BYTES s p n)) r e in
-    (omega arith, ap₂ (endFrom ID-BYTES s) r e ∙ sym (end-next ID-BYTES s (l .a) (a .i - l .k) (omega arith)) ∙ l .inv .1, omega (arith, h, g, l .inv .2))
+    let g = ap₂ (λ (p n : ℕ). place (isParent x) (nodesFrom ID-BYTES s p n)) r e in (
+      omega arith,
+      ap₂ (endFrom ID-BYTES s) r e ∙ sym (end-next ID-BYTES s (l .a) (a .i - l .k) (omega arith))
+          ∙ l .inv .1,
+      omega (arith, h, g, l .inv .2),
+    )
 
 returns-2 : tie.Need-returns-2 Inv-loop μ-loop
 returns-2 c =
@@ -92,5 +99,6 @@ returns-2 c =
 
 pub parent-place-spec : {M : Type 1} → statement M
 parent-place-spec =
-    tie.close (tie.spec Inv-loop μ-loop record-parent-requires loop-holds is-parent-requires returns record-end-requires (λ c. search needs) (λ c. search needs)
+    tie.close (tie.spec Inv-loop μ-loop record-parent-requires loop-holds is-parent-requires returns record-end-requires
+    (λ c. search needs) (λ c. search needs)
     loop-again returns-2)

@@ -16,8 +16,10 @@ add-result-4 c = omega (arith, c .shared-slice-known .given (c .before .args .at
 
 returns : tie.Need-returns
 unfolding recordEnd
-returns c = let h = c .shared-slice-known .given (c .before .args .at + 2 * ID-BYTES + 6) in (refl, omega arith, omega (arith, h))
+returns c = let h = c .shared-slice-known .given (c .before .args .at + 2 * ID-BYTES + 6) in
+    (refl, omega arith, omega (arith, h))
 
 pub record-end-spec : {M : Type 1} → statement M
 record-end-spec =
-    tie.close (tie.spec (λ c. search needs) (λ c. search needs) (λ c. search needs) (λ c. search needs) (λ c. search needs) cast-result add-result-4 returns)
+    tie.close (tie.spec (λ c. search needs) (λ c. search needs) (λ c. search needs) (λ c. search needs)
+    (λ c. search needs) cast-result add-result-4 returns)

@@ -12,7 +12,8 @@ add-start : tie.Need-add-start
 add-start c = let h = record-least ID-BYTES (c .before .args .image .now) (c .before .args .at) in omega (arith, h)
 
 record-end-requires : tie.Need-record-end-requires
-record-end-requires c κs = let h = record-least ID-BYTES (c .before .args .image .now) (c .before .args .at) in omega (arith, h)
+record-end-requires c κs = let h = record-least ID-BYTES (c .before .args .image .now) (c .before .args .at) in omega
+    (arith, h)
 
 sub-result : tie.Need-sub-result
 sub-result c = omega arith

@@ -9,4 +9,5 @@ unfolding recordAt
 returns c = c .u32-at .ensures
 
 pub record-size-spec : {M : Type 1} → statement M
-record-size-spec = tie.close (tie.spec (λ c. search needs) (λ c. search needs) (λ c. search needs) (λ c κs. search needs) returns)
+record-size-spec = tie.close (tie.spec (λ c. search needs) (λ c. search needs) (λ c. search needs)
+    (λ c κs. search needs) returns)

@@ -13,7 +13,8 @@ use Rattle.lists.specs.Pick.{pick, pick-true, pick-false}
 use lib.ListN.{length}
 use Rattle.filesystem.specs.Tables.{NODES, Node}
 use Rattle.image_writer.specs.Width.{frontLength}
-use Rattle.image_reader.specs.Records.{recordAt, recordEnd, nodesFrom, endFrom, nodeCount, recordsEnd, digestCount, formed}
+use Rattle.image_reader.specs.Records.{recordAt, recordEnd, nodesFrom, endFrom, nodeCount, recordsEnd}
+use Rattle.image_reader.specs.Records.{digestCount, formed}
 
 module _ (w : ℕ) (s : List ℕ) where
   pub record-least : (at : ℕ) → at + frontLength w ≤ recordEnd w s at
@@ -34,7 +35,8 @@ module _ (w : ℕ) (s : List ℕ) where
   pub nodes-next : (at n : ℕ) → 0 < n → nodesFrom w s at n ≡ recordAt w s at ∷ nodesFrom w s (recordEnd w s at) (n - 1)
   unfolding nodesFrom
   nodes-next at zero h = absurd (omega arith)
-  nodes-next at (suc n) h = let e : n ≡ suc n - 1 = omega arith in ap (λ (k : ℕ). recordAt w s at ∷ nodesFrom w s (recordEnd w s at) k) e
+  nodes-next at (suc n) h = let e : n ≡ suc n - 1 = omega arith in ap (λ (k : ℕ). recordAt w s at
+      ∷ nodesFrom w s (recordEnd w s at) k) e
 
   pub end-last : (at : ℕ) → endFrom w s at 0 ≡ at
   unfolding endFrom
@@ -69,7 +71,8 @@ module _ (w : ℕ) (s : List ℕ) where
 
   -- the image ends before the records do
   pub cut-front : (at n : ℕ) → 0 < n → length s < at + frontLength w → length s < endFrom w s at n
-  cut-front at n h l = rw (end-next at n h) (let e = end-least (recordEnd w s at) (n - 1) in let f = record-least at in omega arith)
+  cut-front at n h l = rw (end-next at n h) (let e = end-least (recordEnd w s at) (n - 1) in let f = record-least at in
+      omega arith)
 
   pub cut-record : (at n : ℕ) → 0 < n → length s < recordEnd w s at → length s < endFrom w s at n
   cut-record at n h l = rw (end-next at n h) (let e = end-least (recordEnd w s at) (n - 1) in omega arith)
@@ -105,7 +108,8 @@ module _ (w : ℕ) (s : List ℕ) where
     unfolding any
     any-hit e = ap (any f) (nodes-next at n h) ∙ rw e
 
-    pub any-miss : f (recordAt w s at) ≡ false → any f (nodesFrom w s at n) ≡ any f (nodesFrom w s (recordEnd w s at) (n - 1))
+    pub any-miss : f (recordAt w s at) ≡ false
+        → any f (nodesFrom w s at n) ≡ any f (nodesFrom w s (recordEnd w s at) (n - 1))
     unfolding any
     any-miss e = ap (any f) (nodes-next at n h) ∙ rw e
 
@@ -113,7 +117,8 @@ module _ (w : ℕ) (s : List ℕ) where
     unfolding place
     place-hit e = ap (place f) (nodes-next at n h) ∙ pick-true _ _ _ e
 
-    pub place-miss : f (recordAt w s at) ≡ false → place f (nodesFrom w s at n) ≡ suc (place f (nodesFrom w s (recordEnd w s at) (n - 1)))
+    pub place-miss : f (recordAt w s at) ≡ false
+        → place f (nodesFrom w s at n) ≡ suc (place f (nodesFrom w s (recordEnd w s at) (n - 1)))
     unfolding place
     place-miss e = ap (place f) (nodes-next at n h) ∙ pick-false _ _ _ e
 
@@ -137,18 +142,26 @@ module _ (w : ℕ) (s : List ℕ) where
 
   pub formed-cut : length s < recordsEnd w s + 4 → formed w s ≡ false
   unfolding formed
-  formed-cut h = rw (lt-leb (recordsEnd w s + 4) (length s) h, and-false (leb (nodeCount s) NODES)) (and-false (leb 4 (length s)))
+  formed-cut h = rw (lt-leb (recordsEnd w s + 4) (length s) h, and-false (leb (nodeCount s) NODES))
+      (and-false (leb 4 (length s)))
 
   pub formed-other : (recordsEnd w s + 4 + digestCount w s * 32 ≡ length s → ⊥) → formed w s ≡ false
   unfolding formed
   formed-other n =
-      rw (ne-eqb (recordsEnd w s + 4 + digestCount w s * 32) (length s) n, and-false (leb (recordsEnd w s + 4) (length s)), and-false (leb (nodeCount s) NODES)) (and-false (leb 4 (length s)))
+      rw (
+        ne-eqb (recordsEnd w s + 4 + digestCount w s * 32) (length s) n,
+        and-false
+            (leb (recordsEnd w s + 4) (length s)),
+        and-false (leb (nodeCount s) NODES),
+      ) (and-false (leb 4 (length s)))
 
-  pub formed-yes : 4 ≤ length s → nodeCount s ≤ NODES → recordsEnd w s + 4 + digestCount w s * 32 ≡ length s → formed w s ≡ true
+  pub formed-yes : 4 ≤ length s → nodeCount s ≤ NODES → recordsEnd w s + 4 + digestCount w s * 32 ≡ length s
+      → formed w s ≡ true
   unfolding formed
   formed-yes a b e =
       and-both _ _ (le-leb 4 (length s) a) (and-both _ _ (le-leb (nodeCount s) NODES b)
-      (and-both _ _ (le-leb (recordsEnd w s + 4) (length s) (omega arith)) (eq-eqb (recordsEnd w s + 4 + digestCount w s * 32) (length s) e)))
+      (and-both _ _ (le-leb (recordsEnd w s + 4) (length s) (omega arith))
+      (eq-eqb (recordsEnd w s + 4 + digestCount w s * 32) (length s) e)))
 
   pub no-form : (e : ℕ) → formed w s ≡ false → 0 ≡ pick (formed w s) e 0
   no-form e t = sym (pick-false _ _ _ t)

@@ -43,7 +43,8 @@ regroup false b c d = refl
 
 pub component-name : (c : List ℕ) → componentForm c ≡ (isName c && every plainByte c)
 unfolding componentForm isName
-component-name c = regroup (not (equal c [])) (not (equal c (dot ∷ []))) (not (equal c (dot ∷ dot ∷ []))) (every plainByte c)
+component-name c = regroup (not (equal c [])) (not (equal c (dot ∷ []))) (not (equal c (dot ∷ dot ∷ [])))
+    (every plainByte c)
 
 module _ (l : List ℕ) (i : ℕ) where
   plain-at : i < length l → every plainByte (drop i l) ≡ (plainByte (getD l i 0) && every plainByte (drop (i + 1) l))
@@ -56,7 +57,8 @@ module _ (l : List ℕ) (i : ℕ) where
   pub plain-slash : i < length l → getD l i 0 ≡ slash → every plainByte (drop i l) ≡ false
   plain-slash h e = plain-at h ∙ ap (λ (b : ℕ). plainByte b && every plainByte (drop (i + 1) l)) e
 
-  pub plain-next : i < length l → (getD l i 0 ≡ 0 → ⊥) → (getD l i 0 ≡ slash → ⊥) → every plainByte (drop i l) ≡ every plainByte (drop (i + 1) l)
+  pub plain-next : i < length l → (getD l i 0 ≡ 0 → ⊥) → (getD l i 0 ≡ slash → ⊥)
+      → every plainByte (drop i l) ≡ every plainByte (drop (i + 1) l)
   plain-next h m n = plain-at h ∙ rw (ne-eqb (getD l i 0) 0 m, ne-eqb (getD l i 0) slash n)
 
   pub plain-end : length l ≤ i → every plainByte (drop i l) ≡ true
@@ -74,6 +76,7 @@ pub id-below : (w : ℕ) (s : List ℕ) (at : ℕ) → Bytes s → at + w ≤ le
 unfolding recordAt
 id-below w s at b h = part-below at w s b h
 
-pub name-part : (w : ℕ) (s : List ℕ) (at : ℕ) → part (at + frontLength w) (recordEnd w s at - (at + frontLength w)) s ≡ recordAt w s at .name
+pub name-part : (w : ℕ) (s : List ℕ) (at : ℕ) → part (at + frontLength w) (recordEnd w s at - (at + frontLength w))
+    s ≡ recordAt w s at .name
 unfolding recordAt recordEnd
 name-part w s at = ap₂ (λ (a n : ℕ). part a n s) (omega arith) (omega arith)

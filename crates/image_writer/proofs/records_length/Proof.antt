@@ -12,7 +12,8 @@ use Rattle.image_writer.proofs.records_length.Statement.{statement}
 use Rattle.image_writer.proofs.records_length.Tie as tie
 
 abbrev Inv-loop : tie.InvT-loop
-Inv-loop m n total₀ i₀ total i = (i ≤ n) × (total + recordsLength ID-BYTES (drop i (nodesIn n m)) ≡ recordsLength ID-BYTES (nodesIn n m)) × (total ≤ i * 47)
+Inv-loop m n total₀ i₀ total i = (i ≤ n)
+    × (total + recordsLength ID-BYTES (drop i (nodesIn n m)) ≡ recordsLength ID-BYTES (nodesIn n m)) × (total ≤ i * 47)
 
 abbrev μ-loop : tie.MeasureT-loop
 μ-loop m n total₀ i₀ total i = n - i
@@ -37,5 +38,6 @@ returns c =
 
 pub records-length-spec : {M : Type 1} → statement M
 records-length-spec =
-    tie.close (tie.spec Inv-loop μ-loop loop-holds (λ c κs. search needs) (λ c. search needs) (λ c. search needs) (λ c. search needs) (λ c. search needs)
+    tie.close (tie.spec Inv-loop μ-loop loop-holds (λ c κs. search needs) (λ c. search needs) (λ c. search needs)
+    (λ c. search needs) (λ c. search needs)
     (λ c. search needs) (λ c. search needs) loop-again returns)

@@ -8,7 +8,9 @@ use Rattle.image_writer.proofs.same_digest.Statement.{statement}
 use Rattle.image_writer.proofs.same_digest.Tie as tie
 
 returns : tie.Need-returns
-returns c = c .same .ensures ∙ ap (λ (d : List ℕ). equal d (c .before .before .before .before .before .args .expected .now)) (c .before .before .seal .ensures)
+returns c = c .same .ensures
+    ∙ ap (λ (d : List ℕ). equal d (c .before .before .before .before .before .args .expected .now))
+    (c .before .before .seal .ensures)
 
 pub same-digest-spec : {M : Type 1} → statement M
 same-digest-spec = tie.close (tie.spec (λ c κs. search needs) (λ c. search needs) (λ c κs. search needs) returns)

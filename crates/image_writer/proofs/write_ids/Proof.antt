@@ -15,7 +15,8 @@ returns : tie.Need-returns
 returns c =
     let a = c .before .before .before .before .before .before .before .before .before .args in
     c .before .before .put-number2 .ensures
-    ∙ ap (λ (o : List ℕ). overwrite o (a .at + ID-BYTES) (encode ID-BYTES (a .parent))) (c .before .before .before .before .before .before .put-number .ensures)
+    ∙ ap (λ (o : List ℕ). overwrite o (a .at + ID-BYTES) (encode ID-BYTES (a .parent)))
+    (c .before .before .before .before .before .before .put-number .ensures)
     ∙ ids-written (a .out .now) (a .at) ID-BYTES (a .id) (a .parent) (omega arith)
 
 pub write-ids-spec : {M : Type 1} → statement M

@@ -52,11 +52,14 @@ returns c =
     let p = h .before .before in
     let s = p .before .before .before in
     let a = s .args in
-    image-written ID-BYTES (a .n) (a .out .now) (a .m .now) (a .at) (r .write-records .result) (p .first-page .result) (d .digests .result .now)
-    (omega arith) (omega arith) (omega arith) (r .write-records .ensures .1) (p .first-page .ensures .0) (d .digests .ensures .0) (d .digests .ensures .1)
+    image-written ID-BYTES (a .n) (a .out .now) (a .m .now) (a .at) (r .write-records .result) (p .first-page .result)
+    (d .digests .result .now)
+    (omega arith) (omega arith) (omega arith) (r .write-records .ensures .1) (p .first-page .ensures .0)
+    (d .digests .ensures .0) (d .digests .ensures .1)
     (h .put-number .ensures) (r .write-records .ensures .0) (k .put-number2 .ensures) (c .before .before .put .ensures)
 
 pub write-image-spec : {M : Type 1} → statement M
 write-image-spec =
-    tie.close (tie.spec (λ c κs. search needs) put-number-requires add-write-records write-records-requires put-number-requires-2 add-start
+    tie.close (tie.spec (λ c κs. search needs) put-number-requires add-write-records write-records-requires
+    put-number-requires-2 add-start
     (λ c κs. search needs) put-requires (λ c. search needs) add-result (λ c. search needs) returns)

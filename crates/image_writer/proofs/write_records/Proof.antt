@@ -18,7 +18,8 @@ use Rattle.image_writer.proofs.write_records.Tie as tie
 abbrev Inv-loop : tie.InvT-loop
 Inv-loop m n out₀ at next₀ i₀ out next i =
     (i ≤ n) × (length out ≡ length out₀)
-    × (overwrite out next (put-all (nodeForm ID-BYTES) (drop i (nodesIn n m))) ≡ overwrite out₀ at (put-all (nodeForm ID-BYTES) (nodesIn n m)))
+    × (overwrite out next (put-all (nodeForm ID-BYTES) (drop i (nodesIn n m))) ≡ overwrite out₀ at
+    (put-all (nodeForm ID-BYTES) (nodesIn n m)))
     × (next + recordsLength ID-BYTES (drop i (nodesIn n m)) ≡ at + recordsLength ID-BYTES (nodesIn n m))
 
 abbrev μ-loop : tie.MeasureT-loop
@@ -44,7 +45,8 @@ loop-again c =
     let p = records-in (a .m .now) (a .n) h ID-BYTES (l .i) i in (
       omega arith,
       omega arith,
-      record-next (a .m .now) (a .n) h ID-BYTES (l .i) i (l .out) (l .next) (omega (arith, p, l .inv .3, l .inv .1)) (r .ensures .0) (r .ensures .1)
+      record-next (a .m .now) (a .n) h ID-BYTES (l .i) i (l .out) (l .next) (omega (arith, p, l .inv .3, l .inv .1))
+          (r .ensures .0) (r .ensures .1)
           ∙ l .inv .2,
       omega (arith, p, l .inv .3, r .ensures .1),
     )
@@ -54,9 +56,13 @@ returns c =
     let a = c .before .before .before .before .args in
     let l = c .before .loop in
     let h : a .n ≤ NODES = omega arith in
-    let p = records-end (a .m .now) (a .n) h ID-BYTES (l .i) (omega arith) in
-    (records-done (a .m .now) (a .n) h ID-BYTES (l .i) (omega arith) (l .out) (l .next) ∙ l .inv .2, omega (arith, p, l .inv .3))
+    let p = records-end (a .m .now) (a .n) h ID-BYTES (l .i) (omega arith) in (
+      records-done (a .m .now) (a .n) h ID-BYTES (l .i) (omega arith) (l .out) (l .next)
+          ∙ l .inv .2,
+      omega (arith, p, l .inv .3),
+    )
 
 pub write-records-spec : {M : Type 1} → statement M
 write-records-spec =
-    tie.close (tie.spec Inv-loop μ-loop loop-holds write-record-requires (λ c. search needs) (λ c. search needs) loop-again (λ c. search needs) returns)
+    tie.close (tie.spec Inv-loop μ-loop loop-holds write-record-requires (λ c. search needs) (λ c. search needs)
+    loop-again (λ c. search needs) returns)

@@ -16,8 +16,13 @@ unfolding part
 returns c =
     let a = c .before .args in
     let at = digestsAt + a .k * digestWidth in
-    rw add-sub-cancel-left (sym (digest-at (a .m .now) (a .k) (omega arith)), length-part at digestWidth (a .m .now) (omega arith))
+    rw add-sub-cancel-left (
+      sym (digest-at (a .m .now) (a .k) (omega arith)),
+      length-part at digestWidth (a .m .now)
+          (omega arith),
+    )
 
 pub digest-spec : {M : Type 1} → statement M
 digest-spec =
-    tie.close (tie.spec (λ c. search needs) (λ c. search needs) (λ c. search needs) (λ c. search needs) (λ c. search needs) (λ c. search needs) returns)
+    tie.close (tie.spec (λ c. search needs) (λ c. search needs) (λ c. search needs) (λ c. search needs)
+    (λ c. search needs) (λ c. search needs) returns)

@@ -15,9 +15,13 @@ returns : tie.Need-returns
 unfolding part
 returns c =
     let a = c .before .args in
-    rw add-sub-cancel-left
-    (sym (flat-digests (a .m .now) (a .n) (omega arith) (omega arith)), length-part digestsAt (a .n * digestWidth) (a .m .now) (omega arith))
+    rw add-sub-cancel-left (
+      sym (flat-digests (a .m .now) (a .n) (omega arith) (omega arith)),
+      length-part digestsAt (a .n * digestWidth)
+          (a .m .now) (omega arith),
+    )
 
 pub digests-spec : {M : Type 1} → statement M
 digests-spec =
-    tie.close (tie.spec (λ c. search needs) (λ c. search needs) (λ c. search needs) (λ c. search needs) (λ c. search needs) returns)
+    tie.close (tie.spec (λ c. search needs) (λ c. search needs) (λ c. search needs) (λ c. search needs)
+    (λ c. search needs) returns)

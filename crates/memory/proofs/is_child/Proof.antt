@@ -20,7 +20,8 @@ use Rattle.memory.proofs.is_child.Tie as tie
 returns : tie.Need-returns
 returns c =
     let a = c .before .before .before .before .args in
-    let e : eqb (nodeAt (memOf (a .m .now) .nodes) (a .i) .parent) (a .parent) ≡ false = ne-eqb _ _ (λ q. c .if1 .taken (c .before .node-parent .ensures ∙ q)) in
+    let e : eqb (nodeAt (memOf (a .m .now) .nodes) (a .i) .parent) (a .parent) ≡ false = ne-eqb _ _
+    (λ q. c .if1 .taken (c .before .node-parent .ensures ∙ q)) in
     rw e
 
 returns-2 : tie.Need-returns-2
@@ -34,7 +35,8 @@ returns-3 : tie.Need-returns-3
 unfolding part
 returns-3 c =
     let a = c .before .before .before .before .before .before .before .before .args in
-    let s : equal (part (nodesAt + a .i * nodeWidth + 23) (length (a .name .now)) (a .m .now)) (a .name .now) ≡ false = sym (rw add-sub-cancel-left at (c .before .same .ensures)) ∙ not-true _ (c .if3 .taken) in
+    let s : equal (part (nodesAt + a .i * nodeWidth + 23) (length (a .name .now)) (a .m .now)) (a .name .now) ≡ false =
+    sym (rw add-sub-cancel-left at (c .before .same .ensures)) ∙ not-true _ (c .if3 .taken) in
     rw (name-is (a .m .now) (a .i) (a .name .now) (omega arith) (omega arith), s, and-false)
 
 returns-4 : tie.Need-returns-4
@@ -42,11 +44,16 @@ unfolding part
 returns-4 c =
     let d = c .before .before in
     let a = d .before .before .before .before .before .before .before .before .args in
-    let e : eqb (nodeAt (memOf (a .m .now) .nodes) (a .i) .parent) (a .parent) ≡ true = eq-eqb _ _ (sym (d .before .before .before .before .before .node-parent .ensures) ∙ d .before .before .before .before .if1 .left) in
-    let s : equal (part (nodesAt + a .i * nodeWidth + 23) (length (a .name .now)) (a .m .now)) (a .name .now) ≡ true = sym (rw add-sub-cancel-left at (d .before .same .ensures)) ∙ not-false _ (d .if3 .left) in
+    let e : eqb (nodeAt (memOf (a .m .now) .nodes) (a .i) .parent) (a .parent) ≡ true = eq-eqb _ _
+    (sym (d .before .before .before .before .before .node-parent .ensures)
+    ∙ d .before .before .before .before .if1 .left) in
+    let s : equal (part (nodesAt + a .i * nodeWidth + 23) (length (a .name .now)) (a .m .now)) (a .name .now) ≡ true =
+    sym (rw add-sub-cancel-left at (d .before .same .ensures)) ∙ not-false _ (d .if3 .left) in
     rw (e, name-is (a .m .now) (a .i) (a .name .now) (omega arith) (omega arith), s, c .name-length .ensures)
 
 pub is-child-spec : {M : Type 1} → statement M
 is-child-spec =
-    tie.close (tie.spec (λ c κs. search needs) returns returns-2 (λ c. search needs) (λ c. search needs) (λ c. search needs) (λ c. search needs) (λ c. search needs)
-    (λ c. search needs) (λ c. search needs) (λ c κs. search needs) returns-3 (λ c. search needs) (λ c. search needs) (λ c κs. search needs) returns-4)
+    tie.close (tie.spec (λ c κs. search needs) returns returns-2 (λ c. search needs) (λ c. search needs)
+    (λ c. search needs) (λ c. search needs) (λ c. search needs)
+    (λ c. search needs) (λ c. search needs) (λ c κs. search needs) returns-3 (λ c. search needs) (λ c. search needs)
+    (λ c κs. search needs) returns-4)

@@ -9,9 +9,13 @@ use Rattle.memory.proofs.keep_digests.Tie as tie
 
 returns : tie.Need-returns
 returns c =
-    let a = c .before .before .before .before .before .args in
-    (ap memOf (c .before .before .shift .ensures) ∙ mem-keep (a .m .now) (omega arith) (a .i) (a .n) (omega arith) (omega arith), omega arith)
+    let a = c .before .before .before .before .before .args in (
+      ap memOf (c .before .before .shift .ensures) ∙ mem-keep (a .m .now) (omega arith) (a .i) (a .n) (omega arith)
+          (omega arith),
+      omega arith,
+    )
 
 pub keep-digests-spec : {M : Type 1} → statement M
 keep-digests-spec =
-    tie.close (tie.spec (λ c. search needs) (λ c. search needs) (λ c. search needs) (λ c. search needs) (λ c κs. search needs) (λ c. search needs) returns)
+    tie.close (tie.spec (λ c. search needs) (λ c. search needs) (λ c. search needs) (λ c. search needs)
+    (λ c κs. search needs) (λ c. search needs) returns)

@@ -10,11 +10,13 @@ use Rattle.memory.proofs.move_digests.Tie as tie
 returns : tie.Need-returns
 returns c =
     let a = c .before .before .before .before .before .args in (
-      ap memOf (c .before .before .shift .ensures) ∙ mem-digests-move (a .m .now) (omega arith) (a .from) (a .to) (a .n) (omega arith) (omega arith),
+      ap memOf (c .before .before .shift .ensures) ∙ mem-digests-move (a .m .now) (omega arith) (a .from) (a .to) (a .n)
+          (omega arith) (omega arith),
       omega arith,
     )
 
 pub move-digests-spec : {M : Type 1} → statement M
 move-digests-spec =
-    tie.close (tie.spec (λ c. search needs) (λ c. search needs) (λ c. search needs) (λ c. search needs) (λ c. search needs) (λ c κs. search needs)
+    tie.close (tie.spec (λ c. search needs) (λ c. search needs) (λ c. search needs) (λ c. search needs)
+    (λ c. search needs) (λ c κs. search needs)
     (λ c. search needs) returns)

@@ -17,7 +17,8 @@ unfolding nodeOf field
 returns c =
     let a = c .before .before .args in
     c .u64-at .ensures
-    ∙ sym (ap (λ (n : Node). n .id) (node-at (a .m .now) (a .i) (omega arith)) ∙ field-part (nodesAt + a .i * nodeWidth) nodeWidth 0 8 (a .m .now) (omega arith) ∙ rw (add-zero (nodesAt + a .i * nodeWidth)))
+    ∙ sym (ap (λ (n : Node). n .id) (node-at (a .m .now) (a .i) (omega arith)) ∙ field-part (nodesAt + a .i * nodeWidth)
+    nodeWidth 0 8 (a .m .now) (omega arith) ∙ rw (add-zero (nodesAt + a .i * nodeWidth)))
 
 pub node-id-spec : {M : Type 1} → statement M
 node-id-spec = tie.close (tie.spec (λ c. search needs) (λ c. search needs) (λ c κs. search needs) returns)

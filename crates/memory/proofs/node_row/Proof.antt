@@ -19,9 +19,11 @@ returns c =
     let s = a .name .now in
     let e = put-bytes .ensures ∙ ap (overwrite (replicate 56 0) 0) (node-front .ensures) in
     ap nodeOf (c .before .put .ensures ∙ ap (λ (r : List ℕ). overwrite r 23 s) e)
-    ∙ written-node (a .id) (a .parent) (a .kind) (a .mode) (a .size) s (replicate 56 0) (omega arith) (omega arith) (omega arith) (omega arith)
+    ∙ written-node (a .id) (a .parent) (a .kind) (a .mode) (a .size) s (replicate 56 0) (omega arith) (omega arith)
+    (omega arith) (omega arith)
 
 pub node-row-spec : {M : Type 1} → statement M
 node-row-spec =
-    tie.close (tie.spec (λ c. search needs) (λ c κs. search needs) (λ c. search needs) (λ c. search needs) (λ c κs. search needs) (λ c. search needs)
+    tie.close (tie.spec (λ c. search needs) (λ c κs. search needs) (λ c. search needs) (λ c. search needs)
+    (λ c κs. search needs) (λ c. search needs)
     (λ c κs. search needs) returns)

@@ -16,7 +16,9 @@ unfolding openOf field
 returns c =
     let a = c .before .before .args in
     c .u32-at .ensures
-    ∙ sym (ap (λ (n : OpenFile). n .cursor) (open-at (a .m .now) (a .i) (omega arith)) ∙ field-part (opensAt + a .i * openWidth) openWidth 16 4 (a .m .now) (omega arith))
+    ∙ sym (ap (λ (n : OpenFile). n .cursor) (open-at (a .m .now) (a .i) (omega arith))
+    ∙ field-part (opensAt + a .i * openWidth) openWidth 16 4 (a .m .now) (omega arith))
 
 pub open-cursor-spec : {M : Type 1} → statement M
-open-cursor-spec = tie.close (tie.spec (λ c. search needs) (λ c. search needs) (λ c. search needs) (λ c κs. search needs) returns)
+open-cursor-spec = tie.close (tie.spec (λ c. search needs) (λ c. search needs) (λ c. search needs)
+    (λ c κs. search needs) returns)

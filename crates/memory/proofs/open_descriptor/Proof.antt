@@ -16,7 +16,8 @@ unfolding openOf field
 returns c =
     let a = c .before .before .args in
     c .u32-at .ensures
-    ∙ sym (ap (λ (n : OpenFile). n .descriptor) (open-at (a .m .now) (a .i) (omega arith)) ∙ field-part (opensAt + a .i * openWidth) openWidth 8 4 (a .m .now) (omega arith))
+    ∙ sym (ap (λ (n : OpenFile). n .descriptor) (open-at (a .m .now) (a .i) (omega arith))
+    ∙ field-part (opensAt + a .i * openWidth) openWidth 8 4 (a .m .now) (omega arith))
 
 pub open-descriptor-spec : {M : Type 1} → statement M
 open-descriptor-spec =

@@ -17,7 +17,9 @@ unfolding openOf field
 returns c =
     let a = c .before .before .args in
     c .u64-at .ensures
-    ∙ sym (ap (λ (n : OpenFile). n .handle) (open-at (a .m .now) (a .i) (omega arith)) ∙ field-part (opensAt + a .i * openWidth) openWidth 0 8 (a .m .now) (omega arith) ∙ rw (add-zero (opensAt + a .i * openWidth)))
+    ∙ sym (ap (λ (n : OpenFile). n .handle) (open-at (a .m .now) (a .i) (omega arith))
+    ∙ field-part (opensAt + a .i * openWidth) openWidth 0 8 (a .m .now) (omega arith)
+    ∙ rw (add-zero (opensAt + a .i * openWidth)))
 
 pub open-handle-spec : {M : Type 1} → statement M
 open-handle-spec = tie.close (tie.spec (λ c. search needs) (λ c. search needs) (λ c κs. search needs) returns)

@@ -14,12 +14,16 @@ unfolding openRow encode
 returns c =
     let a = c .before .before .before .args in
     rw (c .before .before .bytes8 .ensures, c .before .bytes4 .ensures, c .bytes42 .ensures) (
-      open-of-row (a .hint) (withCursor (a .cursor) (newOpenFile (a .handle) (a .descriptor) (a .rights))) record { handle-fits = omega arith; descriptor-fits = omega arith; cursor-fits = omega arith },
+      open-of-row (a .hint) (withCursor (a .cursor) (newOpenFile (a .handle) (a .descriptor) (a .rights))) record
+          { handle-fits = omega arith; descriptor-fits = omega arith; cursor-fits = omega arith },
       refl,
     )
 
 pub open-row-spec : {M : Type 1} → statement M
 open-row-spec =
-    tie.close (tie.spec (λ c κs. search needs) (λ c κs. search needs) (λ c κs. search needs) (λ c. search needs) (λ c. search needs) (λ c. search needs)
-    (λ c. search needs) (λ c. search needs) (λ c. search needs) (λ c. search needs) (λ c. search needs) (λ c. search needs) (λ c. search needs)
-    (λ c. search needs) (λ c. search needs) (λ c. search needs) (λ c. search needs) (λ c. search needs) (λ c. search needs) returns)
+    tie.close (tie.spec (λ c κs. search needs) (λ c κs. search needs) (λ c κs. search needs) (λ c. search needs)
+    (λ c. search needs) (λ c. search needs)
+    (λ c. search needs) (λ c. search needs) (λ c. search needs) (λ c. search needs) (λ c. search needs)
+    (λ c. search needs) (λ c. search needs)
+    (λ c. search needs) (λ c. search needs) (λ c. search needs) (λ c. search needs) (λ c. search needs)
+    (λ c. search needs) returns)

@@ -9,8 +9,11 @@ use Rattle.memory.proofs.put_digests.Tie as tie
 
 returns : tie.Need-returns
 returns c =
-    let a = c .before .before .before .before .before .before .args in
-    (ap memOf (c .before .before .put .ensures) ∙ mem-digests (a .m .now) (a .x .now) (a .n) (omega arith) (omega arith) (omega arith), omega arith)
+    let a = c .before .before .before .before .before .before .args in (
+      ap memOf (c .before .before .put .ensures) ∙ mem-digests (a .m .now) (a .x .now) (a .n) (omega arith) (omega arith)
+          (omega arith),
+      omega arith,
+    )
 
 pub put-digests-spec : {M : Type 1} → statement M
 put-digests-spec = tie.close (tie.spec (λ c κs. search needs) (λ c. search needs) returns)

@@ -14,9 +14,15 @@ use Rattle.memory.proofs.put_head.Tie as tie
 returns : tie.Need-returns
 returns c =
     let a = c .before .before .before .before .before .before .before .args in
-    let e = c .before .before .put .ensures ∙ ap (overwrite (a .m .now) (a .k * 8)) (c .before .before .before .before .before .bytes8 .ensures) in
-    (ap memOf e ∙ mem-number (a .m .now) (encode 8 (a .x)) (omega arith) (a .k) (length-encode 8 (a .x)) (omega arith) ∙ ap (λ (x : ℕ). withHead (set (memOf (a .m .now) .head) (a .k) x) (memOf (a .m .now))) (decode-encode 8 (a .x) (omega arith)), omega arith)
+    let e = c .before .before .put .ensures ∙ ap (overwrite (a .m .now) (a .k * 8))
+    (c .before .before .before .before .before .bytes8 .ensures) in (
+      ap memOf e ∙ mem-number (a .m .now) (encode 8 (a .x)) (omega arith) (a .k) (length-encode 8 (a .x)) (omega arith)
+          ∙ ap (λ (x : ℕ). withHead (set (memOf (a .m .now) .head) (a .k) x) (memOf (a .m .now)))
+          (decode-encode 8 (a .x) (omega arith)),
+      omega arith,
+    )
 
 pub put-head-spec : {M : Type 1} → statement M
 put-head-spec =
-    tie.close (tie.spec (λ c κs. search needs) (λ c. search needs) (λ c. search needs) (λ c κs. search needs) (λ c. search needs) returns)
+    tie.close (tie.spec (λ c κs. search needs) (λ c. search needs) (λ c. search needs) (λ c κs. search needs)
+    (λ c. search needs) returns)

@@ -19,8 +19,10 @@ returns c =
     let a = c .args in
     let at = nodesAt + a .i * nodeWidth + 17 in
     let e : set (a .m .now) at (a .mode) ≡ overwrite (a .m .now) at (encode 1 (a .mode)) =
-    sym (ap (overwrite (a .m .now) at) (encode-byte (a .mode) (omega arith)) ∙ overwrite-one (a .m .now) at (a .mode) (omega arith)) in
+    sym (ap (overwrite (a .m .now) at) (encode-byte (a .mode) (omega arith)) ∙ overwrite-one (a .m .now) at (a .mode)
+    (omega arith)) in
     (ap memOf e ∙ mem-mode (a .m .now) (omega arith) (a .i) (a .mode) (omega arith) (omega arith), simp length-set)
 
 pub set-mode-spec : {M : Type 1} → statement M
-set-mode-spec = tie.close (tie.spec (λ c. search needs) (λ c. search needs) (λ c. search needs) (λ c. search needs) (λ c. search needs) returns)
+set-mode-spec = tie.close (tie.spec (λ c. search needs) (λ c. search needs) (λ c. search needs) (λ c. search needs)
+    (λ c. search needs) returns)

@@ -15,8 +15,13 @@ returns : tie.Need-returns
 unfolding part
 returns c =
     let a = c .before .args in
-    rw add-sub-cancel-left (sym (staged-at (a .m .now) (a .at) (a .n) (omega arith)), length-part (stagingAt + a .at) (a .n) (a .m .now) (omega arith))
+    rw add-sub-cancel-left (
+      sym (staged-at (a .m .now) (a .at) (a .n) (omega arith)),
+      length-part (stagingAt + a .at)
+          (a .n) (a .m .now) (omega arith),
+    )
 
 pub staged-spec : {M : Type 1} → statement M
 staged-spec =
-    tie.close (tie.spec (λ c. search needs) (λ c. search needs) (λ c. search needs) (λ c. search needs) (λ c. search needs) returns)
+    tie.close (tie.spec (λ c. search needs) (λ c. search needs) (λ c. search needs) (λ c. search needs)
+    (λ c. search needs) returns)

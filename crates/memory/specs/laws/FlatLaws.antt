@@ -41,7 +41,8 @@ pub flat-digests : (m : List ℕ) (n : ℕ) → n ≤ PAGES → memorySize ≤ l
     → put-all (bytes digestWidth) (take n (memOf m .digests)) ≡ part digestsAt (n * digestWidth) m
 flat-digests m n h f =
     ap (put-all (bytes digestWidth)) (first-digests m n h f)
-    ∙ flat-rows digestWidth n (part digestsAt (n * digestWidth) m) (length-part digestsAt (n * digestWidth) m (omega arith))
+    ∙ flat-rows digestWidth n (part digestsAt (n * digestWidth) m) (length-part digestsAt (n * digestWidth) m
+    (omega arith))
 
 pub mem-digests : (m x : List ℕ) (n : ℕ) → memorySize ≤ length m → length x ≡ n * digestWidth → n ≤ PAGES
     → memOf (overwrite m digestsAt x) ≡ withDigests (overwrite (memOf m .digests) 0 (rows digestWidth n x)) (memOf m)

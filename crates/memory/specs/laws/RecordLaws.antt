@@ -9,9 +9,11 @@ use lib.Seq.{take-append-seam}
 use Rattle.lists.specs.LittleEndian.{encode, decode, length-encode, decode-encode}
 use Rattle.lists.specs.NumberParts.{decode-first, decode-none}
 use Rattle.lists.specs.Parts.{part, overwrite}
-use Rattle.lists.specs.PartLaws.{part-part, part-before, part-after, part-within, length-part, overwrite-all, overwrite-front, overwrite-behind}
+use Rattle.lists.specs.PartLaws.{part-part, part-before, part-after, part-within, length-part, overwrite-all}
+use Rattle.lists.specs.PartLaws.{overwrite-front, overwrite-behind}
 use Rattle.filesystem.specs.Tables.{Node, OpenFile, newNode, withMode, withSize, withCursor}
-use Rattle.memory.specs.Records.{field, setField, rowName, nodeOf, nodeFront, nodeRow, openOf, openRow, nodeWidth, openWidth}
+use Rattle.memory.specs.Records.{field, setField, rowName, nodeOf, nodeFront, nodeRow, openOf, openRow, nodeWidth}
+use Rattle.memory.specs.Records.{openWidth}
 
 -- fields
 pub field-part : (a n at w : ℕ) (l : List ℕ) → at + w ≤ n → field at w (part a n l) ≡ field (a + at) w l
@@ -32,17 +34,20 @@ module _ (at w x : ℕ) (r : List ℕ) where
   unfolding field setField
   field-same h f =
       let n : length (encode w x) ≡ w = length-encode w x in
-      ap decode (part-within r at (encode w x) at w 0 (omega arith) (omega arith) h ∙ overwrite-all (part at w r) (encode w x) (length-part at w r h ∙ sym n))
+      ap decode (part-within r at (encode w x) at w 0 (omega arith) (omega arith) h
+      ∙ overwrite-all (part at w r) (encode w x) (length-part at w r h ∙ sym n))
       ∙ decode-encode w x f
 
   -- a part before or behind the field
   pub kept-before : (a n : ℕ) → at + w ≤ length r → a + n ≤ at → part a n (setField at w x r) ≡ part a n r
   unfolding setField
-  kept-before a n h g = let e : length (encode w x) ≡ w = length-encode w x in part-before r at (encode w x) a n g (omega arith)
+  kept-before a n h g = let e : length (encode w x) ≡ w = length-encode w x in part-before r at (encode w x) a n g
+      (omega arith)
 
   pub kept-after : (a n : ℕ) → at + w ≤ length r → at + w ≤ a → part a n (setField at w x r) ≡ part a n r
   unfolding setField
-  kept-after a n h g = let e : length (encode w x) ≡ w = length-encode w x in part-after r at (encode w x) a n (omega arith) (omega arith)
+  kept-after a n h g = let e : length (encode w x) ≡ w = length-encode w x in part-after r at (encode w x) a n
+      (omega arith) (omega arith)
 
 -- a node's row, whatever follows the length byte
 decode-one : (x : ℕ) → decode (x ∷ []) ≡ x
@@ -55,7 +60,8 @@ module _ (id parent kind mode size n : ℕ) where
   length-front = refl
 
   pub read-node : (q : List ℕ) → id < 256 ^ 8 → parent < 256 ^ 8 → size < 256 ^ 4
-      → nodeOf (nodeFront id parent kind mode size n ++ q) ≡ withSize size (newNode id parent kind mode (take (n % 33) q))
+      → nodeOf (nodeFront id parent kind mode size n ++ q) ≡ withSize size
+      (newNode id parent kind mode (take (n % 33) q))
   unfolding nodeFront nodeOf rowName field part encode
   read-node q hi hp hs =
       λ k. record {
@@ -72,8 +78,10 @@ pub name-read : (s t : List ℕ) → length s ≤ 32 → take (length s % 33) (s
 name-read s t h = let m : length s % 33 ≡ length s = omega arith in rw m (take-append-seam s t)
 
 -- the front and a name written over a row
-pub written-node : (id parent kind mode size : ℕ) (s z : List ℕ) → id < 256 ^ 8 → parent < 256 ^ 8 → size < 256 ^ 4 → length s ≤ 32
-    → nodeOf (overwrite (overwrite z 0 (nodeFront id parent kind mode size (length s))) 23 s) ≡ withSize size (newNode id parent kind mode s)
+pub written-node : (id parent kind mode size : ℕ) (s z : List ℕ) → id < 256 ^ 8 → parent < 256 ^ 8 → size < 256 ^ 4
+    → length s ≤ 32
+    → nodeOf (overwrite (overwrite z 0 (nodeFront id parent kind mode size (length s))) 23 s) ≡ withSize size
+    (newNode id parent kind mode s)
 written-node id parent kind mode size s z hi hp hs h =
     let f = nodeFront id parent kind mode size (length s) in
     let q = drop (length f) z in
@@ -92,8 +100,10 @@ pub record NodeFits (n : Node) : Type 0 where
 pub node-of-row : (n : Node) → NodeFits n → nodeOf (nodeRow n) ≡ n
 unfolding nodeRow
 node-of-row n f =
-    read-node (n .id) (n .parent) (n .kind) (n .mode) (n .size) (length (n .name)) (n .name ++ replicate (33 - length (n .name)) 0) (f .id-fits) (f .parent-fits) (f .size-fits)
-    ∙ ap (λ (s : List ℕ). withSize (n .size) (newNode (n .id) (n .parent) (n .kind) (n .mode) s)) (name-read (n .name) (replicate (33 - length (n .name)) 0) (f .name-fits))
+    read-node (n .id) (n .parent) (n .kind) (n .mode) (n .size) (length (n .name)) (n .name
+    ++ replicate (33 - length (n .name)) 0) (f .id-fits) (f .parent-fits) (f .size-fits)
+    ∙ ap (λ (s : List ℕ). withSize (n .size) (newNode (n .id) (n .parent) (n .kind) (n .mode) s))
+    (name-read (n .name) (replicate (33 - length (n .name)) 0) (f .name-fits))
 
 -- a node's mode, its size
 module _ (x : ℕ) (r : List ℕ) (fits : nodeWidth ≤ length r) where
@@ -139,8 +149,13 @@ open-of-row hint o f =
       cursor = decode-encode 4 (o .cursor) (f .cursor-fits) k;
     }
 
-pub open-with-cursor : (x : ℕ) (r : List ℕ) → openWidth ≤ length r → x < 256 ^ 4 → openOf (setField 16 4 x r) ≡ withCursor x (openOf r)
+pub open-with-cursor : (x : ℕ) (r : List ℕ) → openWidth ≤ length r → x < 256 ^ 4
+    → openOf (setField 16 4 x r) ≡ withCursor x (openOf r)
 unfolding openOf field
 open-with-cursor x r fits h =
-    rw (kept-before 16 4 x r 0 8 (omega arith) (omega arith), kept-before 16 4 x r 8 4 (omega arith) (omega arith), kept-before 16 4 x r 12 1 (omega arith) (omega arith))
+    rw (
+      kept-before 16 4 x r 0 8 (omega arith) (omega arith),
+      kept-before 16 4 x r 8 4 (omega arith) (omega arith),
+      kept-before 16 4 x r 12 1 (omega arith) (omega arith),
+    )
     (ap (λ (k : ℕ). withCursor k (openOf r)) (field-same 16 4 x r (omega arith) h))

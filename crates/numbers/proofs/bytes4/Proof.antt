@@ -10,4 +10,5 @@ unfolding encode
 returns c = refl
 
 pub bytes4-spec : {M : Type 1} → statement M
-bytes4-spec = tie.close (tie.spec (λ c. search needs) (λ c. search needs) (λ c. search needs) (λ c. search needs) returns)
+bytes4-spec = tie.close (tie.spec (λ c. search needs) (λ c. search needs) (λ c. search needs) (λ c. search needs)
+    returns)

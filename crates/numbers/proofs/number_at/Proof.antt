@@ -26,14 +26,16 @@ mul-x : tie.Need-mul-x Inv-loop μ-loop
 mul-x c =
     let a = c .before .before .before .args in
     let l = c .before .loop in
-    let r : 256 ^ (a .w - l .i) ≤ 72057594037927936 = pow-le-pow-right {n = 256} (omega arith) {i = a .w - l .i} {j = 7} (omega arith) in
+    let r : 256 ^ (a .w - l .i) ≤ 72057594037927936 = pow-le-pow-right {n = 256} (omega arith) {i = a .w - l .i} {j = 7}
+    (omega arith) in
     omega (arith, l .inv .2)
 
 add-x : tie.Need-add-x Inv-loop μ-loop
 add-x c =
     let a = c .before .before .before .before .before .args in
     let l = c .before .before .before .loop in
-    let r : 256 ^ (a .w - l .i) ≤ 72057594037927936 = pow-le-pow-right {n = 256} (omega arith) {i = a .w - l .i} {j = 7} (omega arith) in
+    let r : 256 ^ (a .w - l .i) ≤ 72057594037927936 = pow-le-pow-right {n = 256} (omega arith) {i = a .w - l .i} {j = 7}
+    (omega arith) in
     omega (arith, l .inv .2)
 
 loop-again : tie.Need-loop-again Inv-loop μ-loop
@@ -56,5 +58,6 @@ returns c =
 
 pub number-at-spec : {M : Type 1} → statement M
 number-at-spec =
-    tie.close (tie.spec Inv-loop μ-loop loop-holds (λ c. search needs) mul-x (λ c. search needs) (λ c. search needs) (λ c κs. search needs) add-x (λ c. search needs)
+    tie.close (tie.spec Inv-loop μ-loop loop-holds (λ c. search needs) mul-x (λ c. search needs) (λ c. search needs)
+    (λ c κs. search needs) add-x (λ c. search needs)
     loop-again returns)

@@ -1,4 +1,5 @@
--- `numbers::put_number` meets its contract. The invariant: i bytes are written, and y is what is left of the number. Assumes nothing.
+-- `numbers::put_number` meets its contract. The invariant: i bytes are written, and y is what is left of the number.
+-- Assumes nothing.
 use native.Mathlib.Omega.{arith}
 use Prim.Native.Nat.{_-_, _/_, _%_, _^_, _≤_}
 use mathlib.Core.Path.{_≡_, refl, sym}
@@ -14,7 +15,8 @@ use Rattle.numbers.proofs.put_number.Statement.{statement}
 use Rattle.numbers.proofs.put_number.Tie as tie
 
 abbrev Inv-loop : tie.InvT-loop
-Inv-loop m₀ at w x y₀ i₀ m y i = (i ≤ w) × (length m ≡ length m₀) × (m ≡ overwrite m₀ at (encode i x)) × (y ≡ x / 256 ^ i)
+Inv-loop m₀ at w x y₀ i₀ m y i = (i ≤ w) × (length m ≡ length m₀) × (m ≡ overwrite m₀ at (encode i x))
+    × (y ≡ x / 256 ^ i)
 
 abbrev μ-loop : tie.MeasureT-loop
 μ-loop m₀ at w x y₀ i₀ m y i = w - i
@@ -46,5 +48,6 @@ returns c =
 
 pub put-number-spec : {M : Type 1} → statement M
 put-number-spec =
-    tie.close (tie.spec Inv-loop μ-loop loop-holds (λ c. search needs) (λ c. search needs) (λ c. search needs) (λ c. search needs) (λ c. search needs) loop-again
+    tie.close (tie.spec Inv-loop μ-loop loop-holds (λ c. search needs) (λ c. search needs) (λ c. search needs)
+    (λ c. search needs) (λ c. search needs) loop-again
     (λ c. search needs) returns)

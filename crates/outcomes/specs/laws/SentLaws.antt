@@ -44,7 +44,8 @@ module _ (c : Config) (x : Result (digestStore c)) (r : Outcome) where
     state = h .state;
     answer = h .answer a;
     count = h .count;
-    filled = sym (ap (λ (b : List ℕ). atFront b a) (no-answer-bytes r q′ (x .outcome .answer) (h .answer [])) ∙ overwrite-none 0 a 0);
+    filled = sym (ap (λ (b : List ℕ). atFront b a) (no-answer-bytes r q′ (x .outcome .answer) (h .answer []))
+        ∙ overwrite-none 0 a 0);
     request = h .request;
   }
 
@@ -54,12 +55,15 @@ module _ (c : Config) (x : Result (digestStore c)) (r : Outcome) where
     answer = h .answer q;
     count = h .count;
     filled = h .filled;
-    request = sym (ap (λ (b : List ℕ). atFront b q) (no-request-bytes r a′ (x .outcome .answer) (h .answer [])) ∙ overwrite-none 0 q 0);
+    request = sym (ap (λ (b : List ℕ). atFront b q) (no-request-bytes r a′ (x .outcome .answer) (h .answer []))
+        ∙ overwrite-none 0 q 0);
   }
 
 -- a request goes out and the call waits
-pub asking-sends : (c : Config) (s : State (digestStore c)) (y : Result (digestStore c)) (p : Pending) (x : List ℕ) (a : Gathered) (m q q′ : List ℕ) (o : Outcome)
-    → y ≡ asking c (digestStore c) s x p a → stateOf c m ≡ waits c s p a → q′ ≡ atFront x q → o ≡ Ask (length x) → length x ≤ length q → Sends c y o m q q′
+pub asking-sends : (c : Config) (s : State (digestStore c)) (y : Result (digestStore c)) (p : Pending) (x : List ℕ)
+    (a : Gathered) (m q q′ : List ℕ) (o : Outcome)
+    → y ≡ asking c (digestStore c) s x p a → stateOf c m ≡ waits c s p a → q′ ≡ atFront x q → o ≡ Ask (length x)
+    → length x ≤ length q → Sends c y o m q q′
 unfolding answerIn lengthOf bytesIn settled requestBytes waits
 asking-sends c s y p x a m q q′ o z g u e h = record {
   state = ap (λ (n : Outcome). settled c n (stateOf c m)) e ∙ g ∙ ap (λ d. d .state) (sym z);
@@ -71,9 +75,11 @@ asking-sends c s y p x a m q q′ o z g u e h = record {
   request = u ∙ ap (λ d. atFront (requestBytes (d .outcome .answer)) q) (sym z);
 }
 
--- a move that is known: a refusal changes nothing, a stop is for good, a request goes out and the call waits, a call is done
+-- a move that is known: a refusal changes nothing, a stop is for good, a request goes out and the call waits, a call is
+-- done
 module _ (c : Config) (s : State (digestStore c)) (v : Move) where
-  pub refusal-sends : (n : ℕ) (m q : List ℕ) → v ≡ refuse n → stateOf c m ≡ s → Sends c (apply c (digestStore c) s v) (Refused n) m q q
+  pub refusal-sends : (n : ℕ) (m q : List ℕ) → v ≡ refuse n → stateOf c m ≡ s
+      → Sends c (apply c (digestStore c) s v) (Refused n) m q q
   unfolding apply answerIn lengthOf bytesIn settled requestBytes overwrite
   refusal-sends n m q z g = record {
     state = g ∙ ap (λ d. apply c (digestStore c) s d .state) (sym z);
@@ -82,7 +88,8 @@ module _ (c : Config) (s : State (digestStore c)) (v : Move) where
     request = ap (λ d. atFront (requestBytes (apply c (digestStore c) s d .outcome .answer)) q) (sym z);
   }
 
-  pub stop-sends : (n : ℕ) (m q : List ℕ) → v ≡ halt n → stateOf c m ≡ s → Sends c (apply c (digestStore c) s v) (Stopped n) m q q
+  pub stop-sends : (n : ℕ) (m q : List ℕ) → v ≡ halt n → stateOf c m ≡ s
+      → Sends c (apply c (digestStore c) s v) (Stopped n) m q q
   unfolding apply answerIn lengthOf bytesIn settled requestBytes overwrite stops
   stop-sends n m q z g = record {
     state = ap (stops c) g ∙ ap (λ d. apply c (digestStore c) s d .state) (sym z);
@@ -91,7 +98,8 @@ module _ (c : Config) (s : State (digestStore c)) (v : Move) where
     request = ap (λ d. atFront (requestBytes (apply c (digestStore c) s d .outcome .answer)) q) (sym z);
   }
 
-  pub done-sends : (t : Tables) (x : List (List (List ℕ))) (n : ℕ) (m q : List ℕ) → apply c (digestStore c) s v ≡ ending c (digestStore c) s (done n []) t x
+  pub done-sends : (t : Tables) (x : List (List (List ℕ))) (n : ℕ) (m q : List ℕ)
+      → apply c (digestStore c) s v ≡ ending c (digestStore c) s (done n []) t x
       → stateOf c m ≡ ends c s t x
       → Sends c (apply c (digestStore c) s v) (Done n 0) m q q
   unfolding answerIn lengthOf bytesIn settled requestBytes overwrite ends
@@ -107,8 +115,10 @@ module _ (c : Config) (s : State (digestStore c)) (v : Move) where
   unfolding apply
   finish-sends t n m q z g = done-sends t (s .contents) n m q (ap (apply c (digestStore c) s) z) g
 
-  pub request-sends : (p : Pending) (x m q q′ : List ℕ) (o : Outcome) → v ≡ send p x → stateOf c m ≡ waits c s p gatheredNone → q′ ≡ atFront x q
+  pub request-sends : (p : Pending) (x m q q′ : List ℕ) (o : Outcome) → v ≡ send p x
+      → stateOf c m ≡ waits c s p gatheredNone → q′ ≡ atFront x q
       → o ≡ Ask (length x) → length x ≤ length q
       → Sends c (apply c (digestStore c) s v) o m q q′
   unfolding apply
-  request-sends p x m q q′ o z g u e h = asking-sends c s _ p x gatheredNone m q q′ o (ap (apply c (digestStore c) s) z) g u e h
+  request-sends p x m q q′ o z g u e h = asking-sends c s _ p x gatheredNone m q q′ o (ap (apply c (digestStore c) s) z)
+      g u e h

@@ -2,7 +2,7 @@
 use mathlib.Core.Path.{sym, _∙_}
 use Rattle.memory.specs.Layout.{memOf}
 use Rattle.tables.specs.View.{tablesIn}
-use Rattle.path_calls.specs.Reached.{stat-malformed, stat-long, stat-good}
+use Rattle.path_calls.specs.laws.ReachedLaws.{stat-malformed, stat-long, stat-good}
 use borrow.Author.Needs.{needs}
 use Rattle.path_calls.proofs.judge_reach.Statement.{statement}
 use Rattle.path_calls.proofs.judge_reach.Tie as tie
@@ -10,20 +10,24 @@ use Rattle.path_calls.proofs.judge_reach.Tie as tie
 returns : tie.Need-returns
 returns c o =
     let a = c .before .before .before .before .before .args in
-    sym (stat-malformed (tablesIn (a .n) o (memOf (a .m .now))) (a .path .now) (sym (c .before .before .form .ensures) ∙ c .enum-told .given .1))
+    sym (stat-malformed (tablesIn (a .n) o (memOf (a .m .now))) (a .path .now) (sym (c .before .before .form .ensures)
+    ∙ c .enum-told .given .1))
 
 returns-2 : tie.Need-returns-2
 returns-2 c o =
     let a = c .before .before .before .before .before .args in
-    sym (stat-long (tablesIn (a .n) o (memOf (a .m .now))) (a .path .now) (sym (c .before .before .form .ensures) ∙ c .enum-told2 .given .1))
+    sym (stat-long (tablesIn (a .n) o (memOf (a .m .now))) (a .path .now) (sym (c .before .before .form .ensures)
+    ∙ c .enum-told2 .given .1))
 
 returns-3 : tie.Need-returns-3
 unfolding tablesIn
 returns-3 c o =
     let a = c .before .before .before .before .before .before .args in
     c .walk .ensures ∙ sym
-    (stat-good (tablesIn (a .n) o (memOf (a .m .now))) (a .path .now) (sym (c .before .before .before .form .ensures) ∙ c .before .enum-told3 .given .1))
+    (stat-good (tablesIn (a .n) o (memOf (a .m .now))) (a .path .now) (sym (c .before .before .before .form .ensures)
+    ∙ c .before .enum-told3 .given .1))
 
 pub judge-reach-spec : {M : Type 1} → statement M
 judge-reach-spec =
-    tie.close (tie.spec (λ c κs. search needs) (λ c. search needs) (λ c. search needs) (λ c. search needs) (λ c κs. search needs) returns returns-2 returns-3)
+    tie.close (tie.spec (λ c κs. search needs) (λ c. search needs) (λ c. search needs) (λ c. search needs)
+    (λ c κs. search needs) returns returns-2 returns-3)

@@ -24,7 +24,7 @@ use Rattle.paths.specs.declared.Placed.the-variants.{In}
 use Rattle.path_calls.specs.declared.Way.{Way}
 use Rattle.path_calls.specs.declared.Way.the-variants.{At}
 use Rattle.path_calls.specs.Judged.{nodeFor, wayFor}
-use Rattle.path_calls.specs.Reached.{way-at, way-node, Reached, stat-reached}
+use Rattle.path_calls.specs.laws.ReachedLaws.{way-at, way-node, Reached, stat-reached}
 use Rattle.tables.specs.laws.RowsInUse.{count-nodes, count-opens, node-front}
 
 -- a field x of node k
@@ -35,10 +35,12 @@ module _ (n : ℕ) (ns : List Node) (k : ℕ) (h : k < n) (x : ℕ) where
   front-mode : x ≡ nodeAt ns k .mode → x ≡ nodeAt (take n ns) k .mode
   front-mode e = e ∙ sym (ap (λ (r : Node). r .mode) (node-front n ns k h))
 
-  pub covers-front : (b : Bool) (r : ℕ) → x ≡ nodeAt ns k .mode → b ≡ covers x r → b ≡ covers (nodeAt (take n ns) k .mode) r
+  pub covers-front : (b : Bool) (r : ℕ) → x ≡ nodeAt ns k .mode → b ≡ covers x r
+      → b ≡ covers (nodeAt (take n ns) k .mode) r
   covers-front b r e q = q ∙ ap (λ (y : ℕ). covers y r) (front-mode e)
 
-  pub children-front : (y : ℕ) → x ≡ nodeAt ns k .id → y ≡ length (children (take n ns) x) → y ≡ length (children (take n ns) (nodeAt (take n ns) k .id))
+  pub children-front : (y : ℕ) → x ≡ nodeAt ns k .id → y ≡ length (children (take n ns) x)
+      → y ≡ length (children (take n ns) (nodeAt (take n ns) k .id))
   children-front y e q = q ∙ ap (λ (j : ℕ). length (children (take n ns) j)) (front-id e)
 
   module _ (e : x ≡ nodeAt ns k .kind) where
@@ -56,23 +58,27 @@ module _ (n : ℕ) (ns : List Node) (k : ℕ) (h : k < n) (x : ℕ) where
     no-bit q = ap (hasBit b) (node-front n ns k h) ∙ ne-eqb _ _ (λ p. q (ap (λ (y : ℕ). y / b % 2) e ∙ p))
 
 -- whether node k is open: where its id was found among the handles
-module _ (m : List ℕ) (n o k : ℕ) (h : k < n) (l : o ≤ openRows) (id x : ℕ) (e : id ≡ nodeAt (memOf m .nodes) k .id) (f : x ≡ findHandle (take o (memOf m .opens)) id) where
+module _ (m : List ℕ) (n o k : ℕ) (h : k < n) (l : o ≤ openRows) (id x : ℕ) (e : id ≡ nodeAt (memOf m .nodes) k .id)
+    (f : x ≡ findHandle (take o (memOf m .opens)) id) where
   found : x ≡ findHandle (take o (memOf m .opens)) (nodeAt (take n (memOf m .nodes)) k .id)
   found = f ∙ ap (findHandle (take o (memOf m .opens))) (front-id n (memOf m .nodes) k h id e)
 
   pub is-open : x < o → isOpen (tablesIn n o (memOf m)) (nodeAt (take n (memOf m .nodes)) k) ≡ true
   unfolding tablesIn
   is-open q =
-      ap not (lt-leb (length (take o (memOf m .opens))) (findHandle (take o (memOf m .opens)) (nodeAt (take n (memOf m .nodes)) k .id)) (omega (arith, count-opens m o l, found)))
+      ap not (lt-leb (length (take o (memOf m .opens))) (findHandle (take o (memOf m .opens))
+      (nodeAt (take n (memOf m .nodes)) k .id)) (omega (arith, count-opens m o l, found)))
 
   pub not-open : o ≤ x → isOpen (tablesIn n o (memOf m)) (nodeAt (take n (memOf m .nodes)) k) ≡ false
   unfolding tablesIn
   not-open q =
-      ap not (le-leb (length (take o (memOf m .opens))) (findHandle (take o (memOf m .opens)) (nodeAt (take n (memOf m .nodes)) k .id)) (omega (arith, count-opens m o l, found)))
+      ap not (le-leb (length (take o (memOf m .opens))) (findHandle (take o (memOf m .opens))
+      (nodeAt (take n (memOf m .nodes)) k .id)) (omega (arith, count-opens m o l, found)))
 
 -- Answers over the first n nodes: the places in them are below n.
 module _ (m : List ℕ) (n o : ℕ) (s : List ℕ) (h : 0 < n) (l : n ≤ NODES) where
-  pub reached-front : (r : Walked) (k : ℕ) → r ≡ nodeFor (tablesIn n o (memOf m)) s stat → r ≡ node k → Reached (tablesIn n o (memOf m)) s k × (k < n)
+  pub reached-front : (r : Walked) (k : ℕ) → r ≡ nodeFor (tablesIn n o (memOf m)) s stat → r ≡ node k
+      → Reached (tablesIn n o (memOf m)) s k × (k < n)
   unfolding tablesIn
   reached-front r k e q =
       let c = count-nodes m n l in
@@ -80,7 +86,8 @@ module _ (m : List ℕ) (n o : ℕ) (s : List ℕ) (h : 0 < n) (l : n ≤ NODES)
       (w, omega (arith, w .node-within))
 
   pub way-front : (r : Way) (k d : ℕ) → r ≡ wayFor (tablesIn n o (memOf m)) s stat → r ≡ At k d
-      → Reached (tablesIn n o (memOf m)) s k × (parentOf (tablesIn n o (memOf m) .nodes) 0 (componentsOf s) ≡ d) × (k < n) × (d < n)
+      → Reached (tablesIn n o (memOf m)) s k × (parentOf (tablesIn n o (memOf m) .nodes) 0 (componentsOf s) ≡ d)
+      × (k < n) × (d < n)
   unfolding tablesIn
   way-front r k d e q =
       let t = tablesIn n o (memOf m) in
@@ -90,7 +97,8 @@ module _ (m : List ℕ) (n o : ℕ) (s : List ℕ) (h : 0 < n) (l : n ≤ NODES)
       (w, a .1, omega (arith, w .node-within), omega (arith, w .parent-within, a .1))
 
 module _ (m : List ℕ) (n : ℕ) (s : List ℕ) (h : 0 < n) (l : n ≤ NODES) where
-  pub holds-front : (r : Placed) (d at : ℕ) → r ≡ placed (take n (memOf m .nodes)) s → r ≡ In d at → Holds (take n (memOf m .nodes)) s d at × (d < n)
+  pub holds-front : (r : Placed) (d at : ℕ) → r ≡ placed (take n (memOf m .nodes)) s → r ≡ In d at
+      → Holds (take n (memOf m .nodes)) s d at × (d < n)
   holds-front r d at e q =
       let c = count-nodes m n l in
       let w = placed-in (take n (memOf m .nodes)) s d at (omega arith) (sym e ∙ q) in

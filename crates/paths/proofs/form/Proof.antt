@@ -13,7 +13,8 @@ returns-2 : tie.Need-returns-2
 returns-2 c = sym (form-no-slash (c .before .before .before .before .args .path .now) (c .if2 .taken))
 
 returns-3 : tie.Need-returns-3
-returns-3 c = sym (form-root (c .before .before .before .before .before .args .path .now) (c .if3 .taken) (c .before .if2 .left))
+returns-3 c = sym (form-root (c .before .before .before .before .before .args .path .now) (c .if3 .taken)
+    (c .before .if2 .left))
 
 returns-4 : tie.Need-returns-4
 returns-4 c =

@@ -15,10 +15,12 @@ returns-3 : tie.Need-returns-3
 returns-3 c = name-dot (c .before .before .before .before .args .part .now) (c .if3 .taken) (c .before .if2 .left)
 
 returns-4 : tie.Need-returns-4
-returns-4 c = name-second (c .before .before .before .before .before .before .args .part .now) (omega arith) (c .if4 .taken)
+returns-4 c = name-second (c .before .before .before .before .before .before .args .part .now) (omega arith)
+    (c .if4 .taken)
 
 returns-5 : tie.Need-returns-5
-returns-5 c = name-dots (c .before .before .before .before .before .before .args .part .now) (omega arith) (c .before .before .before .if2 .left) (c .if4 .left)
+returns-5 c = name-dots (c .before .before .before .before .before .before .args .part .now) (omega arith)
+    (c .before .before .before .if2 .left) (c .if4 .left)
 
 pub is-name-spec : {M : Type 1} → statement M
 is-name-spec =

@@ -14,7 +14,8 @@ returns c =
     let a = c .before .before .before .before .before .args in
     let ns = take (a .n) (memOf (a .m .now) .nodes) in
     let n : length ns ≡ a .n = count-nodes (a .m .now) (a .n) (omega arith) in
-    let k = child-front (a .n) (memOf (a .m .now) .nodes) (a .d) _ _ _ (omega arith) (c .before .before .node-id .ensures) (c .before .find-child .ensures) in
+    let k = child-front (a .n) (memOf (a .m .now) .nodes) (a .d) _ _ _ (omega arith)
+    (c .before .before .node-id .ensures) (c .before .find-child .ensures) in
     sym (child-absent ns (a .d) _ _ k (omega arith))
 
 returns-2 : tie.Need-returns-2
@@ -22,7 +23,8 @@ returns-2 c =
     let a = c .before .before .before .before .before .args in
     let ns = take (a .n) (memOf (a .m .now) .nodes) in
     let n : length ns ≡ a .n = count-nodes (a .m .now) (a .n) (omega arith) in
-    let k = child-front (a .n) (memOf (a .m .now) .nodes) (a .d) _ _ _ (omega arith) (c .before .before .node-id .ensures) (c .before .find-child .ensures) in
+    let k = child-front (a .n) (memOf (a .m .now) .nodes) (a .d) _ _ _ (omega arith)
+    (c .before .before .node-id .ensures) (c .before .find-child .ensures) in
     sym (child-there ns (a .d) _ _ k (omega arith))
 
 pub last-step-spec : {M : Type 1} → statement M

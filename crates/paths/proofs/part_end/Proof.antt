@@ -35,8 +35,12 @@ returns-2 c =
 loop-again : tie.Need-loop-again Inv-loop μ-loop
 loop-again c =
     let s = c .before .before .before .before .before .before .args .path .now in
-    let l = c .before .before .before .before .before .loop in
-    (omega arith, omega arith, scan-on isEnd 0 _ s (l .i) (l .inv .2) (omega arith) (end-neither _ (c .before .before .if1 .left) (c .if2 .left)))
+    let l = c .before .before .before .before .before .loop in (
+      omega arith,
+      omega arith,
+      scan-on isEnd 0 _ s (l .i) (l .inv .2) (omega arith)
+          (end-neither _ (c .before .before .if1 .left) (c .if2 .left)),
+    )
 
 returns-3 : tie.Need-returns-3 Inv-loop μ-loop
 returns-3 c =
@@ -46,5 +50,6 @@ returns-3 c =
 
 pub part-end-spec : {M : Type 1} → statement M
 part-end-spec =
-    tie.close (tie.spec Inv-loop μ-loop loop-holds (λ c. search needs) returns (λ c. search needs) returns-2 (λ c. search needs) (λ c. search needs) loop-again
+    tie.close (tie.spec Inv-loop μ-loop loop-holds (λ c. search needs) returns (λ c. search needs) returns-2
+    (λ c. search needs) (λ c. search needs) loop-again
     returns-3)

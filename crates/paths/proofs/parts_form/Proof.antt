@@ -1,4 +1,5 @@
--- `paths::parts_form` meets its contract. The invariant: the whole has the form that what stands from `at` on has, with what was
+-- `paths::parts_form` meets its contract. The invariant: the whole has the form that what stands from `at` on has, with
+-- what was
 -- long before; the first part of it ends at `end`. Assumes nothing.
 use native.Mathlib.Omega.{arith}
 use Prim.Native.Nat.{_+_, _≤_, _-_}
@@ -41,24 +42,32 @@ returns-2 c =
     let if1 = c .before .before .before .if1 in
     let s = c .before .before .before .before .before .before .before .before .before .args .path .now in
     let l = c .before .before .before .before .before .before .loop in
-    sym (l .inv .3 ∙ from-bad s (l .at) (l .end) (l .inv .2) (omega arith) (l .long) (omega arith) (if1 .left) (sym (c .before .is-name .ensures) ∙ not-true _ (c .if2 .taken)))
+    sym (l .inv .3 ∙ from-bad s (l .at) (l .end) (l .inv .2) (omega arith) (l .long) (omega arith) (if1 .left)
+    (sym (c .before .is-name .ensures) ∙ not-true _ (c .if2 .taken)))
 
 loop-again : tie.Need-loop-again Inv-loop μ-loop
 loop-again c =
     let is-name = c .before .before .before .is-name in
     let if1 = c .before .before .before .before .before .if1 in
-    let s = c .before .before .before .before .before .before .before .before .before .before .before .args .path .now in
+    let s = c .before .before .before .before .before .before .before .before .before .before .before .args .path .now
+    in
     let l = c .before .before .before .before .before .before .before .before .loop in
     let e = c .part-end2 .ensures in
     let on = from-on s (l .at) (l .end) (l .inv .2) (omega arith) (l .long) (omega arith) (if1 .left)
-    (sym (is-name .ensures) ∙ not-false _ (c .before .before .if2 .left)) in
-    (e .1, e .2, e .0, l .inv .3 ∙ on ∙ ap (λ (b : Bool). partsForm b (split (drop (l .end + 1) s))) (sym (c .before .long-with .ensures)))
+    (sym (is-name .ensures) ∙ not-false _ (c .before .before .if2 .left)) in (
+      e .1,
+      e .2,
+      e .0,
+      l .inv .3 ∙ on ∙ ap (λ (b : Bool). partsForm b (split (drop (l .end + 1) s)))
+          (sym (c .before .long-with .ensures)),
+    )
 
 returns-3 : tie.Need-returns-3 Inv-loop μ-loop
 returns-3 c =
     let s = c .before .before .before .before .before .before .before .args .path .now in
     let l = c .before .before .before .before .loop in
-    sym (l .inv .3 ∙ last-bad s (l .at) (l .end) (l .inv .2) (omega arith) (l .long) (omega arith) (sym (c .before .is-name2 .ensures) ∙ not-true _ (c .if3 .taken)))
+    sym (l .inv .3 ∙ last-bad s (l .at) (l .end) (l .inv .2) (omega arith) (l .long) (omega arith)
+    (sym (c .before .is-name2 .ensures) ∙ not-true _ (c .if3 .taken)))
 
 returns-4 : tie.Need-returns-4 Inv-loop μ-loop
 unfolding lengthForm pick
@@ -82,7 +91,10 @@ returns-5 c =
 
 pub parts-form-spec : {M : Type 1} → statement M
 parts-form-spec =
-    tie.close (tie.spec Inv-loop μ-loop (λ c κs. search needs) loop-holds (λ c. search needs) returns (λ c. search needs) (λ c. search needs) (λ c. search needs)
-    (λ c κs. search needs) returns-2 (λ c. search needs) (λ c κs. search needs) (λ c. search needs) (λ c κs. search needs) (λ c. search needs)
-    loop-again (λ c. search needs) (λ c. search needs) (λ c. search needs) (λ c κs. search needs) returns-3 (λ c. search needs) (λ c κs. search needs)
+    tie.close (tie.spec Inv-loop μ-loop (λ c κs. search needs) loop-holds (λ c. search needs) returns
+    (λ c. search needs) (λ c. search needs) (λ c. search needs)
+    (λ c κs. search needs) returns-2 (λ c. search needs) (λ c κs. search needs) (λ c. search needs)
+    (λ c κs. search needs) (λ c. search needs)
+    loop-again (λ c. search needs) (λ c. search needs) (λ c. search needs) (λ c κs. search needs) returns-3
+    (λ c. search needs) (λ c κs. search needs)
     returns-4 returns-5)

@@ -17,23 +17,28 @@ returns c =
     let a = c .before .before .before .args in
     let ns = memOf (a .m .now) .nodes in
     let e = ap isDirectory (node-front (a .n) ns (a .d) (omega arith)) in
-    sym (search-no-folder (take (a .n) ns) (a .d) (e ∙ ne-eqb (nodeAt ns (a .d) .kind) 2 (λ q. c .if1 .taken (c .before .node-kind .ensures ∙ q))))
+    sym (search-no-folder (take (a .n) ns) (a .d) (e
+    ∙ ne-eqb (nodeAt ns (a .d) .kind) 2 (λ q. c .if1 .taken (c .before .node-kind .ensures ∙ q))))
 
 returns-2 : tie.Need-returns-2
 returns-2 c =
     let a = c .before .before .before .before .before .args in
     let ns = memOf (a .m .now) .nodes in
     let f = node-front (a .n) ns (a .d) (omega arith) in
-    let k = ap isDirectory f ∙ eq-eqb (nodeAt ns (a .d) .kind) 2 (sym (c .before .before .before .node-kind .ensures) ∙ c .before .before .if1 .left) in
-    sym (search-barred (take (a .n) ns) (a .d) k (ap (hasBit 1) f ∙ ne-eqb (nodeAt ns (a .d) .mode / 1 % 2) 1 (λ q. c .if2 .taken (omega (arith, c .before .node-mode .ensures)))))
+    let k = ap isDirectory f ∙ eq-eqb (nodeAt ns (a .d) .kind) 2 (sym (c .before .before .before .node-kind .ensures)
+    ∙ c .before .before .if1 .left) in
+    sym (search-barred (take (a .n) ns) (a .d) k (ap (hasBit 1) f ∙ ne-eqb (nodeAt ns (a .d) .mode / 1 % 2) 1
+    (λ q. c .if2 .taken (omega (arith, c .before .node-mode .ensures)))))
 
 returns-3 : tie.Need-returns-3
 returns-3 c =
     let a = c .before .before .before .before .before .args in
     let ns = memOf (a .m .now) .nodes in
     let f = node-front (a .n) ns (a .d) (omega arith) in
-    let k = ap isDirectory f ∙ eq-eqb (nodeAt ns (a .d) .kind) 2 (sym (c .before .before .before .node-kind .ensures) ∙ c .before .before .if1 .left) in
-    sym (search-free (take (a .n) ns) (a .d) k (ap (hasBit 1) f ∙ eq-eqb (nodeAt ns (a .d) .mode / 1 % 2) 1 (omega (arith, c .before .node-mode .ensures, c .if2 .left))))
+    let k = ap isDirectory f ∙ eq-eqb (nodeAt ns (a .d) .kind) 2 (sym (c .before .before .before .node-kind .ensures)
+    ∙ c .before .before .if1 .left) in
+    sym (search-free (take (a .n) ns) (a .d) k (ap (hasBit 1) f ∙ eq-eqb (nodeAt ns (a .d) .mode / 1 % 2) 1
+    (omega (arith, c .before .node-mode .ensures, c .if2 .left))))
 
 pub search-number-spec : {M : Type 1} → statement M
 search-number-spec =

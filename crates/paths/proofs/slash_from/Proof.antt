@@ -12,7 +12,8 @@ use Rattle.paths.proofs.slash_from.Statement.{statement}
 use Rattle.paths.proofs.slash_from.Tie as tie
 
 abbrev Inv-loop : tie.InvT-loop
-Inv-loop path at i₀ i = (at ≤ i) × (i ≤ length path) × (at + place isSlash (drop at path) ≡ i + place isSlash (drop i path))
+Inv-loop path at i₀ i = (at ≤ i) × (i ≤ length path)
+    × (at + place isSlash (drop at path) ≡ i + place isSlash (drop i path))
 
 abbrev μ-loop : tie.MeasureT-loop
 μ-loop path at i₀ i = length path - i
@@ -40,4 +41,5 @@ returns-2 c =
 
 pub slash-from-spec : {M : Type 1} → statement M
 slash-from-spec =
-    tie.close (tie.spec Inv-loop μ-loop loop-holds (λ c. search needs) returns (λ c. search needs) (λ c. search needs) loop-again returns-2)
+    tie.close (tie.spec Inv-loop μ-loop loop-holds (λ c. search needs) returns (λ c. search needs) (λ c. search needs)
+    loop-again returns-2)

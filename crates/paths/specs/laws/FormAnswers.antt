@@ -25,7 +25,8 @@ pub read-components : (s : List ℕ) (p : Path) → readPath s ≡ some p → co
 unfolding readPath
 read-components [] = λ p e. absurd (some≢none p (sym e))
 read-components (b ∷ s) =
-    λ p. pick-ind (λ o. o ≡ some p → componentsOf (b ∷ s) ≡ p) (eqb b slash) (λ q e. after-components b s p e) (λ q e. absurd (some≢none p (sym e)))
+    λ p. pick-ind (λ o. o ≡ some p → componentsOf (b ∷ s) ≡ p) (eqb b slash) (λ q e. after-components b s p e)
+    (λ q e. absurd (some≢none p (sym e)))
 
 length-good : (b : Bool) → lengthForm b ≡ Good → b ≡ false
 unfolding lengthForm pick
@@ -55,7 +56,8 @@ module _ (s : List ℕ) where
   unfolding formOf pathForm
   form-long = go (readPath s) refl
     where
-      go : (o : Option Path) → readPath s ≡ o → pathForm o ≡ Long → (readPath s ≡ some (componentsOf s)) × (tooLong (componentsOf s) ≡ true)
+      go : (o : Option Path) → readPath s ≡ o → pathForm o ≡ Long → (readPath s ≡ some (componentsOf s))
+          × (tooLong (componentsOf s) ≡ true)
       go none r e = let z : _≡_ {A = ℕ} 0 1 = cc in absurd (omega arith)
       go (some p) r e =
           let q = read-components s p r in
@@ -65,7 +67,8 @@ module _ (s : List ℕ) where
   unfolding formOf pathForm
   form-good = go (readPath s) refl
     where
-      go : (o : Option Path) → readPath s ≡ o → pathForm o ≡ Good → (readPath s ≡ some (componentsOf s)) × (tooLong (componentsOf s) ≡ false)
+      go : (o : Option Path) → readPath s ≡ o → pathForm o ≡ Good → (readPath s ≡ some (componentsOf s))
+          × (tooLong (componentsOf s) ≡ false)
       go none r e = let z : _≡_ {A = ℕ} 0 1 = cc in absurd (omega arith)
       go (some p) r e =
           let q = read-components s p r in

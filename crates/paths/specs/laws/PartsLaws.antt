@@ -53,19 +53,22 @@ split-some [] = some
 split-some (b ∷ s) = pick-ind Some (eqb b slash) (λ e. some) (λ e. some-onto b (split s))
 
 -- a part that ends at a slash, and what is behind that
-pub split-slash : (k : ℕ) (s : List ℕ) → ((i : ℕ) → i < k → isSlash (getD s i 0) ≡ false) → k < length s → isSlash (getD s k 0) ≡ true
+pub split-slash : (k : ℕ) (s : List ℕ) → ((i : ℕ) → i < k → isSlash (getD s i 0) ≡ false) → k < length s
+    → isSlash (getD s k 0) ≡ true
     → split s ≡ take k s ∷ split (drop (suc k) s)
 unfolding split onto
 split-slash k [] before h e = absurd (omega arith)
 split-slash zero (b ∷ s) before h e = pick-true _ _ _ e
 split-slash (suc k) (b ∷ s) before h e =
-    pick-false _ _ _ (before 0 (omega arith)) ∙ ap (onto b) (split-slash k s (λ i l. before (suc i) (omega arith)) (omega arith) e)
+    pick-false _ _ _ (before 0 (omega arith))
+    ∙ ap (onto b) (split-slash k s (λ i l. before (suc i) (omega arith)) (omega arith) e)
 
 -- the last part
 pub split-last : (s : List ℕ) → ((i : ℕ) → i < length s → isSlash (getD s i 0) ≡ false) → split s ≡ s ∷ []
 unfolding split onto
 split-last [] before = refl
-split-last (b ∷ s) before = pick-false _ _ _ (before 0 (omega arith)) ∙ ap (onto b) (split-last s (λ i l. before (suc i) (omega arith)))
+split-last (b ∷ s) before = pick-false _ _ _ (before 0 (omega arith))
+    ∙ ap (onto b) (split-last s (λ i l. before (suc i) (omega arith)))
 
 -- what ends a part
 pub end-slash : (b : ℕ) → b ≡ slash → isEnd b ≡ true
@@ -86,7 +89,8 @@ pub end-none : (b : ℕ) → isEnd b ≡ false → isSlash b ≡ false
 end-none b e = or-snd (eqb b 0) _ e
 
 -- Bytes from `at` on, searched for what a slash passes: the part that ends at `end`.
-module _ (f : ℕ → Bool) (sees : (b : ℕ) → f b ≡ false → isSlash b ≡ false) (s : List ℕ) (at end : ℕ) (reach : end ≡ at + place f (drop at s)) where
+module _ (f : ℕ → Bool) (sees : (b : ℕ) → f b ≡ false → isSlash b ≡ false) (s : List ℕ) (at end : ℕ)
+    (reach : end ≡ at + place f (drop at s)) where
   no-slash : (i : ℕ) → i < end - at → isSlash (getD (drop at s) i 0) ≡ false
   no-slash i h = sees (getD (drop at s) i 0) (place-first f (drop at s) 0 i (omega arith))
 
@@ -105,10 +109,12 @@ module _ (f : ℕ → Bool) (sees : (b : ℕ) → f b ≡ false → isSlash b �
         let e : end - at ≡ place f (drop at s) = omega arith in
         ap f (sym end-byte) ∙ ap (λ (k : ℕ). f (getD (drop at s) k 0)) e ∙ place-passes f (drop at s) 0 l
 
-    pub part-slash : isSlash (getD s end 0) ≡ true → split (drop at s) ≡ take (end - at) (drop at s) ∷ split (drop (end + 1) s)
+    pub part-slash : isSlash (getD s end 0) ≡ true → split (drop at s) ≡ take (end - at) (drop at s)
+        ∷ split (drop (end + 1) s)
     part-slash p =
         let n : at + suc (end - at) ≡ end + 1 = omega arith in
-        let r : drop (suc (end - at)) (drop at s) ≡ drop (end + 1) s = drop-drop (suc (end - at)) at s ∙ ap (λ (k : ℕ). drop k s) n in
+        let r : drop (suc (end - at)) (drop at s) ≡ drop (end + 1) s = drop-drop (suc (end - at)) at s
+        ∙ ap (λ (k : ℕ). drop k s) n in
         split-slash (end - at) (drop at s) no-slash (omega (arith, length-drop at s)) (ap isSlash end-byte ∙ p)
         ∙ ap (λ (q : List ℕ). take (end - at) (drop at s) ∷ split q) r
 

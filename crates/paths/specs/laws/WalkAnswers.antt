@@ -7,9 +7,11 @@ use native.Mathlib.Omega.{arith}
 use lib.ListN.{length, drop, length-append}
 use lib.Seq.{drop-append-seam}
 use Rattle.lists.specs.Pick.{pick}
-use Rattle.lists.specs.Checks.{Check, decide, Passed, First, decide-ind, decide-passed, decide-first, decide-append, decide-map}
+use Rattle.lists.specs.Checks.{Check, decide, Passed, First, decide-ind, decide-passed, decide-first, decide-append}
+use Rattle.lists.specs.Checks.{decide-map}
 use Rattle.filesystem.specs.Tables.{Node, absent}
-use Rattle.filesystem.specs.Paths.{Path, slash, joined, split, childAt, walk, walkChecks, parentChecks, parentOf, lastOf}
+use Rattle.filesystem.specs.Paths.{Path, slash, joined, split, childAt, walk, walkChecks, parentChecks, parentOf}
+use Rattle.filesystem.specs.Paths.{lastOf}
 use Rattle.filesystem.specs.PathLaws.{joined-split, walkChecks-parent, walk-last, walk-place, parent-place}
 use Rattle.paths.specs.Parts.{componentsOf}
 use Rattle.paths.specs.laws.PartsLaws.{Some, some}
@@ -27,15 +29,22 @@ last-joined c (x ∷ cs) =
     let (y, e) = last-joined x cs in
     (c ++ (slash ∷ y), ap (λ (t : List ℕ). c ++ (slash ∷ t)) e ∙ sym (append-assoc c (slash ∷ y) (lastOf (x ∷ cs))))
 
-last-end : (b : ℕ) (s : List ℕ) (c : List ℕ) (cs : Path) → split s ≡ c ∷ cs → drop (length (b ∷ s) - length (lastOf (c ∷ cs))) (b ∷ s) ≡ lastOf (c ∷ cs)
+last-end : (b : ℕ) (s : List ℕ) (c : List ℕ) (cs : Path) → split s ≡ c ∷ cs
+    → drop (length (b ∷ s) - length (lastOf (c ∷ cs))) (b ∷ s) ≡ lastOf (c ∷ cs)
 unfolding joined
 last-end b s c cs e =
     let (y, j) = last-joined c cs in
     let q : s ≡ y ++ lastOf (c ∷ cs) = tail-eq-of-cons-eq (sym (joined-split s) ∙ ap joined e) ∙ j in
-    let n : length (b ∷ s) - length (lastOf (c ∷ cs)) ≡ suc (length y) = omega (arith, ap length q, length-append y (lastOf (c ∷ cs))) in
+    let n : length (b ∷ s) - length (lastOf (c ∷ cs)) ≡ suc (length y) = omega (
+      arith,
+      ap length q,
+      length-append y
+          (lastOf (c ∷ cs)),
+    ) in
     ap (λ (k : ℕ). drop k (b ∷ s)) n ∙ ap (drop (length y)) q ∙ drop-append-seam y (lastOf (c ∷ cs))
 
-pub last-start : (s : List ℕ) (c : List ℕ) (cs : Path) → componentsOf s ≡ c ∷ cs → drop (length s - length (lastOf (c ∷ cs))) s ≡ lastOf (c ∷ cs)
+pub last-start : (s : List ℕ) (c : List ℕ) (cs : Path) → componentsOf s ≡ c ∷ cs
+    → drop (length s - length (lastOf (c ∷ cs))) s ≡ lastOf (c ∷ cs)
 unfolding componentsOf
 last-start [] c cs e = let z : _≡_ {A = ℕ} 0 1 = cc in absurd (omega arith)
 last-start (b ∷ []) c cs e = let z : _≡_ {A = ℕ} 0 1 = cc in absurd (omega arith)
@@ -48,13 +57,15 @@ lastStep ns s (In d a) = childStep ns d (drop a s)
 lastStep ns s (refusedPlace k) = refusedNode k
 
 module _ (ns : List Node) (s : List ℕ) where
-  last-walked : (c : List ℕ) (cs : Path) → componentsOf s ≡ c ∷ cs → walked ns (c ∷ cs) ≡ lastStep ns s (placedFrom ns (length s) 0 (c ∷ cs))
+  last-walked : (c : List ℕ) (cs : Path) → componentsOf s ≡ c ∷ cs
+      → walked ns (c ∷ cs) ≡ lastStep ns s (placedFrom ns (length s) 0 (c ∷ cs))
   unfolding walked placedFrom decide lastStep childStep
   last-walked c cs e =
       let p = c ∷ cs in
       let at = length s - length (lastOf p) in
       let f : ℕ → Walked = λ k. pick (absent ns k) (refusedNode 2) (node k) in
-      let k : walk ns 0 p ≡ childAt ns (parentOf ns 0 p) (drop at s) = walk-last ns 0 c cs ∙ ap (childAt ns (parentOf ns 0 p)) (sym (last-start s c cs e)) in
+      let k : walk ns 0 p ≡ childAt ns (parentOf ns 0 p) (drop at s) = walk-last ns 0 c cs
+      ∙ ap (childAt ns (parentOf ns 0 p)) (sym (last-start s c cs e)) in
       ap (λ (l : List Check). decide refusedNode l (node (walk ns 0 p))) (walkChecks-parent ns 0 c cs)
       ∙ decide-append refusedNode (parentChecks ns 0 p) ((2, absent ns (walk ns 0 p)) ∷ []) (node (walk ns 0 p))
       ∙ ap (λ (j : ℕ). decide refusedNode (parentChecks ns 0 p) (f j)) k
@@ -98,7 +109,8 @@ module _ (ns : List Node) (s : List ℕ) where
       go [] = unfold placedIn in λ e. let z : _≡_ {A = ℕ} 0 1 = cc in absurd (omega arith)
       go (c ∷ cs) =
           unfold placedIn placedFrom in
-          decide-ind refusedPlace (λ r. r ≡ refusedPlace k → First k (parentChecks ns 0 (c ∷ cs))) (parentChecks ns 0 (c ∷ cs)) _
+          decide-ind refusedPlace (λ r. r ≡ refusedPlace k → First k (parentChecks ns 0 (c ∷ cs)))
+          (parentChecks ns 0 (c ∷ cs)) _
           (λ n f e. let q : n ≡ k = cc in subst (λ (j : ℕ). First j (parentChecks ns 0 (c ∷ cs))) q f)
           (λ p e. let z : _≡_ {A = ℕ} 0 1 = cc in absurd (omega arith))
 
@@ -131,11 +143,15 @@ module _ (ns : List Node) (s : List ℕ) where
 
   -- checks that begin with those on the way
   module _ {A : Type 0} (stop : ℕ → A) (more : List Check) (x : A) where
-    pub placed-stops : (k : ℕ) → placed ns s ≡ refusedPlace k → decide stop (parentChecks ns 0 (componentsOf s) ++ more) x ≡ stop k
-    placed-stops k e = decide-append stop (parentChecks ns 0 (componentsOf s)) more x ∙ decide-first stop _ (placed-refused k e)
+    pub placed-stops : (k : ℕ) → placed ns s ≡ refusedPlace k → decide stop (parentChecks ns 0 (componentsOf s) ++ more)
+        x ≡ stop k
+    placed-stops k e = decide-append stop (parentChecks ns 0 (componentsOf s)) more x
+        ∙ decide-first stop _ (placed-refused k e)
 
-    pub placed-goes : (d at : ℕ) → Holds ns s d at → decide stop (parentChecks ns 0 (componentsOf s) ++ more) x ≡ decide stop more x
-    placed-goes d at h = decide-append stop (parentChecks ns 0 (componentsOf s)) more x ∙ decide-passed stop (parentChecks ns 0 (componentsOf s)) _ (h .passed)
+    pub placed-goes : (d at : ℕ) → Holds ns s d at → decide stop (parentChecks ns 0 (componentsOf s) ++ more) x ≡ decide
+        stop more x
+    placed-goes d at h = decide-append stop (parentChecks ns 0 (componentsOf s)) more x
+        ∙ decide-passed stop (parentChecks ns 0 (componentsOf s)) _ (h .passed)
 
 -- The node at a path's end.
 pub record Reaches (ns : List Node) (p : Path) (k : ℕ) : Type 0 where
@@ -147,7 +163,8 @@ module _ (ns : List Node) (p : Path) where
   pub walked-refused : (k : ℕ) → walked ns p ≡ refusedNode k → First k (walkChecks ns 0 p)
   unfolding walked
   walked-refused k =
-      decide-ind refusedNode (λ r. r ≡ refusedNode k → First k (walkChecks ns 0 p)) (walkChecks ns 0 p) (node (walk ns 0 p))
+      decide-ind refusedNode (λ r. r ≡ refusedNode k → First k (walkChecks ns 0 p)) (walkChecks ns 0 p)
+      (node (walk ns 0 p))
       (λ n f e. let q : n ≡ k = cc in subst (λ (j : ℕ). First j (walkChecks ns 0 p)) q f)
       (λ p e. let z : _≡_ {A = ℕ} 0 1 = cc in absurd (omega arith))
 
@@ -166,4 +183,5 @@ module _ (ns : List Node) (p : Path) where
     walked-stops k e = decide-append stop (walkChecks ns 0 p) more x ∙ decide-first stop _ (walked-refused k e)
 
     pub walked-goes : (k : ℕ) → Reaches ns p k → decide stop (walkChecks ns 0 p ++ more) x ≡ decide stop more x
-    walked-goes k r = decide-append stop (walkChecks ns 0 p) more x ∙ decide-passed stop (walkChecks ns 0 p) _ (r .passed)
+    walked-goes k r = decide-append stop (walkChecks ns 0 p) more x ∙ decide-passed stop (walkChecks ns 0 p) _
+        (r .passed)

@@ -13,7 +13,8 @@ use Rattle.lists.specs.Checks.{Check, decide}
 use Rattle.filesystem.specs.Tables.{Node, nodeAt, isDirectory, hasBit, findChild}
 use Rattle.filesystem.specs.Paths.{Path, split, childAt, parentChecks, parentOf, lastOf}
 use Rattle.paths.specs.Parts.{isSlash}
-use Rattle.paths.specs.laws.PartsLaws.{components-none, components-split, Some, some, split-some, end-passes, part-slash, part-last}
+use Rattle.paths.specs.laws.PartsLaws.{components-none, components-split, Some, some, split-some, end-passes}
+use Rattle.paths.specs.laws.PartsLaws.{part-slash, part-last}
 use Rattle.paths.specs.Walks.{placedFrom, placedIn, placed, searchNumber, childStep}
 use Rattle.paths.specs.declared.Walked.the-variants.{Node as node, Refused as refusedNode}
 use Rattle.paths.specs.declared.Placed.the-variants.{Root, In, Refused as refusedPlace}
@@ -21,7 +22,8 @@ use Rattle.tables.specs.laws.RowsInUse.{node-front}
 
 -- Two checks, of which the first that holds gives its number.
 module _ {A : Type 0} (stop : ℕ → A) where
-  two-stop : (a b : Bool) (more : List Check) (x : A) (n : ℕ) → n ≡ decide (λ k. k) ((20, a) ∷ (13, b) ∷ []) 0 → (n ≡ 0 → ⊥)
+  two-stop : (a b : Bool) (more : List Check) (x : A) (n : ℕ) → n ≡ decide (λ k. k) ((20, a) ∷ (13, b) ∷ []) 0
+      → (n ≡ 0 → ⊥)
       → decide stop ((20, a) ∷ (13, b) ∷ more) x ≡ stop n
   unfolding decide pick
   two-stop true b more x n e z = ap stop (sym e)
@@ -61,7 +63,8 @@ module _ (ns : List Node) (d : ℕ) where
 
 -- One step of the walk to the last component's directory.
 module _ (ns : List Node) (n d : ℕ) (c : List ℕ) where
-  pub placed-stop : (cs : Path) (k : ℕ) → k ≡ searchNumber ns d → (k ≡ 0 → ⊥) → placedFrom ns n d (c ∷ cs) ≡ refusedPlace k
+  pub placed-stop : (cs : Path) (k : ℕ) → k ≡ searchNumber ns d → (k ≡ 0 → ⊥)
+      → placedFrom ns n d (c ∷ cs) ≡ refusedPlace k
   unfolding placedFrom parentChecks searchNumber
   placed-stop [] k e z = two-stop refusedPlace _ _ [] _ k e z
   placed-stop (x ∷ cs) k e z = two-stop refusedPlace _ _ _ _ k e z
@@ -70,7 +73,8 @@ module _ (ns : List Node) (n d : ℕ) (c : List ℕ) where
   unfolding placedFrom parentChecks parentOf lastOf searchNumber decide
   placed-here e = two-pass refusedPlace _ _ [] _ e
 
-  pub placed-absent : (x : List ℕ) (cs : Path) → 0 ≡ searchNumber ns d → length ns ≤ childAt ns d c → placedFrom ns n d (c ∷ x ∷ cs) ≡ refusedPlace 2
+  pub placed-absent : (x : List ℕ) (cs : Path) → 0 ≡ searchNumber ns d → length ns ≤ childAt ns d c
+      → placedFrom ns n d (c ∷ x ∷ cs) ≡ refusedPlace 2
   unfolding placedFrom parentChecks searchNumber
   placed-absent x cs e h = three-stop refusedPlace _ _ _ _ _ e (le-leb _ _ h)
 
@@ -80,14 +84,16 @@ module _ (ns : List Node) (n d : ℕ) (c : List ℕ) where
   placed-on x cs e h = three-pass refusedPlace _ _ _ _ _ e (lt-leb _ _ h)
 
 -- The walk by the path's bytes, from `at` on, where the next slash stands at `end`.
-module _ (ns : List Node) (s : List ℕ) (d at end : ℕ) (reach : end ≡ at + place isSlash (drop at s)) (within : at ≤ length s) where
+module _ (ns : List Node) (s : List ℕ) (d at end : ℕ) (reach : end ≡ at + place isSlash (drop at s))
+    (within : at ≤ length s) where
   -- the next component, which is not the last
   first-part : end < length s → split (drop at s) ≡ take (end - at) (drop at s) ∷ split (drop (end + 1) s)
   first-part h =
       let p = end-passes isSlash (λ b e. e) s at end reach h in
       part-slash isSlash (λ b e. e) s at end reach h p
 
-  pub step-stop : (k : ℕ) → k ≡ searchNumber ns d → (k ≡ 0 → ⊥) → placedFrom ns (length s) d (split (drop at s)) ≡ refusedPlace k
+  pub step-stop : (k : ℕ) → k ≡ searchNumber ns d → (k ≡ 0 → ⊥)
+      → placedFrom ns (length s) d (split (drop at s)) ≡ refusedPlace k
   step-stop k e z = go (split (drop at s)) (split-some (drop at s))
     where
       go : (p : Path) → Some p → placedFrom ns (length s) d p ≡ refusedPlace k
@@ -96,17 +102,21 @@ module _ (ns : List Node) (s : List ℕ) (d at end : ℕ) (reach : end ≡ at + 
   module _ (more : end < length s) where
     pub step-absent : 0 ≡ searchNumber ns d → length ns ≤ childAt ns d (take (end - at) (drop at s))
         → placedFrom ns (length s) d (split (drop at s)) ≡ refusedPlace 2
-    step-absent e h = ap (placedFrom ns (length s) d) (first-part more) ∙ go (split (drop (end + 1) s)) (split-some (drop (end + 1) s))
+    step-absent e h = ap (placedFrom ns (length s) d) (first-part more)
+        ∙ go (split (drop (end + 1) s)) (split-some (drop (end + 1) s))
       where
         go : (p : Path) → Some p → placedFrom ns (length s) d (take (end - at) (drop at s) ∷ p) ≡ refusedPlace 2
         go (c ∷ cs) some = placed-absent ns (length s) d (take (end - at) (drop at s)) c cs e h
 
     pub step-on : 0 ≡ searchNumber ns d → childAt ns d (take (end - at) (drop at s)) < length ns
-        → placedFrom ns (length s) d (split (drop at s)) ≡ placedFrom ns (length s) (childAt ns d (take (end - at) (drop at s))) (split (drop (end + 1) s))
-    step-on e h = ap (placedFrom ns (length s) d) (first-part more) ∙ go (split (drop (end + 1) s)) (split-some (drop (end + 1) s))
+        → placedFrom ns (length s) d (split (drop at s)) ≡ placedFrom ns (length s)
+        (childAt ns d (take (end - at) (drop at s))) (split (drop (end + 1) s))
+    step-on e h = ap (placedFrom ns (length s) d) (first-part more)
+        ∙ go (split (drop (end + 1) s)) (split-some (drop (end + 1) s))
       where
         go : (p : Path) → Some p
-            → placedFrom ns (length s) d (take (end - at) (drop at s) ∷ p) ≡ placedFrom ns (length s) (childAt ns d (take (end - at) (drop at s))) p
+            → placedFrom ns (length s) d (take (end - at) (drop at s) ∷ p) ≡ placedFrom ns (length s)
+            (childAt ns d (take (end - at) (drop at s))) p
         go (c ∷ cs) some = placed-on ns (length s) d (take (end - at) (drop at s)) c cs e h
 
   -- the last
@@ -131,10 +141,12 @@ module _ (ns : List Node) (s : List ℕ) where
       go (c ∷ cs) some = unfold placedIn in refl
 
 -- a child of node d among the first n nodes
-pub child-front : (n : ℕ) (ns : List Node) (d id k : ℕ) (c : List ℕ) → d < n → id ≡ nodeAt ns d .id → k ≡ findChild (take n ns) id c
+pub child-front : (n : ℕ) (ns : List Node) (d id k : ℕ) (c : List ℕ) → d < n → id ≡ nodeAt ns d .id
+    → k ≡ findChild (take n ns) id c
     → k ≡ childAt (take n ns) d c
 unfolding childAt
-child-front n ns d id k c h e q = q ∙ ap (λ (x : ℕ). findChild (take n ns) x c) (e ∙ sym (ap (λ (x : Node). x .id) (node-front n ns d h)))
+child-front n ns d id k c h e q = q ∙ ap (λ (x : ℕ). findChild (take n ns) x c) (e
+    ∙ sym (ap (λ (x : Node). x .id) (node-front n ns d h)))
 
 module _ (ns : List Node) (d k : ℕ) (c : List ℕ) (e : k ≡ childAt ns d c) where
   pub child-absent : length ns ≤ k → childStep ns d c ≡ refusedNode 2

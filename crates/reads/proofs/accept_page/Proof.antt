@@ -8,7 +8,8 @@ use Rattle.memory.specs.Layout.{memOf, memorySize}
 use Rattle.guard_state.specs.declared.Guard.{Guard}
 use Rattle.guard_state.specs.State.{numbersOf}
 use Rattle.guard_state.specs.laws.LoadedLaws.{counts-fit}
-use Rattle.reads.specs.laws.TakenLaws.{loaded-within, loaded-reads, loaded-gathered, loaded-fits, loaded-long, loaded-stops, loaded-goes-on}
+use Rattle.reads.specs.laws.TakenLaws.{loaded-within, loaded-reads, loaded-gathered, loaded-fits, loaded-long}
+use Rattle.reads.specs.laws.TakenLaws.{loaded-stops, loaded-goes-on}
 use borrow.Author.Tests.{not-true, not-false}
 use borrow.Author.Needs.{needs}
 use Rattle.reads.proofs.accept_page.Statement.{statement}
@@ -26,8 +27,9 @@ returns c =
     let g = j .before .before in
     let b = g .before .before .before .before .before .before in
     let a = b .args in (
-      λ d h ok.
-          loaded-stops d (a .m .now) (a .reply .now) _ (g .load .ensures) (b .pre .0) (omega arith) ok _ (j .judge-page .ensures .0) h
+      λ d h wide ok long.
+          loaded-stops d (a .m .now) (a .reply .now) _ (g .load .ensures) (b .pre .0) (omega arith) ok _
+          (j .judge-page .ensures .0) h
           (omega (arith, c .if1 .taken)) (a .answer .now) (a .request .now),
       refl,
     )
@@ -39,9 +41,10 @@ returns-2 c =
     let g = j .before .before in
     let b = g .before .before .before .before .before .before in
     let a = b .args in (
-      λ d h ok.
+      λ d h wide ok long.
           absurd
-          (c .if2 .taken (loaded-long d (a .m .now) (a .reply .now) _ (g .load .ensures) (b .pre .0) (omega arith) ok _ (j .judge-page .ensures .0) (i .if1 .left))),
+          (c .if2 .taken (loaded-long d (a .m .now) (a .reply .now) _ (g .load .ensures) (b .pre .0) (omega arith) ok _
+          (j .judge-page .ensures .0) (i .if1 .left))),
       refl,
     )
 
@@ -49,8 +52,15 @@ returns-3 : tie.Need-returns-3
 returns-3 c =
     let g = c .before .before .before .before .before .before in
     let b = g .before .before .before .before .before .before in
-    let a = b .args in
-    (λ d h ok. absurd (omega (arith, c .if3 .taken, loaded-reads d (a .m .now) (a .reply .now) _ (g .load .ensures) (b .pre .0) (omega arith) ok .open-known)), refl)
+    let a = b .args in (
+      λ d h wide ok long. absurd (omega (
+        arith,
+        c .if3 .taken,
+        loaded-reads d (a .m .now) (a .reply .now) _
+            (g .load .ensures) (b .pre .0) (omega arith) ok .open-known,
+      )),
+      refl,
+    )
 
 in-read-requires : tie.Need-in-read-requires
 in-read-requires c κs =
@@ -65,7 +75,7 @@ returns-4 c =
     let g = n .before .before .before .before .before .before .before in
     let b = g .before .before .before .before .before .before in
     let a = b .args in (
-      λ d h ok.
+      λ d h wide ok long.
           let l = loaded-reads d (a .m .now) (a .reply .now) _ (g .load .ensures) (b .pre .0) (omega arith) ok in
           absurd (false≢true (sym (not-true _ (c .if4 .taken)) ∙ n .in-read .ensures .1 (l .inside))),
       refl,
@@ -81,7 +91,8 @@ take-page-requires c κs =
     let b = g .before .before .before .before .before .before in
     let a = b .args in
     let w = loaded-within (memOf (a .m .now) .head) _ (g .load .ensures) in
-    let e : g .load .result .opens ≡ numbersOf (memOf (a .m .now) .head) .opens = ap (λ (x : Guard). x .opens) (g .load .ensures) in (
+    let e : g .load .result .opens ≡ numbersOf (memOf (a .m .now) .head) .opens = ap (λ (x : Guard). x .opens)
+    (g .load .ensures) in (
       omega (arith, e, o .if3 .left),
       n .in-read .ensures .0 (not-false _ (i .if4 .left)),
       l .if2 .left,
@@ -102,9 +113,10 @@ returns-5 c =
     let g = j .before .before in
     let b = g .before .before .before .before .before .before in
     let a = b .args in (
-      λ d h ok.
+      λ d h wide ok long.
           let z : memorySize ≤ length (a .m .now) = omega arith in
-          loaded-goes-on d (a .m .now) (a .reply .now) _ (g .load .ensures) (b .pre .0) z ok _ (j .judge-page .ensures .0) h (i .if1 .left)
+          loaded-goes-on d (a .m .now) (a .reply .now) _ (g .load .ensures) (b .pre .0) z ok _
+          (j .judge-page .ensures .0) h (i .if1 .left)
           _ (a .answer .now) _ (a .request .now) _ _
           (t .take-page .ensures .0 d (loaded-fits d (a .m .now) (a .reply .now) _ (g .load .ensures) (b .pre .0) z ok)
           (loaded-gathered d (a .m .now) (a .reply .now) _ (g .load .ensures) (b .pre .0) z ok)),
@@ -114,4 +126,6 @@ returns-5 c =
 pub accept-page-spec : {M : Type 1} → statement M
 accept-page-spec =
     tie.close
-    (tie.spec (λ c κs. search needs) judge-page-requires (λ c. search needs) returns (λ c. search needs) returns-2 (λ c. search needs) returns-3 in-read-requires (λ c. search needs) returns-4 take-page-requires (λ c. search needs) (λ c. search needs) (λ c. search needs) returns-5)
+    (tie.spec (λ c κs. search needs) judge-page-requires (λ c. search needs) returns (λ c. search needs) returns-2
+    (λ c. search needs) returns-3 in-read-requires (λ c. search needs) returns-4 take-page-requires
+    (λ c. search needs) (λ c. search needs) (λ c. search needs) returns-5)

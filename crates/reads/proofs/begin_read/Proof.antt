@@ -40,8 +40,9 @@ returns c =
     let j = v .before .before in
     let l = j .before .before in
     let a = l .before .before .before .before .args in (
-      λ q h.
-          let e = judged-at _ (j .judge-read .ensures (a .count)) _ (tables-loaded (a .m .now) _ (l .load .ensures) q) (q .width) (h .holds .valid .tables .nodes-valid .sound) in
+      λ q sha w h.
+          let e = judged-at _ (j .judge-read .ensures (a .count)) _ (tables-loaded (a .m .now) _ (l .load .ensures) q)
+          (q .width) (h .holds .valid .tables .nodes-valid .sound) in
           read-sends q (stateOf q (a .m .now)) (a .handle) (a .count) _ e _ _ _ (a .request .now) _ _ (v .j .given .1)
           (s .read-at .ensures .0 q (size-most (q .width) _ (h .holds .valid .tables .nodes-valid .sound) _)),
       omega arith,
@@ -53,9 +54,10 @@ returns-2 c =
     let j = v .before .before in
     let l = j .before .before in
     let a = l .before .before .before .before .args in (
-      λ q h.
+      λ q sha w h.
           refused-sends q (stateOf q (a .m .now)) (a .handle) (a .count) _
-          (judged-at _ (j .judge-read .ensures (a .count)) _ (tables-loaded (a .m .now) _ (l .load .ensures) q) (q .width) (h .holds .valid .tables .nodes-valid .sound))
+          (judged-at _ (j .judge-read .ensures (a .count)) _ (tables-loaded (a .m .now) _ (l .load .ensures) q)
+          (q .width) (h .holds .valid .tables .nodes-valid .sound))
           _ (a .m .now) (a .request .now) (v .j2 .given .1) refl,
       refl,
     )
@@ -63,4 +65,5 @@ returns-2 c =
 pub begin-read-spec : {M : Type 1} → statement M
 begin-read-spec =
     tie.close
-    (tie.spec (λ c κs. search needs) judge-read-requires (λ c. search needs) read-at-requires (λ c. search needs) (λ c. search needs) (λ c. search needs) returns (λ c. search needs) returns-2)
+    (tie.spec (λ c κs. search needs) judge-read-requires (λ c. search needs) read-at-requires (λ c. search needs)
+    (λ c. search needs) (λ c. search needs) returns (λ c. search needs) returns-2)

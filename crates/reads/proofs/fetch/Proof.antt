@@ -20,9 +20,12 @@ returns c =
     let a = d .before .before .before .before .args in (
       w .wait-read .ensures .0,
       omega arith,
-      p .write-fetch .ensures .0 ∙ ap (λ (x : ℕ). atFront (fetchRequest x (pageAt (a .position))) (a .request .now)) (d .open-descriptor .ensures),
-      ap Ask (p .write-fetch .ensures .1 ∙ ap (λ (x : ℕ). length (fetchRequest x (pageAt (a .position)))) (d .open-descriptor .ensures)),
+      p .write-fetch .ensures .0 ∙ ap (λ (x : ℕ). atFront (fetchRequest x (pageAt (a .position))) (a .request .now))
+          (d .open-descriptor .ensures),
+      ap Ask (p .write-fetch .ensures .1 ∙ ap (λ (x : ℕ). length (fetchRequest x (pageAt (a .position))))
+          (d .open-descriptor .ensures)),
     )
 
 pub fetch-spec : {M : Type 1} → statement M
-fetch-spec = tie.close (tie.spec (λ c κs. search needs) (λ c κs. search needs) (λ c. search needs) (λ c κs. search needs) (λ c. search needs) (λ c. search needs) returns)
+fetch-spec = tie.close (tie.spec (λ c κs. search needs) (λ c κs. search needs) (λ c. search needs)
+    (λ c κs. search needs) (λ c. search needs) (λ c. search needs) returns)

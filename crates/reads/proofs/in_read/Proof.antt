@@ -16,4 +16,5 @@ returns-3 : tie.Need-returns-3
 returns-3 c = (λ e. search needs, λ r. le-leb _ _ (r .most))
 
 pub in-read-spec : {M : Type 1} → statement M
-in-read-spec = tie.close (tie.spec (λ c. search needs) (λ c. search needs) returns (λ c. search needs) returns-2 returns-3)
+in-read-spec = tie.close (tie.spec (λ c. search needs) (λ c. search needs) returns (λ c. search needs) returns-2
+    returns-3)

@@ -19,11 +19,20 @@ returns c =
     let e = m .smaller .result in
     let u = x .excess .ensures in
     let v = m .smaller .ensures in (
-      page-part (a .reply .now) (a .position) (a .count) (a .page) s e (b .pre .0) (omega (arith, u)) (omega (arith, v, b .pre .4)) (omega (arith, u, v, b .pre .4, b .pre .5)),
-      omega (arith, length-part s (e - s) (a .reply .now) (omega (arith, u, v, b .pre .0, b .pre .4, b .pre .5)), u, v, b .pre .4, b .pre .5),
+      page-part (a .reply .now) (a .position) (a .count) (a .page) s e (b .pre .0) (omega (arith, u))
+          (omega (arith, v, b .pre .4)) (omega (arith, u, v, b .pre .4, b .pre .5)),
+      omega (
+        arith,
+        length-part s (e - s) (a .reply .now) (omega (arith, u, v, b .pre .0, b .pre .4, b .pre .5)),
+        u,
+        v,
+        b .pre .4,
+        b .pre .5,
+      ),
     )
 
 pub page-part-spec : {M : Type 1} → statement M
 page-part-spec =
     tie.close
-    (tie.spec (λ c. search needs) (λ c κs. search needs) (λ c. search needs) (λ c. search needs) (λ c κs. search needs) (λ c. search needs) (λ c. search needs) (λ c. search needs) returns)
+    (tie.spec (λ c. search needs) (λ c κs. search needs) (λ c. search needs) (λ c. search needs) (λ c κs. search needs)
+    (λ c. search needs) (λ c. search needs) (λ c. search needs) returns)

@@ -23,4 +23,5 @@ returns c =
     ∙ ap (λ (l : List ℕ). atFront (l ++ a .more .now) (a .answer .now)) (s .staged .ensures .0)
 
 pub put-answer-spec : {M : Type 1} → statement M
-put-answer-spec = tie.close (tie.spec (λ c κs. search needs) (λ c κs. search needs) (λ c κs. search needs) (λ c. search needs) returns)
+put-answer-spec = tie.close (tie.spec (λ c κs. search needs) (λ c κs. search needs) (λ c κs. search needs)
+    (λ c. search needs) returns)

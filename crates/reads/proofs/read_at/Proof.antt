@@ -24,7 +24,8 @@ returns c =
     let a = b .args in (
       λ q h.
           none-sends q (stateOf q (a .m .now)) (a .opened) (a .node) (a .count) _ _ (a .request .now)
-          (left-loaded (a .m .now) q (a .n) (a .opened) (a .node) (a .count) _ _ _ _ (b .pre .0) (b .pre .1) (s .smaller .ensures) (x .excess .ensures) (z .size-at .ensures) (o .open-cursor .ensures))
+          (left-loaded (a .m .now) q (a .n) (a .opened) (a .node) (a .count) _ _ _ _ (b .pre .0) (b .pre .1)
+          (s .smaller .ensures) (x .excess .ensures) (z .size-at .ensures) (o .open-cursor .ensures))
           (i .if1 .taken) (f .finish .ensures .0 q),
       omega arith,
     )
@@ -33,8 +34,17 @@ returns-2 : tie.Need-returns-2
 returns-2 c =
     let z = c .before .before .before .before in
     let b = z .before .before .before .before .before .before in
-    let a = b .args in
-    (λ q h. absurd (omega (arith, z .size-at .ensures, ap (λ (x : Node). x .size) (node-loaded (a .m .now) q (a .n) (a .node) (b .pre .0)), h, c .if2 .taken)), refl)
+    let a = b .args in (
+      λ q h. absurd (omega (
+        arith,
+        z .size-at .ensures,
+        ap (λ (x : Node). x .size)
+            (node-loaded (a .m .now) q (a .n) (a .node) (b .pre .0)),
+        h,
+        c .if2 .taken,
+      )),
+      refl,
+    )
 
 fetch-requires : tie.Need-fetch-requires
 fetch-requires c κs =
@@ -44,7 +54,8 @@ fetch-requires c κs =
     let z = x .before in
     let b = z .before .before .before .before .before .before in
     let a = b .args in
-    let l : 0 < nodeAt (take (a .n) (memOf (a .m .now) .nodes)) (a .node) .size = omega (arith, i .if1 .left, s .smaller .ensures, x .excess .ensures, z .size-at .ensures) in (
+    let l : 0 < nodeAt (take (a .n) (memOf (a .m .now) .nodes)) (a .node) .size = omega
+    (arith, i .if1 .left, s .smaller .ensures, x .excess .ensures, z .size-at .ensures) in (
       omega (arith, sized-within (a .m .now) (a .n) (a .node) (b .pre .2) l),
       omega arith,
       omega (arith, i .if1 .left, s .smaller .ensures, x .excess .ensures, c .before .before .if2 .left),
@@ -64,8 +75,10 @@ returns-3 c =
     let b = o .before .before .before .before in
     let a = b .args in (
       λ q h.
-          page-sends q (stateOf q (a .m .now)) (a .opened) (a .node) (a .count) _ _ (openAt (memOf (a .m .now) .opens) (a .opened)) _ (a .request .now) _ _
-          (left-loaded (a .m .now) q (a .n) (a .opened) (a .node) (a .count) _ _ _ _ (b .pre .0) (b .pre .1) (s .smaller .ensures) (x .excess .ensures) (z .size-at .ensures) (o .open-cursor .ensures))
+          page-sends q (stateOf q (a .m .now)) (a .opened) (a .node) (a .count) _ _ (openAt (memOf (a .m .now) .opens)
+          (a .opened)) _ (a .request .now) _ _
+          (left-loaded (a .m .now) q (a .n) (a .opened) (a .node) (a .count) _ _ _ _ (b .pre .0) (b .pre .1)
+          (s .smaller .ensures) (x .excess .ensures) (z .size-at .ensures) (o .open-cursor .ensures))
           (i .if1 .left) (open-loaded (a .m .now) q (a .opened) (b .pre .1)) (o .open-cursor .ensures)
           (f .fetch .ensures .0 q) (f .fetch .ensures .2) (f .fetch .ensures .3) (omega arith),
       omega arith,
@@ -74,4 +87,6 @@ returns-3 c =
 pub read-at-spec : {M : Type 1} → statement M
 read-at-spec =
     tie.close
-    (tie.spec (λ c κs. search needs) (λ c. search needs) (λ c κs. search needs) (λ c. search needs) (λ c κs. search needs) (λ c κs. search needs) (λ c κs. search needs) (λ c. search needs) returns (λ c. search needs) returns-2 fetch-requires (λ c. search needs) (λ c. search needs) returns-3)
+    (tie.spec (λ c κs. search needs) (λ c. search needs) (λ c κs. search needs) (λ c. search needs)
+    (λ c κs. search needs) (λ c κs. search needs) (λ c κs. search needs) (λ c. search needs) returns
+    (λ c. search needs) returns-2 fetch-requires (λ c. search needs) (λ c. search needs) returns-3)

@@ -41,15 +41,26 @@ returns-2 : tie.Need-returns-2
 returns-2 c =
     let n = c .before .before .before .before in
     let p = n .before .before .before .before .before in
-    let a = p .before .before .before .before .before .args in
-    (λ q h e. sends-leaves q _ _ _ (a .request .now) _ (n .next-page .ensures .0 q (a .reply .now) (p .page-part .ensures .0) e) (a .answer .now), omega arith)
+    let a = p .before .before .before .before .before .args in (
+      λ q h e. sends-leaves q _ _ _ (a .request .now) _ (n .next-page .ensures .0 q (a .reply .now)
+          (p .page-part .ensures .0) e) (a .answer .now),
+      omega arith,
+    )
 
 last-page-requires : tie.Need-last-page-requires
 last-page-requires c κs =
     let i = c .before .before in
     let f = i .before in
-    let b = f .before .before .before .before .before .before in
-    (b .pre .0, omega arith, omega (arith, b .pre .1), omega arith, omega (arith, f .if1 .left), omega arith, omega arith)
+    let b = f .before .before .before .before .before .before in (
+      b .pre .0,
+      omega arith,
+      omega (arith, b .pre .1),
+      omega arith,
+      omega (arith, f .if1 .left),
+      omega arith,
+      omega
+          arith,
+    )
 
 returns-3 : tie.Need-returns-3
 returns-3 c =
@@ -59,11 +70,14 @@ returns-3 c =
     let a = p .before .before .before .before .before .args in (
       λ q h e.
           fills-leaves q _ _ _ (a .answer .now) _
-          (l .last-page .ensures .0 q (a .node) (a .page) (a .reply .now) (omega (arith, i .if2 .left)) (p .page-part .ensures .0) e) (a .request .now),
+          (l .last-page .ensures .0 q (a .node) (a .page) (a .reply .now) (omega (arith, i .if2 .left))
+          (p .page-part .ensures .0) e) (a .request .now),
       omega arith,
     )
 
 pub take-page-spec : {M : Type 1} → statement M
 take-page-spec =
     tie.close
-    (tie.spec page-part-requires (λ c. search needs) returns (λ c. search needs) (λ c. search needs) (λ c. search needs) next-page-requires (λ c. search needs) (λ c. search needs) returns-2 last-page-requires (λ c. search needs) (λ c. search needs) returns-3)
+    (tie.spec page-part-requires (λ c. search needs) returns (λ c. search needs) (λ c. search needs) (λ c. search needs)
+    next-page-requires (λ c. search needs) (λ c. search needs) returns-2 last-page-requires (λ c. search needs)
+    (λ c. search needs) returns-3)

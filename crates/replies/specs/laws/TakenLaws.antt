@@ -14,7 +14,8 @@ use Rattle.lists.specs.PartLaws.{take-overwrite}
 use Rattle.lists.specs.Search.{without}
 use Rattle.lists.specs.Checks.{Check, Passed, decide}
 use Rattle.filesystem.specs.Tables.{ID-BYTES, Node, Tables, freshTables}
-use Rattle.rules.specs.Requests.{asked, Pending, idle, creating, opening, closing, removing, changing, listing, stating, reading, fetching, storing, cutting}
+use Rattle.rules.specs.Requests.{asked, Pending, idle, creating, opening, closing, removing, changing, listing, stating}
+use Rattle.rules.specs.Requests.{reading, fetching, storing, cutting}
 use Rattle.rules.specs.Skeleton.{Config, done, answerBytes, answerLength, atFront}
 use Rattle.rules.specs.Rules.{Move, halt, finish, add, delete, lengthCheck, replyChecks, replyAction}
 use Rattle.rules.specs.Valid.{ValidNodes}
@@ -35,7 +36,8 @@ abbrev Positive : Check → Type 0
 Positive ch = ltb 0 (ch .0) ≡ true
 
 module _ (x : Move) where
-  stopped-by : (cs : List Check) → All Positive cs → (b : ℕ) → b ≡ decide (λ n. n) cs 0 → 0 < b → decide halt cs x ≡ halt b
+  stopped-by : (cs : List Check) → All Positive cs → (b : ℕ) → b ≡ decide (λ n. n) cs 0 → 0 < b
+      → decide halt cs x ≡ halt b
   unfolding decide pick
   stopped-by [] a b e h = absurd (omega arith)
   stopped-by ((n, true) ∷ cs) a b e h = ap halt (sym e)
@@ -63,19 +65,26 @@ positive t r (storing k o q i) = both refl (both refl none)
 positive t r (cutting k o q) = both refl (both refl none)
 
 -- the move, from the pending call and the reason that was found
-module _ (c : Config) (wide : c .width ≡ ID-BYTES) (s : State (digestStore c)) (r : List ℕ) (p : Pending) (waiting : s .skeleton .pending ≡ p) where
-  at-width : taken c s r ≡ decide halt (replyChecks ID-BYTES (s .skeleton .tables) r p) (replyAction ID-BYTES (s .skeleton .tables) r p)
+module _ (c : Config) (wide : c .width ≡ ID-BYTES) (s : State (digestStore c)) (r : List ℕ) (p : Pending)
+    (waiting : s .skeleton .pending ≡ p) where
+  at-width : taken c s r ≡ decide halt (replyChecks ID-BYTES (s .skeleton .tables) r p)
+      (replyAction ID-BYTES (s .skeleton .tables) r p)
   unfolding taken
-  at-width = ap (λ (x : ℕ). decide halt (replyChecks x (s .skeleton .tables) r (s .skeleton .pending)) (replyAction x (s .skeleton .tables) r (s .skeleton .pending))) wide
-      ∙ ap (λ (x : Pending). decide halt (replyChecks ID-BYTES (s .skeleton .tables) r x) (replyAction ID-BYTES (s .skeleton .tables) r x)) waiting
+  at-width = ap (λ (x : ℕ). decide halt (replyChecks x (s .skeleton .tables) r (s .skeleton .pending))
+      (replyAction x (s .skeleton .tables) r (s .skeleton .pending))) wide
+      ∙ ap (λ (x : Pending). decide halt (replyChecks ID-BYTES (s .skeleton .tables) r x)
+      (replyAction ID-BYTES (s .skeleton .tables) r x)) waiting
 
   pub taken-stops : (b : ℕ) → b ≡ reasonFor (s .skeleton .tables) r p → 0 < b → taken c s r ≡ halt b
   unfolding reasonFor
-  taken-stops b e h = at-width ∙ stopped-by _ (replyChecks ID-BYTES (s .skeleton .tables) r p) (positive (s .skeleton .tables) r p) b e h
+  taken-stops b e h = at-width ∙ stopped-by _ (replyChecks ID-BYTES (s .skeleton .tables) r p)
+      (positive (s .skeleton .tables) r p) b e h
 
-  pub taken-passes : 0 ≡ reasonFor (s .skeleton .tables) r p → taken c s r ≡ replyAction ID-BYTES (s .skeleton .tables) r p
+  pub taken-passes : 0 ≡ reasonFor (s .skeleton .tables) r p → taken c s r ≡ replyAction ID-BYTES (s .skeleton .tables)
+      r p
   unfolding reasonFor
-  taken-passes e = at-width ∙ passes _ (replyChecks ID-BYTES (s .skeleton .tables) r p) (positive (s .skeleton .tables) r p) e
+  taken-passes e = at-width ∙ passes _ (replyChecks ID-BYTES (s .skeleton .tables) r p)
+      (positive (s .skeleton .tables) r p) e
 
 -- a reply without a reason has its length, or at most a listing's
 passed-all : (cs : List Check) → All Positive cs → 0 ≡ decide (λ n. n) cs 0 → Passed cs
@@ -96,7 +105,8 @@ module _ (t : Tables) (r : List ℕ) where
   unfolding reasonFor replyChecks
   opening-long k rights e = long-enough r 4 _ (passed-all _ (positive t r (asked (opening k rights))) e)
 
-  pub creating-long : (p k m : ℕ) (name : List ℕ) → 0 ≡ reasonFor t r (asked (creating p k m name)) → length r ≡ ID-BYTES
+  pub creating-long : (p k m : ℕ) (name : List ℕ) → 0 ≡ reasonFor t r (asked (creating p k m name))
+      → length r ≡ ID-BYTES
   unfolding reasonFor replyChecks
   creating-long p k m name e = long-enough r ID-BYTES _ (passed-all _ (positive t r (asked (creating p k m name))) e)
 
@@ -104,10 +114,12 @@ module _ (t : Tables) (r : List ℕ) where
   unfolding reasonFor replyChecks
   stating-long k e = long-enough r (ID-BYTES + 6) _ (passed-all _ (positive t r (asked (stating k))) e)
 
-  pub listing-long : (k : ℕ) → ValidNodes ID-BYTES (t .nodes) → k < length (t .nodes) → Bytes r → 0 ≡ reasonFor t r (asked (listing k))
+  pub listing-long : (k : ℕ) → ValidNodes ID-BYTES (t .nodes) → k < length (t .nodes) → Bytes r
+      → 0 ≡ reasonFor t r (asked (listing k))
       → length r ≤ 255 * (ID-BYTES + 34)
   unfolding reasonFor
-  listing-long k v h b e = listing-length ID-BYTES t r k v h (listing-right ID-BYTES t r k b (passed-all _ (positive t r (asked (listing k))) e))
+  listing-long k v h b e = listing-length ID-BYTES t r k v h
+      (listing-right ID-BYTES t r k b (passed-all _ (positive t r (asked (listing k))) e))
 
 -- the answer buffer holds the longest listing
 pub answer-most : (c : Config) → c .width ≡ ID-BYTES → answerLength c ≡ 255 * (ID-BYTES + 34)
@@ -115,34 +127,42 @@ unfolding answerLength
 answer-most c e = ap (λ (w : ℕ). 255 * (w + 34)) e
 
 -- A reply to the pending call p: it stops the guard, or the call is done.
-module _ (c : Config) (wide : c .width ≡ ID-BYTES) (s : State (digestStore c)) (r : List ℕ) (p : Pending) (waiting : s .skeleton .pending ≡ p) where
+module _ (c : Config) (wide : c .width ≡ ID-BYTES) (s : State (digestStore c)) (r : List ℕ) (p : Pending)
+    (waiting : s .skeleton .pending ≡ p) where
   abbrev t : Tables
   t = s .skeleton .tables
 
-  pub answer-stops : (b : ℕ) (x q : List ℕ) → b ≡ reasonFor t r p → 0 < b → stateOf c x ≡ s → Sends c (answered c s r) (Stopped b) x q q
+  pub answer-stops : (b : ℕ) (x q : List ℕ) → b ≡ reasonFor t r p → 0 < b → stateOf c x ≡ s
+      → Sends c (answered c s r) (Stopped b) x q q
   unfolding answered
   answer-stops b x q e h g = stop-sends c s _ b x q (taken-stops c wide s r p waiting b e h) g
 
-  pub answer-finishes : (u : Tables) (n : ℕ) (x q : List ℕ) → 0 ≡ reasonFor t r p → replyAction ID-BYTES t r p ≡ finish u n []
+  pub answer-finishes : (u : Tables) (n : ℕ) (x q : List ℕ) → 0 ≡ reasonFor t r p
+      → replyAction ID-BYTES t r p ≡ finish u n []
       → stateOf c x ≡ ends c s u (s .contents)
       → Sends c (answered c s r) (Done n 0) x q q
   unfolding answered
   answer-finishes u n x q e f g = finish-sends c s _ u n x q (taken-passes c wide s r p waiting e ∙ f) g
 
   pub answer-deletes : (k : ℕ) (x q : List ℕ) → 0 ≡ reasonFor t r p → replyAction ID-BYTES t r p ≡ delete k
-      → stateOf c x ≡ ends c s (record { nodes = without k (t .nodes); opens = t .opens }) (without k (s .contents)) → Sends c (answered c s r) (Done 0 0) x q q
+      → stateOf c x ≡ ends c s (record { nodes = without k (t .nodes); opens = t .opens }) (without k (s .contents))
+      → Sends c (answered c s r) (Done 0 0) x q q
   unfolding answered apply
-  answer-deletes k x q e f g = done-sends c s (taken c s r) (record { nodes = without k (t .nodes); opens = t .opens }) (without k (s .contents)) 0 x q (ap (apply c (digestStore c) s) (taken-passes c wide s r p waiting e ∙ f)) g
+  answer-deletes k x q e f g = done-sends c s (taken c s r) (record { nodes = without k (t .nodes); opens = t .opens })
+      (without k (s .contents)) 0 x q (ap (apply c (digestStore c) s) (taken-passes c wide s r p waiting e ∙ f)) g
 
   pub answer-adds : (n : Node) (x q : List ℕ) → 0 ≡ reasonFor t r p → replyAction ID-BYTES t r p ≡ add n
-      → stateOf c x ≡ ends c s (record { nodes = t .nodes ++ (n ∷ []); opens = t .opens }) (s .contents ++ ([] ∷ [])) → Sends c (answered c s r) (Done (n .id) 0) x q q
+      → stateOf c x ≡ ends c s (record { nodes = t .nodes ++ (n ∷ []); opens = t .opens }) (s .contents ++ ([] ∷ []))
+      → Sends c (answered c s r) (Done (n .id) 0) x q q
   unfolding answered apply
   answer-adds n x q e f g =
-      done-sends c s (taken c s r) (record { nodes = t .nodes ++ (n ∷ []); opens = t .opens }) (s .contents ++ ([] ∷ [])) (n .id) x q
+      done-sends c s (taken c s r) (record { nodes = t .nodes ++ (n ∷ []); opens = t .opens }) (s .contents
+      ++ ([] ∷ [])) (n .id) x q
       (ap (apply c (digestStore c) s) (taken-passes c wide s r p waiting e ∙ f)) g
 
   -- where the answer buffer is lent: a stop leaves it, and a call that is done puts its bytes at the front
-  pub stop-fills : (b : ℕ) (x a : List ℕ) → b ≡ reasonFor t r p → 0 < b → stateOf c x ≡ s → Fills c (answered c s r) (Stopped b) x a a
+  pub stop-fills : (b : ℕ) (x a : List ℕ) → b ≡ reasonFor t r p → 0 < b → stateOf c x ≡ s
+      → Fills c (answered c s r) (Stopped b) x a a
   stop-fills b x a e h g =
       let z : (q : List ℕ) → Sends c (answered c s r) (Stopped b) x q q = λ q. answer-stops b x q e h g in
       record {
@@ -152,7 +172,8 @@ module _ (c : Config) (wide : c .width ≡ ID-BYTES) (s : State (digestStore c))
         filled = sends-leaves c (answered c s r) (Stopped b) x [] [] (z []) a .filled;
       }
 
-  pub answer-fills : (u : Tables) (n l : ℕ) (y x a a′ : List ℕ) → 0 ≡ reasonFor t r p → replyAction ID-BYTES t r p ≡ finish u n y
+  pub answer-fills : (u : Tables) (n l : ℕ) (y x a a′ : List ℕ) → 0 ≡ reasonFor t r p
+      → replyAction ID-BYTES t r p ≡ finish u n y
       → stateOf c x ≡ ends c s u (s .contents)
       → a′ ≡ atFront y a → l ≡ length y → length y ≤ length a → Fills c (answered c s r) (Done n l) x a a′
   unfolding answered apply answerIn lengthOf bytesIn settled answerBytes ends
@@ -161,7 +182,8 @@ module _ (c : Config) (wide : c .width ≡ ID-BYTES) (s : State (digestStore c))
       record {
         state = g ∙ ap (λ (d : Move). apply c (digestStore c) s d .state) (sym z);
         answer = λ q.
-            ap (done n) (ap (λ (j : ℕ). take j a′) h ∙ ap (take (length y)) w ∙ take-overwrite a 0 y (length y) (omega arith) (omega arith))
+            ap (done n) (ap (λ (j : ℕ). take j a′) h ∙ ap (take (length y)) w
+            ∙ take-overwrite a 0 y (length y) (omega arith) (omega arith))
             ∙ ap (λ (d : Move). apply c (digestStore c) s d .outcome .answer) (sym z);
         count = h ∙ ap (λ (d : Move). bytesIn (apply c (digestStore c) s d .outcome .answer)) (sym z);
         filled = w ∙ ap (λ (d : Move). atFront (answerBytes (apply c (digestStore c) s d .outcome .answer)) a) (sym z);

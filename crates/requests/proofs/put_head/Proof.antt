@@ -9,7 +9,8 @@ use Rattle.requests.proofs.put_head.Tie as tie
 returns : tie.Need-returns
 returns c =
     let a = c .before .before .before .before .before .args in
-    rw (c .before .before .put-number .ensures) (overwrite-cons 0 (a .out .now) 0 (encode 4 (a .descriptor)) (a .kind) (omega arith))
+    rw (c .before .before .put-number .ensures) (overwrite-cons 0 (a .out .now) 0 (encode 4 (a .descriptor)) (a .kind)
+    (omega arith))
 
 pub put-head-spec : {M : Type 1} → statement M
 put-head-spec = tie.close (tie.spec (λ c κs. search needs) (λ c. search needs) (λ c. search needs) returns)

@@ -10,7 +10,8 @@ returns : tie.Need-returns
 returns c =
     let put-head = c .before .before .before .before .before .before .put-head in
     let a = c .before .before .before .before .before .before .before .before .before .args in
-    c .before .before .put-number .ensures ∙ rw (put-head .ensures) (behind-head (a .out .now) (a .kind) (a .descriptor) (encode 4 (a .number)))
+    c .before .before .put-number .ensures ∙ rw (put-head .ensures) (behind-head (a .out .now) (a .kind) (a .descriptor)
+    (encode 4 (a .number)))
 
 pub put-longer-spec : {M : Type 1} → statement M
 put-longer-spec = tie.close (tie.spec (λ c κs. search needs) (λ c κs. search needs) (λ c. search needs) returns)

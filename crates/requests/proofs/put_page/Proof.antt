@@ -10,8 +10,10 @@ returns : tie.Need-returns
 returns c =
     let put = c .before .before .before .before .before .before .put in
     let a = c .before .before .before .before .before .before .before .before .before .before .args in
-    c .before .before .put-zeros .ensures ∙ rw (put .ensures) (page-put (a .out .now) (a .at) (a .page .now) (omega arith) (omega arith))
+    c .before .before .put-zeros .ensures
+    ∙ rw (put .ensures) (page-put (a .out .now) (a .at) (a .page .now) (omega arith) (omega arith))
 
 pub put-page-spec : {M : Type 1} → statement M
 put-page-spec =
-    tie.close (tie.spec (λ c κs. search needs) (λ c. search needs) (λ c. search needs) (λ c κs. search needs) (λ c. search needs) returns)
+    tie.close (tie.spec (λ c κs. search needs) (λ c. search needs) (λ c. search needs) (λ c κs. search needs)
+    (λ c. search needs) returns)

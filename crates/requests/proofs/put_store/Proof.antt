@@ -10,7 +10,8 @@ returns : tie.Need-returns
 returns c =
     let put-longer = c .before .before .before .before .before .before .put-longer in
     let a = c .before .before .before .before .before .before .before .before .before .args in
-    c .before .before .put-number .ensures ∙ rw (put-longer .ensures) (behind-longer (a .out .now) 7 (a .descriptor) (a .i) (encode 4 (a .size)))
+    c .before .before .put-number .ensures
+    ∙ rw (put-longer .ensures) (behind-longer (a .out .now) 7 (a .descriptor) (a .i) (encode 4 (a .size)))
 
 pub put-store-spec : {M : Type 1} → statement M
 put-store-spec = tie.close (tie.spec (λ c κs. search needs) (λ c κs. search needs) (λ c. search needs) returns)

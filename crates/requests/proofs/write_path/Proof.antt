@@ -23,8 +23,11 @@ returns c =
     let h = p .before .before .before in
     let a = h .before .before .before .args in
     let e : hasNumber (a .kind) ≡ true = sym (h .has-number .ensures) ∙ p .before .before .if1 .taken in
-    let q = request-numbered (a .kind) (a .number) (a .path .now) e in
-    (p .put-numbered .ensures .0 ∙ ap (λ (s : List ℕ). atFront s (a .out .now)) (sym q), omega (arith, p .put-numbered .ensures .1, ap length q))
+    let q = request-numbered (a .kind) (a .number) (a .path .now) e in (
+      p .put-numbered .ensures .0 ∙ ap (λ (s : List ℕ). atFront s (a .out .now)) (sym q),
+      omega
+          (arith, p .put-numbered .ensures .1, ap length q),
+    )
 
 put-plain-requires : tie.Need-put-plain-requires
 unfolding storeLength
@@ -36,9 +39,13 @@ returns-2 c =
     let h = p .before .before .before in
     let a = h .before .before .before .args in
     let e : hasNumber (a .kind) ≡ false = sym (h .has-number .ensures) ∙ p .before .before .if1 .left in
-    let q = request-plain (a .kind) (a .number) (a .path .now) e in
-    (p .put-plain .ensures .0 ∙ ap (λ (s : List ℕ). atFront s (a .out .now)) (sym q), omega (arith, p .put-plain .ensures .1, ap length q))
+    let q = request-plain (a .kind) (a .number) (a .path .now) e in (
+      p .put-plain .ensures .0 ∙ ap (λ (s : List ℕ). atFront s (a .out .now)) (sym q),
+      omega
+          (arith, p .put-plain .ensures .1, ap length q),
+    )
 
 pub write-path-spec : {M : Type 1} → statement M
 write-path-spec =
-    tie.close (tie.spec (λ c κs. search needs) put-numbered-requires (λ c. search needs) returns put-plain-requires (λ c. search needs) returns-2)
+    tie.close (tie.spec (λ c κs. search needs) put-numbered-requires (λ c. search needs) returns put-plain-requires
+    (λ c. search needs) returns-2)

@@ -19,17 +19,20 @@ pub length-longer : (k a b : ℕ) → length (k ∷ (encode 4 a ++ encode 4 b)) 
 length-longer k a b = omega (arith, length-append (encode 4 a) (encode 4 b), length-encode 4 a, length-encode 4 b)
 
 -- what is written behind them
-pub behind-head : (l : List ℕ) (k a : ℕ) (y : List ℕ) → overwrite (overwrite l 0 (k ∷ encode 4 a)) 5 y ≡ overwrite l 0 (k ∷ (encode 4 a ++ y))
+pub behind-head : (l : List ℕ) (k a : ℕ) (y : List ℕ) → overwrite (overwrite l 0 (k ∷ encode 4 a)) 5 y ≡ overwrite l 0
+    (k ∷ (encode 4 a ++ y))
 behind-head l k a y = overwrite-next l 0 (k ∷ encode 4 a) y 5 (omega (arith, length-head k a)) (omega arith)
 
 pub behind-longer : (l : List ℕ) (k a b : ℕ) (y : List ℕ)
-    → overwrite (overwrite l 0 (k ∷ (encode 4 a ++ encode 4 b))) 9 y ≡ overwrite l 0 (k ∷ (encode 4 a ++ (encode 4 b ++ y)))
+    → overwrite (overwrite l 0 (k ∷ (encode 4 a ++ encode 4 b))) 9 y ≡ overwrite l 0 (k
+    ∷ (encode 4 a ++ (encode 4 b ++ y)))
 behind-longer l k a b y =
     overwrite-next l 0 (k ∷ (encode 4 a ++ encode 4 b)) y 9 (omega (arith, length-longer k a b)) (omega arith)
     ∙ rw (append-assoc (encode 4 a) (encode 4 b) y)
 
 -- a store's page behind its head
-pub behind-store : (l m out : List ℕ) (d i size : ℕ) (page : List ℕ) → m ≡ overwrite l 0 (7 ∷ (encode 4 d ++ (encode 4 i ++ encode 4 size)))
+pub behind-store : (l m out : List ℕ) (d i size : ℕ) (page : List ℕ)
+    → m ≡ overwrite l 0 (7 ∷ (encode 4 d ++ (encode 4 i ++ encode 4 size)))
     → out ≡ overwrite m 13 page
     → out ≡ atFront (storeRequest d i size page) l
 unfolding storeRequest

@@ -24,7 +24,8 @@ pub number-high : (kind : ℕ) → 3 < kind → hasNumber kind ≡ eqb kind 11
 unfolding hasNumber
 number-high kind h = rw (lt-leb kind 3 h)
 
-pub request-numbered : (kind number : ℕ) (s : List ℕ) → hasNumber kind ≡ true → pathRequest kind number s ≡ kind ∷ number ∷ s
+pub request-numbered : (kind number : ℕ) (s : List ℕ) → hasNumber kind ≡ true → pathRequest kind number s ≡ kind
+    ∷ number ∷ s
 unfolding pathRequest
 request-numbered kind number s e = pick-true _ _ _ e
 
@@ -33,7 +34,8 @@ unfolding pathRequest
 request-plain kind number s e = pick-false _ _ _ e
 
 -- bytes behind the first ones
-pub behind-front : (x y l : List ℕ) (n : ℕ) → n ≡ length x → n ≤ length l → overwrite (overwrite l 0 x) n y ≡ atFront (x ++ y) l
+pub behind-front : (x y l : List ℕ) (n : ℕ) → n ≡ length x → n ≤ length l → overwrite (overwrite l 0 x) n y ≡ atFront (x
+    ++ y) l
 behind-front x y l n e h = overwrite-next l 0 x y n (omega arith) (omega arith)
 
 module _ (w n : ℕ) (p : Path) where

@@ -12,7 +12,8 @@ use Rattle.saves.proofs.put_image.Statement.{statement}
 use Rattle.saves.proofs.put_image.Tie as tie
 
 slice-reshare-prefix-seal : tie.Need-slice-reshare-prefix-seal
-slice-reshare-prefix-seal c = let w = c .before .before in front-fits _ _ _ _ (w .write-image .ensures .0) (w .write-image .ensures .1)
+slice-reshare-prefix-seal c = let w = c .before .before in front-fits _ _ _ _ (w .write-image .ensures .0)
+    (w .write-image .ensures .1)
 
 slice-aggregate-seal : tie.Need-slice-aggregate-seal
 slice-aggregate-seal c =
@@ -26,10 +27,15 @@ returns c =
     let s = p .before .before .before in
     let w = s .before .before .before .before in
     let a = w .before .before .before .before .before .args in
-    let f = front-is _ _ _ _ (w .write-image .ensures .0) (w .write-image .ensures .1) in
-    (w .write-image .ensures .0, p .put .ensures ∙ ap (λ (b : List ℕ). atFront b (a .digest .now)) (s .seal .ensures ∙ ap sha256 f), omega (arith, w .write-image .ensures .1))
+    let f = front-is _ _ _ _ (w .write-image .ensures .0) (w .write-image .ensures .1) in (
+      w .write-image .ensures .0,
+      p .put .ensures ∙ ap (λ (b : List ℕ). atFront b (a .digest .now)) (s .seal .ensures
+          ∙ ap sha256 f),
+      omega (arith, w .write-image .ensures .1),
+    )
 
 pub put-image-spec : {M : Type 1} → statement M
 put-image-spec =
     tie.close
-    (tie.spec (λ c κs. search needs) slice-reshare-prefix-seal slice-aggregate-seal (λ c κs. search needs) (λ c. search needs) (λ c κs. search needs) (λ c. search needs) (λ c. search needs) returns)
+    (tie.spec (λ c κs. search needs) slice-reshare-prefix-seal slice-aggregate-seal (λ c κs. search needs)
+    (λ c. search needs) (λ c κs. search needs) (λ c. search needs) (λ c. search needs) returns)

@@ -2,7 +2,8 @@
 use native.Mathlib.Omega.{arith}
 use mathlib.Core.Path.{refl}
 use Rattle.guard_state.specs.laws.LoadedLaws.{counts-fit}
-use Rattle.saves.specs.laws.SavedLaws.{image-held, save-never, save-used, save-short, save-goes, save-refused, save-done}
+use Rattle.saves.specs.laws.SavedLaws.{image-held, save-never, save-used, save-short, save-goes, save-refused}
+use Rattle.saves.specs.laws.SavedLaws.{save-done}
 use borrow.Author.Needs.{needs}
 use Rattle.saves.proofs.save.Statement.{statement}
 use Rattle.saves.proofs.save.Tie as tie
@@ -10,8 +11,11 @@ use Rattle.saves.proofs.save.Tie as tie
 returns : tie.Need-returns
 returns c =
     let l = c .before .before in
-    let a = l .before .before .before .before .before .args in
-    (λ q hash wide few. save-refused q (a .m .now) (a .image .now) (a .digest .now) 16 (save-used q (a .m .now) _ (l .load .ensures) _ (c .if1 .taken)), refl)
+    let a = l .before .before .before .before .before .args in (
+      λ q hash wide few. save-refused q (a .m .now) (a .image .now) (a .digest .now) 16
+          (save-used q (a .m .now) _ (l .load .ensures) _ (c .if1 .taken)),
+      refl,
+    )
 
 image-length-requires : tie.Need-image-length-requires
 image-length-requires c κs =
@@ -26,7 +30,8 @@ returns-2 c =
     let a = l .before .before .before .before .before .args in (
       λ q hash wide few.
           save-refused q (a .m .now) (a .image .now) (a .digest .now) 34
-          (save-short q (a .m .now) _ (l .load .ensures) (i .before .before .if1 .left) wide _ _ (i .image-length .ensures) (c .if2 .taken)),
+          (save-short q (a .m .now) _ (l .load .ensures) (i .before .before .if1 .left) wide _ _
+          (i .image-length .ensures) (c .if2 .taken)),
       refl,
     )
 
@@ -41,7 +46,8 @@ returns-3 c =
     let p = c .before in
     let l = p .before .before .before .before .before .before .before in
     let a = l .before .before .before .before .before .args in (
-      λ q hash wide few. save-never q (a .m .now) _ (l .load .ensures) (a .image .now) (a .digest .now) _ few (p .first-page .ensures .0) (c .if3 .taken),
+      λ q hash wide few. save-never q (a .m .now) _ (l .load .ensures) (a .image .now) (a .digest .now) _ few
+          (p .first-page .ensures .0) (c .if3 .taken),
       refl,
     )
 
@@ -72,7 +78,8 @@ returns-4 c =
     let a = l .before .before .before .before .before .args in (
       λ q hash wide few.
           save-done q (a .m .now) (a .image .now) (a .digest .now) _ _ _ _ _ hash
-          (save-goes q (a .m .now) _ (l .load .ensures) (i .before .before .if1 .left) wide _ _ (i .image-length .ensures) (k .if2 .left))
+          (save-goes q (a .m .now) _ (l .load .ensures) (i .before .before .if1 .left) wide _ _
+          (i .image-length .ensures) (k .if2 .left))
           (image-held q (a .m .now) _ (l .load .ensures) wide (omega (arith, p .first-page .ensures .0, j .if3 .left)))
           (f .finish .ensures .0 q) (w .put-image .ensures .0) (w .put-image .ensures .1) (w .put-image .ensures .2),
       omega arith,
@@ -81,4 +88,6 @@ returns-4 c =
 pub save-spec : {M : Type 1} → statement M
 save-spec =
     tie.close
-    (tie.spec (λ c κs. search needs) (λ c. search needs) returns image-length-requires (λ c. search needs) returns-2 first-page-requires (λ c. search needs) returns-3 put-image-requires (λ c κs. search needs) (λ c. search needs) (λ c. search needs) (λ c. search needs) returns-4)
+    (tie.spec (λ c κs. search needs) (λ c. search needs) returns image-length-requires (λ c. search needs) returns-2
+    first-page-requires (λ c. search needs) returns-3 put-image-requires (λ c κs. search needs) (λ c. search needs)
+    (λ c. search needs) (λ c. search needs) returns-4)

@@ -45,33 +45,40 @@ module _ (c : Config) (m : List ℕ) (g : Guard) (e : g ≡ numbersOf (memOf m .
   unfolding loadMove
   load-used h = check-stops refuse 16 _ _ _ (some-open c m g e h)
 
-  module _ (closed : g .opens ≤ 0) (hash : c .digest ≡ sha256) (same : Bool) (compared : same ≡ equal (sha256 i) d) where
-    sealed : not (equal (c .digest i) d) ≡ not same
-    sealed = ap (λ (h : List ℕ → List ℕ). not (equal (h i) d)) hash ∙ ap not (sym compared)
+  module _ (closed : g .opens ≤ 0) (hash : c .digest ≡ sha256) (same : Bool) (compared : same ≡ equal (sha256 i) d)
+    where
+      sealed : not (equal (c .digest i) d) ≡ not same
+      sealed = ap (λ (h : List ℕ → List ℕ). not (equal (h i) d)) hash ∙ ap not (sym compared)
 
-    pub load-unsealed : same ≡ false → loadMove c here i d ≡ refuse 74
-    unfolding loadMove
-    load-unsealed h = check-passes refuse 16 _ _ _ (none-open c m g e closed) ∙ check-stops refuse 74 _ _ _ (sealed ∙ ap not h)
-
-    module _ (known : same ≡ true) (wide : c .width ≡ ID-BYTES) (good : Bool) (judged : good ≡ isSome (parse ID-BYTES i)) where
-      parsed : isNone (parse (c .width) i) ≡ not good
-      parsed = ap (λ (w : ℕ). isNone (parse w i)) wide ∙ none-some (parse ID-BYTES i) ∙ ap not (sym judged)
-
-      pub load-unsound : good ≡ false → loadMove c here i d ≡ refuse 84
+      pub load-unsealed : same ≡ false → loadMove c here i d ≡ refuse 74
       unfolding loadMove
-      load-unsound h =
-          check-passes refuse 16 _ _ _ (none-open c m g e closed) ∙ check-passes refuse 74 _ _ _ (sealed ∙ ap not known)
-          ∙ check-stops refuse 84 _ _ _ (parsed ∙ ap not h)
+      load-unsealed h = check-passes refuse 16 _ _ _ (none-open c m g e closed) ∙ check-stops refuse 74 _ _ _ (sealed
+          ∙ ap not h)
 
-      pub load-goes : good ≡ true → loadMove c here i d ≡ loading (imageOr (parse ID-BYTES i)) d
-      unfolding loadMove
-      load-goes h =
-          check-passes refuse 16 _ _ _ (none-open c m g e closed) ∙ check-passes refuse 74 _ _ _ (sealed ∙ ap not known)
-          ∙ check-last refuse 84 _ _ (parsed ∙ ap not h) ∙ ap (λ (w : ℕ). loading (imageOr (parse w i)) d) wide
+      module _ (known : same ≡ true) (wide : c .width ≡ ID-BYTES) (good : Bool)
+          (judged : good ≡ isSome (parse ID-BYTES i)) where
+        parsed : isNone (parse (c .width) i) ≡ not good
+        parsed = ap (λ (w : ℕ). isNone (parse w i)) wide ∙ none-some (parse ID-BYTES i) ∙ ap not (sym judged)
+
+        pub load-unsound : good ≡ false → loadMove c here i d ≡ refuse 84
+        unfolding loadMove
+        load-unsound h =
+            check-passes refuse 16 _ _ _ (none-open c m g e closed) ∙ check-passes refuse 74 _ _ _ (sealed ∙ ap not known)
+            ∙ check-stops refuse 84 _ _ _ (parsed ∙ ap not h)
+
+        pub load-goes : good ≡ true → loadMove c here i d ≡ loading (imageOr (parse ID-BYTES i)) d
+        unfolding loadMove
+        load-goes h =
+            check-passes refuse 16 _ _ _ (none-open c m g e closed) ∙ check-passes refuse 74 _ _ _ (sealed ∙ ap not known)
+            ∙ check-last refuse 84 _ _ (parsed ∙ ap not h) ∙ ap (λ (w : ℕ). loading (imageOr (parse w i)) d) wide
 
   pub load-refused : (n : ℕ) → loadMove c here i d ≡ refuse n → Loads c (loadedFrom c here i d) (Refused n) m
   unfolding loadedFrom settled
-  load-refused n z = let l = refusal-sends c here _ n m [] z refl in record { state = l .state; answer = l .answer []; count = l .count }
+  load-refused n z = let l = refusal-sends c here _ n m [] z refl in record {
+    state = l .state;
+    answer = l .answer [];
+    count = l .count;
+  }
 
   -- the open files stay: there are none
   no-opens : g .opens ≤ 0 → here .skeleton .tables .opens ≡ []
@@ -95,14 +102,17 @@ module _ (c : Config) (m : List ℕ) (g : Guard) (e : g ≡ numbersOf (memOf m .
     move-loads z = ap (apply c (digestStore c) here) (z ∙ ap (λ (y : Option Image). loading (imageOr y) d) (l .tables))
 
     same-contents : divide (nodesIn n after) (memOf after .digests) ≡ contents
-    same-contents = let p = pageTotal (nodesIn n after) in divide-same (nodesIn n after) _ _ (sym (take-take p p (memOf after .digests) (omega arith)))
+    same-contents = let p = pageTotal (nodesIn n after) in divide-same (nodesIn n after) _ _
+        (sym (take-take p p (memOf after .digests) (omega arith)))
 
     rests-loaded : restingState c (viewOf n 0 (memOf after)) ≡ ends c here tables contents
     unfolding restingState ends viewOf
     rests-loaded =
-        ap₂ (λ (o : List OpenFile) (x : List (List (List ℕ))). ends c here (record { nodes = nodesIn n after; opens = o }) x) (sym (no-opens closed)) same-contents
+        ap₂ (λ (o : List OpenFile) (x : List (List (List ℕ))). ends c here
+        (record { nodes = nodesIn n after; opens = o }) x) (sym (no-opens closed)) same-contents
 
-    pub load-done : (m′ : List ℕ) → loadMove c here i d ≡ loading (imageOr (parse ID-BYTES i)) d → stateOf c m′ ≡ restingState c (viewOf n 0 (memOf after))
+    pub load-done : (m′ : List ℕ) → loadMove c here i d ≡ loading (imageOr (parse ID-BYTES i)) d
+        → stateOf c m′ ≡ restingState c (viewOf n 0 (memOf after))
         → Loads c (loadedFrom c here i d) (Done 0 0) m′
     unfolding loadedFrom settled
     load-done m′ z s =

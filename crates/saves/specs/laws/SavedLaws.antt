@@ -33,10 +33,12 @@ use Rattle.outcomes.specs.Values.{lengthOf, bytesIn, answerIn}
 use Rattle.saves.specs.Saved.{saveMove, savedInto, Saves}
 
 -- the digests in use, as they stand in the memory
-pub flatten-front : (ns : List Node) (ds : List (List ℕ)) → pageTotal ns ≤ length ds → flatten (divide ns ds) ≡ take (pageTotal ns) ds
+pub flatten-front : (ns : List Node) (ds : List (List ℕ)) → pageTotal ns ≤ length ds
+    → flatten (divide ns ds) ≡ take (pageTotal ns) ds
 flatten-front ns ds h =
     let p = pageTotal ns in
-    ap flatten (divide-same ns ds (take p ds) (sym (take-take p p ds (omega arith)))) ∙ flatten-divide ns (take p ds) (length-take-le p ds h)
+    ap flatten (divide-same ns ds (take p ds) (sym (take-take p p ds (omega arith))))
+    ∙ flatten-divide ns (take p ds) (length-take-le p ds h)
 
 -- an image at the front of a buffer: it fits, and is the front
 module _ (l x l′ : List ℕ) (n : ℕ) (e : l′ ≡ overwrite l 0 x) (k : n ≡ 0 + length x) where
@@ -52,10 +54,12 @@ module _ (c : Config) (m : List ℕ) (g : Guard) (e : g ≡ numbersOf (memOf m .
   here = stateOf c m
 
   pub some-open : 0 < g .opens → ltb 0 (length (here .skeleton .tables .opens)) ≡ true
-  some-open h = lt-ltb 0 (length (here .skeleton .tables .opens)) (omega (arith, opens-count c m, ap (λ (x : Guard). x .opens) e))
+  some-open h = lt-ltb 0 (length (here .skeleton .tables .opens))
+      (omega (arith, opens-count c m, ap (λ (x : Guard). x .opens) e))
 
   pub none-open : g .opens ≤ 0 → ltb 0 (length (here .skeleton .tables .opens)) ≡ false
-  none-open h = le-ltb 0 (length (here .skeleton .tables .opens)) (omega (arith, opens-count c m, ap (λ (x : Guard). x .opens) e))
+  none-open h = le-ltb 0 (length (here .skeleton .tables .opens))
+      (omega (arith, opens-count c m, ap (λ (x : Guard). x .opens) e))
 
   nodes-held : here .skeleton .tables .nodes ≡ nodesIn (g .nodes) m
   unfolding stateOf stateIn viewOf
@@ -66,7 +70,8 @@ module _ (c : Config) (m : List ℕ) (g : Guard) (e : g ≡ numbersOf (memOf m .
   contents-held = ap (λ (x : Guard). divide (take (x .nodes) (memOf m .nodes)) (memOf m .digests)) (sym e)
 
   -- the image of the state is that of the rows in use
-  pub image-held : c .width ≡ ID-BYTES → pageTotal (nodesIn (g .nodes) m) ≤ PAGES → imageOf c (digestStore c) here ≡ print ID-BYTES (imageIn (g .nodes) m)
+  pub image-held : c .width ≡ ID-BYTES → pageTotal (nodesIn (g .nodes) m) ≤ PAGES
+      → imageOf c (digestStore c) here ≡ print ID-BYTES (imageIn (g .nodes) m)
   image-held wide few =
       let ns = nodesIn (g .nodes) m in
       let f = flatten-front ns (memOf m .digests) (rw (length-digests m) few) in
@@ -75,11 +80,13 @@ module _ (c : Config) (m : List ℕ) (g : Guard) (e : g ≡ numbersOf (memOf m .
       ∙ ap₂ (λ (u : List Node) (v : List (List ℕ)). print ID-BYTES (u, v)) nodes-held d
 
   -- more pages than the limit are in no valid tables
-  pub save-never : (i d : List ℕ) (p : ℕ) → pageTotal (here .skeleton .tables .nodes) ≤ PAGES → p ≡ pageTotal (nodesIn (g .nodes) m) → PAGES < p
+  pub save-never : (i d : List ℕ) (p : ℕ) → pageTotal (here .skeleton .tables .nodes) ≤ PAGES
+      → p ≡ pageTotal (nodesIn (g .nodes) m) → PAGES < p
       → Saves c (savedInto c here (length i)) (Refused 28) m i i d d
   save-never i d p few count h = absurd (omega (arith, ap pageTotal nodes-held))
 
-  length-held : c .width ≡ ID-BYTES → imageLength (c .width) (here .skeleton .tables .nodes) ≡ imageLength ID-BYTES (nodesIn (g .nodes) m)
+  length-held : c .width ≡ ID-BYTES → imageLength (c .width) (here .skeleton .tables .nodes) ≡ imageLength ID-BYTES
+      (nodesIn (g .nodes) m)
   length-held wide = ap₂ imageLength wide nodes-held
 
   -- which move: 16, 34, or the save
@@ -87,18 +94,21 @@ module _ (c : Config) (m : List ℕ) (g : Guard) (e : g ≡ numbersOf (memOf m .
   unfolding saveMove
   save-used n h = check-stops refuse 16 _ _ _ (some-open h)
 
-  module _ (closed : g .opens ≤ 0) (wide : c .width ≡ ID-BYTES) (n l : ℕ) (measured : l ≡ imageLength ID-BYTES (nodesIn (g .nodes) m)) where
+  module _ (closed : g .opens ≤ 0) (wide : c .width ≡ ID-BYTES) (n l : ℕ) (measured : l ≡ imageLength ID-BYTES
+      (nodesIn (g .nodes) m)) where
     pub save-short : n < l → saveMove c here n ≡ refuse 34
     unfolding saveMove
     save-short h =
         check-passes refuse 16 _ _ _ (none-open closed)
-        ∙ check-stops refuse 34 _ _ _ (lt-ltb n (imageLength (c .width) (here .skeleton .tables .nodes)) (omega (arith, length-held wide)))
+        ∙ check-stops refuse 34 _ _ _ (lt-ltb n (imageLength (c .width) (here .skeleton .tables .nodes))
+        (omega (arith, length-held wide)))
 
     pub save-goes : l ≤ n → saveMove c here n ≡ saving
     unfolding saveMove
     save-goes h =
         check-passes refuse 16 _ _ _ (none-open closed)
-        ∙ check-last refuse 34 _ _ (le-ltb n (imageLength (c .width) (here .skeleton .tables .nodes)) (omega (arith, length-held wide)))
+        ∙ check-last refuse 34 _ _ (le-ltb n (imageLength (c .width) (here .skeleton .tables .nodes))
+        (omega (arith, length-held wide)))
 
 -- a refusal leaves everything alone
 pub refusal-saves : (c : Config) (m i d : List ℕ) (v : Move) (n : ℕ) → v ≡ refuse n
@@ -118,19 +128,24 @@ unfolding savedInto
 save-refused c m i d n z = refusal-saves c m i d _ n z
 
 -- the image x, the state's own, is at the front of the buffer, its digest beside it
-pub save-done : (c : Config) (m i d m′ i′ d′ x : List ℕ) (l : ℕ) → c .digest ≡ sha256 → saveMove c (stateOf c m) (length i) ≡ saving
+pub save-done : (c : Config) (m i d m′ i′ d′ x : List ℕ) (l : ℕ) → c .digest ≡ sha256
+    → saveMove c (stateOf c m) (length i) ≡ saving
     → imageOf c (digestStore c) (stateOf c m) ≡ x
-    → stateOf c m′ ≡ ends c (stateOf c m) (stateOf c m .skeleton .tables) (stateOf c m .contents) → i′ ≡ atFront x i → d′ ≡ atFront (sha256 x) d → l ≡ length x
+    → stateOf c m′ ≡ ends c (stateOf c m) (stateOf c m .skeleton .tables) (stateOf c m .contents) → i′ ≡ atFront x i
+    → d′ ≡ atFront (sha256 x) d → l ≡ length x
     → Saves c (savedInto c (stateOf c m) (length i)) (Done l l) m′ i i′ d d′
 unfolding savedInto apply answerIn lengthOf bytesIn imageAfter answerBytes ends
 save-done c m i d m′ i′ d′ x l hash z y s f g k =
     let S = digestStore c in
     let R : Result S = saved c S (stateOf c m) x in
-    let q : savedInto c (stateOf c m) (length i) ≡ R = ap (apply c S (stateOf c m)) z ∙ ap (saved c S (stateOf c m)) y in
+    let q : savedInto c (stateOf c m) (length i) ≡ R = ap (apply c S (stateOf c m)) z
+    ∙ ap (saved c S (stateOf c m)) y in
     record {
       state = s ∙ ap (λ (r : Result S). r .state) (sym q);
-      answer = ap₂ done k (ap₂ take k f ∙ take-overwrite i 0 x (length x) (omega arith) (omega arith)) ∙ ap (λ (r : Result S). r .outcome .answer) (sym q);
+      answer = ap₂ done k (ap₂ take k f ∙ take-overwrite i 0 x (length x) (omega arith) (omega arith))
+          ∙ ap (λ (r : Result S). r .outcome .answer) (sym q);
       count = k ∙ ap (λ (r : Result S). bytesIn (r .outcome .answer)) (sym q);
       image = f ∙ ap (λ (r : Result S). imageAfter (r .outcome .answer) i) (sym q);
-      digest = g ∙ ap (λ (h : List ℕ → List ℕ). atFront (h x) d) (sym hash) ∙ ap (λ (r : Result S). atFront (r .outcome .digest) d) (sym q);
+      digest = g ∙ ap (λ (h : List ℕ → List ℕ). atFront (h x) d) (sym hash)
+          ∙ ap (λ (r : Result S). atFront (r .outcome .digest) d) (sym q);
     }

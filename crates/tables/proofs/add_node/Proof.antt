@@ -17,8 +17,11 @@ returns c =
     let pre = c .before .before .before .before .before .pre in
     let a = c .before .before .before .before .before .args in
     let m = memOf (a .m .now) in
-    let f : length (m .nodes) ≡ 256 = length-nodes (a .m .now) in
-    (λ o. ap (viewOf (a .n + 1) o) (c .before .before .put-node .ensures .0) ∙ view-add m (a .n) o (nodeOf (a .row)) (omega arith) (pre .1), omega arith)
+    let f : length (m .nodes) ≡ 256 = length-nodes (a .m .now) in (
+      λ o. ap (viewOf (a .n + 1) o) (c .before .before .put-node .ensures .0)
+          ∙ view-add m (a .n) o (nodeOf (a .row)) (omega arith) (pre .1),
+      omega arith,
+    )
 
 pub add-node-spec : {M : Type 1} → statement M
 add-node-spec = tie.close (tie.spec (λ c κs. search needs) (λ c. search needs) returns)

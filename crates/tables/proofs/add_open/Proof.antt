@@ -16,8 +16,11 @@ returns : tie.Need-returns
 returns c =
     let a = c .before .before .before .before .before .args in
     let m = memOf (a .m .now) in
-    let f : length (m .opens) ≡ 40 = length-opens (a .m .now) in
-    (λ n. ap (viewOf n (a .o + 1)) (c .before .before .put-open .ensures .0) ∙ view-open m n (a .o) (openOf (a .row)) (omega arith), omega arith)
+    let f : length (m .opens) ≡ 40 = length-opens (a .m .now) in (
+      λ n. ap (viewOf n (a .o + 1)) (c .before .before .put-open .ensures .0) ∙ view-open m n (a .o) (openOf (a .row))
+          (omega arith),
+      omega arith,
+    )
 
 pub add-open-spec : {M : Type 1} → statement M
 add-open-spec = tie.close (tie.spec (λ c κs. search needs) (λ c. search needs) returns)

@@ -27,8 +27,17 @@ rows-moved-requires c κs =
     let a = f .before .before .before .before .args in
     let l = length-nodes (a .m .now) in
     let e = p .pages-for .ensures .0 ∙ ap pagesFor (p .before .node-size .ensures) in
-    let t = total-next (memOf (a .m .now) .nodes) (a .k) (omega arith) in
-    (omega arith, omega arith, omega (arith, f .first-page .ensures .0, e, t), omega (arith, f .first-page .ensures .1, p .pages-for .ensures .1), omega arith)
+    let t = total-next (memOf (a .m .now) .nodes) (a .k) (omega arith) in (
+      omega arith,
+      omega arith,
+      omega (arith, f .first-page .ensures .0, e, t),
+      omega (
+        arith,
+        f .first-page .ensures .1,
+        p .pages-for .ensures .1,
+      ),
+      omega arith,
+    )
 
 returns-2 : tie.Need-returns-2
 returns-2 c =
@@ -40,7 +49,9 @@ returns-2 c =
     let a = f .before .before .before .before .args in
     let e = p .pages-for .ensures .0 ∙ ap pagesFor (p .before .node-size .ensures) in
     let h = spans-at (a .m .now) (a .n) (a .k) (omega arith) (omega arith) (f .first-page .ensures .0) e in (
-      λ g. absurd (true≢false (sym (r .has-room .ensures .1 (room (a .m .now) h (a .size) (a .from) (a .count) g _ _ _ e (q .pages-for2 .ensures .0) (b .rows-moved .ensures .0)))
+      λ g. absurd (true≢false
+          (sym (r .has-room .ensures .1 (room (a .m .now) h (a .size) (a .from) (a .count) g _ _ _ e
+          (q .pages-for2 .ensures .0) (b .rows-moved .ensures .0)))
           ∙ not-true _ (c .if2 .taken))),
       (λ _. refl, refl),
     )
@@ -60,8 +71,15 @@ keep-digests-requires : tie.Need-keep-digests-requires
 keep-digests-requires c κs =
     let i = c .before .before .before .before .before in
     let r = i .before .has-room .ensures .0 (not-false _ (i .if2 .left)) in
-    let s = i .before .before .before .before .before .before .before .before .before .before .before .before in
-    (omega (arith, r .after-fits, r .ends), r .few, omega (arith, c .before .before .before .move-digests .ensures .1, s .pre .1))
+    let s = i .before .before .before .before .before .before .before .before .before .before .before .before in (
+      omega (arith, r .after-fits, r .ends),
+      r .few,
+      omega (
+        arith,
+        c .before .before .before .move-digests .ensures .1,
+        s .pre .1,
+      ),
+    )
 
 returns-3 : tie.Need-returns-3
 unfolding changedRows stagedDigests
@@ -76,17 +94,30 @@ returns-3 c =
     let y = f .before .before .before .before in
     let a = y .args in
     let e = p .pages-for .ensures .0 ∙ ap pagesFor (p .before .node-size .ensures) in
-    let h = spans-at (a .m .now) (a .n) (a .k) (omega (arith, f .before .before .if1 .left)) (y .pre .0) (f .first-page .ensures .0) e in (
+    let h = spans-at (a .m .now) (a .n) (a .k) (omega (arith, f .before .before .if1 .left)) (y .pre .0)
+    (f .first-page .ensures .0) e in (
       λ g. (
         refl,
-        λ blank o. ap (viewOf (a .n) o) (z .set-size .ensures .0 ∙ rw (k .keep-digests .ensures .0, d .move-digests .ensures .0))
-            ∙ view-change (a .m .now) h (a .size) (a .from) (a .count) g _ _ _ e (q .pages-for2 .ensures .0) (b .rows-moved .ensures .0) blank o,
+        λ blank o. ap (viewOf (a .n) o) (z .set-size .ensures .0
+            ∙ rw (k .keep-digests .ensures .0, d .move-digests .ensures .0))
+            ∙ view-change (a .m .now) h (a .size) (a .from) (a .count) g _ _ _ e (q .pages-for2 .ensures .0)
+            (b .rows-moved .ensures .0) blank o,
       ),
-      (λ x. absurd (true≢false x), omega (arith, z .set-size .ensures .1, k .keep-digests .ensures .1, d .move-digests .ensures .1)),
+      (
+        λ x. absurd (true≢false x),
+        omega (
+          arith,
+          z .set-size .ensures .1,
+          k .keep-digests .ensures .1,
+          d .move-digests .ensures .1,
+        ),
+      ),
     )
 
 pub change-file-spec : {M : Type 1} → statement M
 change-file-spec =
-    tie.close (tie.spec returns (λ c κs. search needs) (λ c κs. search needs) (λ c κs. search needs) (λ c κs. search needs) (λ c. search needs) rows-moved-requires
-    (λ c κs. search needs) (λ c. search needs) returns-2 (λ c. search needs) move-digests-requires add-keep-digests keep-digests-requires (λ c κs. search needs)
+    tie.close (tie.spec returns (λ c κs. search needs) (λ c κs. search needs) (λ c κs. search needs)
+    (λ c κs. search needs) (λ c. search needs) rows-moved-requires
+    (λ c κs. search needs) (λ c. search needs) returns-2 (λ c. search needs) move-digests-requires add-keep-digests
+    keep-digests-requires (λ c κs. search needs)
     (λ c. search needs) returns-3)

@@ -1,4 +1,5 @@
--- `tables::count_children` meets its contract. The loop's invariant: the count is that so far and the count in what remains. Assumes nothing.
+-- `tables::count_children` meets its contract. The loop's invariant: the count is that so far and the count in what
+-- remains. Assumes nothing.
 use Prim.Native.Nat.{_+_, _-_, _≤_}
 use mathlib.Core.Path.{_≡_, sym, _∙_}
 use mathlib.Core.Logic.{⊎-elim}
@@ -17,7 +18,8 @@ use Rattle.tables.proofs.count_children.Tie as tie
 
 abbrev Inv-loop : tie.InvT-loop
 Inv-loop m n parent c₀ i₀ k i =
-    (i ≤ n) × (k ≤ i) × (length (select (hasParent parent) (take n (memOf m .nodes))) ≡ k + length (select (hasParent parent) (drop i (take n (memOf m .nodes)))))
+    (i ≤ n) × (k ≤ i) × (length (select (hasParent parent) (take n (memOf m .nodes))) ≡ k + length
+    (select (hasParent parent) (drop i (take n (memOf m .nodes)))))
 
 abbrev μ-loop : tie.MeasureT-loop
 μ-loop m n parent c₀ i₀ k i = n - i
@@ -33,8 +35,18 @@ loop-again c =
     let ns = memOf (a .m .now) .nodes in
     let f : length ns ≡ _ = length-nodes (a .m .now) in
     ⊎-elim
-    (λ w. (omega arith, omega arith, rw (w .1) (count-hit noNode ns (a .n) (l .i) (omega arith) (hasParent (a .parent)) (l .c) (l .inv .2) (omega arith) (eq-eqb _ _ (sym (c .before .node-parent .ensures) ∙ w .0 .taken)))))
-    (λ w. (omega arith, omega arith, rw (w .1) (count-miss noNode ns (a .n) (l .i) (omega arith) (hasParent (a .parent)) (l .c) (l .inv .2) (omega arith) (ne-eqb _ _ (λ q. w .0 .left (c .before .node-parent .ensures ∙ q))))))
+    (λ w. (
+      omega arith,
+      omega arith,
+      rw (w .1) (count-hit noNode ns (a .n) (l .i) (omega arith) (hasParent (a .parent))
+          (l .c) (l .inv .2) (omega arith) (eq-eqb _ _ (sym (c .before .node-parent .ensures) ∙ w .0 .taken))),
+    ))
+    (λ w. (
+      omega arith,
+      omega arith,
+      rw (w .1) (count-miss noNode ns (a .n) (l .i) (omega arith) (hasParent (a .parent))
+          (l .c) (l .inv .2) (omega arith) (ne-eqb _ _ (λ q. w .0 .left (c .before .node-parent .ensures ∙ q)))),
+    ))
     (c .if1 .came)
 
 returns : tie.Need-returns Inv-loop μ-loop
@@ -48,4 +60,5 @@ returns c =
 
 pub count-children-spec : {M : Type 1} → statement M
 count-children-spec =
-    tie.close (tie.spec Inv-loop μ-loop loop-holds (λ c κs. search needs) (λ c. search needs) (λ c. search needs) (λ c. search needs) loop-again returns)
+    tie.close (tie.spec Inv-loop μ-loop loop-holds (λ c κs. search needs) (λ c. search needs) (λ c. search needs)
+    (λ c. search needs) loop-again returns)

@@ -1,4 +1,5 @@
--- `tables::find_child` meets its contract. The loop's invariant: the place is i and the place in what remains. Assumes nothing.
+-- `tables::find_child` meets its contract. The loop's invariant: the place is i and the place in what remains. Assumes
+-- nothing.
 use Prim.Native.Nat.{_+_, _-_, _≤_}
 use mathlib.Core.Path.{_≡_, sym, _∙_}
 use native.Mathlib.Nat.{zero-add}
@@ -15,7 +16,8 @@ use Rattle.tables.proofs.find_child.Tie as tie
 
 abbrev Inv-loop : tie.InvT-loop
 Inv-loop m nodes parent name i₀ i =
-    (i ≤ nodes) × (place (isChild parent name) (take nodes (memOf m .nodes)) ≡ i + place (isChild parent name) (drop i (take nodes (memOf m .nodes))))
+    (i ≤ nodes) × (place (isChild parent name) (take nodes (memOf m .nodes)) ≡ i + place (isChild parent name)
+    (drop i (take nodes (memOf m .nodes))))
 
 abbrev μ-loop : tie.MeasureT-loop
 μ-loop m nodes parent name i₀ i = nodes - i
@@ -29,15 +31,21 @@ returns c =
     let a = c .before .before .before .before .before .before .args in
     let l = c .before .before .before .loop in
     let f : length (memOf (a .m .now) .nodes) ≡ _ = length-nodes (a .m .now) in
-    sym (place-hit noNode (memOf (a .m .now) .nodes) (a .nodes) (l .i) (omega arith) (isChild (a .parent) (a .name .now)) (l .inv .1) (omega arith) (sym (c .before .is-child .ensures) ∙ c .if1 .taken))
+    sym (place-hit noNode (memOf (a .m .now) .nodes) (a .nodes) (l .i) (omega arith)
+    (isChild (a .parent) (a .name .now)) (l .inv .1) (omega arith) (sym (c .before .is-child .ensures)
+    ∙ c .if1 .taken))
 
 loop-again : tie.Need-loop-again Inv-loop μ-loop
 unfolding nodeAt
 loop-again c =
     let a = c .before .before .before .before .before .before .args in
     let l = c .before .before .before .loop in
-    let f : length (memOf (a .m .now) .nodes) ≡ _ = length-nodes (a .m .now) in
-    (omega arith, place-miss noNode (memOf (a .m .now) .nodes) (a .nodes) (l .i) (omega arith) (isChild (a .parent) (a .name .now)) (l .inv .1) (omega arith) (sym (c .before .is-child .ensures) ∙ c .if1 .left))
+    let f : length (memOf (a .m .now) .nodes) ≡ _ = length-nodes (a .m .now) in (
+      omega arith,
+      place-miss noNode (memOf (a .m .now) .nodes) (a .nodes) (l .i) (omega arith)
+          (isChild (a .parent) (a .name .now)) (l .inv .1) (omega arith) (sym (c .before .is-child .ensures)
+          ∙ c .if1 .left),
+    )
 
 returns-2 : tie.Need-returns-2 Inv-loop μ-loop
 unfolding findChild
@@ -45,8 +53,10 @@ returns-2 c =
     let a = c .before .before .before .before .args in
     let l = c .before .loop in
     let f : length (memOf (a .m .now) .nodes) ≡ _ = length-nodes (a .m .now) in
-    sym (place-end noNode (memOf (a .m .now) .nodes) (a .nodes) (l .i) (omega arith) (isChild (a .parent) (a .name .now)) (l .inv .1) (omega arith))
+    sym (place-end noNode (memOf (a .m .now) .nodes) (a .nodes) (l .i) (omega arith)
+    (isChild (a .parent) (a .name .now)) (l .inv .1) (omega arith))
 
 pub find-child-spec : {M : Type 1} → statement M
 find-child-spec =
-    tie.close (tie.spec Inv-loop μ-loop loop-holds (λ c κs. search needs) returns (λ c. search needs) (λ c. search needs) loop-again returns-2)
+    tie.close (tie.spec Inv-loop μ-loop loop-holds (λ c κs. search needs) returns (λ c. search needs)
+    (λ c. search needs) loop-again returns-2)

@@ -1,4 +1,5 @@
--- `tables::find_handle` meets its contract. The loop's invariant: the place is i and the place in what remains. Assumes nothing.
+-- `tables::find_handle` meets its contract. The loop's invariant: the place is i and the place in what remains. Assumes
+-- nothing.
 use Prim.Native.Nat.{_+_, _-_, _≤_}
 use mathlib.Core.Path.{_≡_, sym, _∙_}
 use native.Mathlib.Nat.{zero-add}
@@ -15,7 +16,8 @@ use Rattle.tables.proofs.find_handle.Statement.{statement}
 use Rattle.tables.proofs.find_handle.Tie as tie
 
 abbrev Inv-loop : tie.InvT-loop
-Inv-loop m o handle i₀ i = (i ≤ o) × (place (hasHandle handle) (take o (memOf m .opens)) ≡ i + place (hasHandle handle) (drop i (take o (memOf m .opens))))
+Inv-loop m o handle i₀ i = (i ≤ o) × (place (hasHandle handle) (take o (memOf m .opens)) ≡ i + place (hasHandle handle)
+    (drop i (take o (memOf m .opens))))
 
 abbrev μ-loop : tie.MeasureT-loop
 μ-loop m o handle i₀ i = o - i
@@ -29,15 +31,19 @@ returns c =
     let a = c .before .before .before .before .before .args in
     let l = c .before .before .before .loop in
     let f : length (memOf (a .m .now) .opens) ≡ _ = length-opens (a .m .now) in
-    sym (place-hit noOpenFile (memOf (a .m .now) .opens) (a .o) (l .i) (omega arith) (hasHandle (a .handle)) (l .inv .1) (omega arith) (eq-eqb _ _ (sym (c .before .open-handle .ensures) ∙ c .if1 .taken)))
+    sym (place-hit noOpenFile (memOf (a .m .now) .opens) (a .o) (l .i) (omega arith) (hasHandle (a .handle)) (l .inv .1)
+    (omega arith) (eq-eqb _ _ (sym (c .before .open-handle .ensures) ∙ c .if1 .taken)))
 
 loop-again : tie.Need-loop-again Inv-loop μ-loop
 unfolding openAt
 loop-again c =
     let a = c .before .before .before .before .before .args in
     let l = c .before .before .before .loop in
-    let f : length (memOf (a .m .now) .opens) ≡ _ = length-opens (a .m .now) in
-    (omega arith, place-miss noOpenFile (memOf (a .m .now) .opens) (a .o) (l .i) (omega arith) (hasHandle (a .handle)) (l .inv .1) (omega arith) (ne-eqb _ _ (λ q. c .if1 .left (c .before .open-handle .ensures ∙ q))))
+    let f : length (memOf (a .m .now) .opens) ≡ _ = length-opens (a .m .now) in (
+      omega arith,
+      place-miss noOpenFile (memOf (a .m .now) .opens) (a .o) (l .i) (omega arith) (hasHandle (a .handle))
+          (l .inv .1) (omega arith) (ne-eqb _ _ (λ q. c .if1 .left (c .before .open-handle .ensures ∙ q))),
+    )
 
 returns-2 : tie.Need-returns-2 Inv-loop μ-loop
 unfolding findHandle
@@ -45,8 +51,10 @@ returns-2 c =
     let a = c .before .before .before .args in
     let l = c .before .loop in
     let f : length (memOf (a .m .now) .opens) ≡ _ = length-opens (a .m .now) in
-    sym (place-end noOpenFile (memOf (a .m .now) .opens) (a .o) (l .i) (omega arith) (hasHandle (a .handle)) (l .inv .1) (omega arith))
+    sym (place-end noOpenFile (memOf (a .m .now) .opens) (a .o) (l .i) (omega arith) (hasHandle (a .handle)) (l .inv .1)
+    (omega arith))
 
 pub find-handle-spec : {M : Type 1} → statement M
 find-handle-spec =
-    tie.close (tie.spec Inv-loop μ-loop loop-holds (λ c κs. search needs) returns (λ c. search needs) (λ c. search needs) loop-again returns-2)
+    tie.close (tie.spec Inv-loop μ-loop loop-holds (λ c κs. search needs) returns (λ c. search needs)
+    (λ c. search needs) loop-again returns-2)

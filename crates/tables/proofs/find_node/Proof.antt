@@ -19,7 +19,8 @@ returns c w v =
     let ns = take (a .n) (memOf (a .m .now) .nodes) in
     let e : length ns ≡ a .n = count-nodes (a .m .now) (a .n) (omega arith) in
     let g = node-front (a .n) (memOf (a .m .now) .nodes) (a .hint) (omega arith) in
-    place-with-id ns (a .hint) (a .id) (to-sound w ns v) (omega arith) (ap (λ (y : Node). y .id) g ∙ sym (c .before .node-id .ensures) ∙ c .if2 .taken)
+    place-with-id ns (a .hint) (a .id) (to-sound w ns v) (omega arith) (ap (λ (y : Node). y .id) g
+    ∙ sym (c .before .node-id .ensures) ∙ c .if2 .taken)
 
 find-id-requires : tie.Need-find-id-requires
 find-id-requires c κs = search needs

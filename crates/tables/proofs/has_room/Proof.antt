@@ -20,9 +20,18 @@ returns-4 : tie.Need-returns-4
 returns-4 c = (λ e. absurd (true≢false (sym e)), λ r. absurd (omega (arith, r .few)))
 
 returns-5 : tie.Need-returns-5
-returns-5 c =
-    (λ e. record { before-fits = omega arith; after-fits = omega arith; begins = omega arith; ends = leb-true _ _ e; few = omega arith }, λ r. le-leb _ _ (r .ends))
+returns-5 c = (
+  λ e. record {
+    before-fits = omega arith;
+    after-fits = omega arith;
+    begins = omega arith;
+    ends = leb-true _ _ e;
+    few = omega arith;
+  },
+  λ r. le-leb _ _ (r .ends),
+)
 
 pub has-room-spec : {M : Type 1} → statement M
 has-room-spec =
-    tie.close (tie.spec (λ c. search needs) (λ c. search needs) returns (λ c. search needs) (λ c. search needs) returns-2 returns-3 returns-4 (λ c. search needs) returns-5)
+    tie.close (tie.spec (λ c. search needs) (λ c. search needs) returns (λ c. search needs) (λ c. search needs)
+    returns-2 returns-3 returns-4 (λ c. search needs) returns-5)

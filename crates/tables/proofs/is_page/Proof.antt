@@ -1,4 +1,5 @@
--- `tables::is_page` meets its contract. Where the pages are not too many, the digest's place is among them. Assumes nothing.
+-- `tables::is_page` meets its contract. Where the pages are not too many, the digest's place is among them. Assumes
+-- nothing.
 use native.Mathlib.Omega.{arith}
 use mathlib.Core.Path.{_≡_, sym, ap, ap₂, _∙_}
 use mathlib.Core.List.{[]}
@@ -32,7 +33,9 @@ returns-2 c =
     λ n h g f w.
     c .same .ensures
     ∙ ap₂ equal (c .before .before .before .sha256 .ensures)
-    (c .before .digest .ensures .0 ∙ ap (λ (j : ℕ). getD ds (j + a .i) []) x ∙ sym (digest-place ns ds n (a .k) (a .i) h (omega arith) f))
+    (c .before .digest .ensures .0 ∙ ap (λ (j : ℕ). getD ds (j + a .i) []) x
+    ∙ sym (digest-place ns ds n (a .k) (a .i) h (omega arith) f))
 
 pub is-page-spec : {M : Type 1} → statement M
-is-page-spec = tie.close (tie.spec (λ c κs. search needs) (λ c. search needs) returns (λ c κs. search needs) (λ c. search needs) (λ c κs. search needs) (λ c κs. search needs) returns-2)
+is-page-spec = tie.close (tie.spec (λ c κs. search needs) (λ c. search needs) returns (λ c κs. search needs)
+    (λ c. search needs) (λ c κs. search needs) (λ c κs. search needs) returns-2)

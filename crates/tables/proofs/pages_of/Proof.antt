@@ -15,8 +15,10 @@ pages-on-requires c κs =
     let a = c .before .before .before .before .args in
     let ns = memOf (a .m .now) .nodes in
     let l : length ns ≡ 256 = length-nodes (a .m .now) in
-    let x : c .before .before .first-page .result ≡ pageTotal (take (a .k) ns) = c .before .before .first-page .ensures .0 in
-    let y : c .pages-for .result ≡ pagesFor (nodeAt ns (a .k) .size) = c .pages-for .ensures .0 ∙ ap pagesFor (c .before .node-size .ensures) in
+    let x : c .before .before .first-page .result ≡ pageTotal (take (a .k) ns) =
+    c .before .before .first-page .ensures .0 in
+    let y : c .pages-for .result ≡ pagesFor (nodeAt ns (a .k) .size) = c .pages-for .ensures .0
+    ∙ ap pagesFor (c .before .node-size .ensures) in
     let t = total-next ns (a .k) (omega arith) in
     (omega arith, omega arith, omega arith, omega arith, omega arith)
 
@@ -28,11 +30,15 @@ returns c =
     let ns = memOf (a .m .now) .nodes in
     let l : length ns ≡ 256 = length-nodes (a .m .now) in
     let x : f .first-page .result ≡ pageTotal (take (a .k) ns) = f .first-page .ensures .0 in
-    let y : p .pages-for .result ≡ pagesFor (nodeAt ns (a .k) .size) = p .pages-for .ensures .0 ∙ ap pagesFor (p .before .node-size .ensures) in
+    let y : p .pages-for .result ≡ pagesFor (nodeAt ns (a .k) .size) = p .pages-for .ensures .0
+    ∙ ap pagesFor (p .before .node-size .ensures) in
     let z : c .pages-on .result ≡ pageTotal (take (a .n) ns) = c .pages-on .ensures .0 in
-    let t = total-part ns (a .n) (a .k) (omega arith) (omega arith) in
-    (record { known = omega arith; fits = omega arith; begins = x; ends = omega arith; within = omega arith; all = z }, c .pages-on .ensures .1)
+    let t = total-part ns (a .n) (a .k) (omega arith) (omega arith) in (
+      record { known = omega arith; fits = omega arith; begins = x; ends = omega arith; within = omega arith; all = z },
+      c .pages-on .ensures .1,
+    )
 
 pub pages-of-spec : {M : Type 1} → statement M
 pages-of-spec =
-    tie.close (tie.spec (λ c κs. search needs) (λ c κs. search needs) (λ c κs. search needs) (λ c. search needs) (λ c. search needs) pages-on-requires returns)
+    tie.close (tie.spec (λ c κs. search needs) (λ c κs. search needs) (λ c κs. search needs) (λ c. search needs)
+    (λ c. search needs) pages-on-requires returns)

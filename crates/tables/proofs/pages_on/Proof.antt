@@ -23,7 +23,8 @@ loop-again c =
     let l = c .before .before .before .loop in
     let ns = memOf (a .m .now) .nodes in
     let f : length ns ≡ _ = length-nodes (a .m .now) in
-    let e : c .pages-for .result ≡ pagesFor (nodeAt ns (l .i) .size) = c .pages-for .ensures .0 ∙ ap pagesFor (c .before .node-size .ensures) in
+    let e : c .pages-for .result ≡ pagesFor (nodeAt ns (l .i) .size) = c .pages-for .ensures .0
+    ∙ ap pagesFor (c .before .node-size .ensures) in
     (omega arith, omega arith, rw (e, l .inv .2) (sym (total-next ns (l .i) (omega arith))))
 
 returns : tie.Need-returns Inv-loop μ-loop
@@ -34,5 +35,6 @@ returns c =
 
 pub pages-on-spec : {M : Type 1} → statement M
 pages-on-spec =
-    tie.close (tie.spec Inv-loop μ-loop (λ c. search needs) (λ c κs. search needs) (λ c κs. search needs) (λ c. search needs) (λ c. search needs) (λ c. search needs)
+    tie.close (tie.spec Inv-loop μ-loop (λ c. search needs) (λ c κs. search needs) (λ c κs. search needs)
+    (λ c. search needs) (λ c. search needs) (λ c. search needs)
     loop-again returns)

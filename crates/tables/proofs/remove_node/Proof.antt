@@ -21,11 +21,13 @@ returns c =
     let ln : length (m .nodes) ≡ 256 = length-nodes (a .m .now) in
     let ld : length (m .digests) ≡ 1024 = length-digests (a .m .now) in
     let h = s .pages-of .ensures .0 in (
-      λ o. ap (viewOf (a .n - 1) o) (n .move-nodes .ensures .0 ∙ rw (d .move-digests .ensures .0)) ∙ view-remove m (a .n) o h (omega arith) (omega arith),
+      λ o. ap (viewOf (a .n - 1) o) (n .move-nodes .ensures .0 ∙ rw (d .move-digests .ensures .0))
+          ∙ view-remove m (a .n) o h (omega arith) (omega arith),
       omega arith,
     )
 
 pub remove-node-spec : {M : Type 1} → statement M
 remove-node-spec =
-    tie.close (tie.spec (λ c κs. search needs) (λ c. search needs) (λ c κs. search needs) (λ c. search needs) (λ c. search needs) (λ c. search needs)
+    tie.close (tie.spec (λ c κs. search needs) (λ c. search needs) (λ c κs. search needs) (λ c. search needs)
+    (λ c. search needs) (λ c. search needs)
     (λ c κs. search needs) (λ c. search needs) returns)

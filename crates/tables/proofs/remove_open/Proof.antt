@@ -15,9 +15,13 @@ returns : tie.Need-returns
 returns c =
     let a = c .before .before .before .before .before .args in
     let m = memOf (a .m .now) in
-    let f : length (m .opens) ≡ 40 = length-opens (a .m .now) in
-    (λ n. ap (viewOf n (a .o - 1)) (c .before .before .move-opens .ensures .0) ∙ view-close m n (a .o) (a .k) (omega arith) (omega arith), omega arith)
+    let f : length (m .opens) ≡ 40 = length-opens (a .m .now) in (
+      λ n. ap (viewOf n (a .o - 1)) (c .before .before .move-opens .ensures .0)
+          ∙ view-close m n (a .o) (a .k) (omega arith) (omega arith),
+      omega arith,
+    )
 
 pub remove-open-spec : {M : Type 1} → statement M
 remove-open-spec =
-    tie.close (tie.spec (λ c. search needs) (λ c. search needs) (λ c. search needs) (λ c κs. search needs) (λ c. search needs) returns)
+    tie.close (tie.spec (λ c. search needs) (λ c. search needs) (λ c. search needs) (λ c κs. search needs)
+    (λ c. search needs) returns)

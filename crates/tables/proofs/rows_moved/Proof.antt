@@ -20,12 +20,20 @@ sub-result c =
     let a = c .before .before .before .args in
     let ns = memOf (a .m .now) .nodes in
     let l : length ns ≡ 256 = length-nodes (a .m .now) in
-    omega (arith, c .pages-on .ensures .0, total-part ns (a .n) (a .k) (omega arith) (omega arith), total-next ns (a .k) (omega arith))
+    omega (
+      arith,
+      c .pages-on .ensures .0,
+      total-part ns (a .n) (a .k) (omega arith) (omega arith),
+      total-next ns (a .k)
+          (omega arith),
+    )
 
 returns-2 : tie.Need-returns-2
 returns-2 c =
-    let a = c .before .before .before .args in
-    (ap (λ (x : ℕ). x - a .end) (c .pages-on .ensures .0) ∙ sym (pick-false _ _ _ (ne-eqb _ _ (c .before .if1 .left))), omega (arith, c .pages-on .ensures .1))
+    let a = c .before .before .before .args in (
+      ap (λ (x : ℕ). x - a .end) (c .pages-on .ensures .0) ∙ sym (pick-false _ _ _ (ne-eqb _ _ (c .before .if1 .left))),
+      omega (arith, c .pages-on .ensures .1),
+    )
 
 pub rows-moved-spec : {M : Type 1} → statement M
 rows-moved-spec = tie.close (tie.spec returns (λ c. search needs) (λ c κs. search needs) sub-result returns-2)

@@ -28,18 +28,21 @@ module _ {A : Type 0} (z : A) (l : List A) (n i : ℕ) (fits : n ≤ length l) w
       place-end h = sym (scan-end f z _ (take n l) i inv (rw size h))
 
     module _ (c : ℕ) (inv : length (select f (take n l)) ≡ c + length (select f (drop i (take n l)))) where
-      pub count-hit : i < n → f (getD l i z) ≡ true → length (select f (take n l)) ≡ c + 1 + length (select f (drop (i + 1) (take n l)))
+      pub count-hit : i < n → f (getD l i z) ≡ true → length (select f (take n l)) ≡ c + 1 + length
+          (select f (drop (i + 1) (take n l)))
       unfolding select
       count-hit h e =
           let r : List A = select f (drop (i + 1) (take n l)) in
           inv ∙ ap (λ r. c + length (select f r)) (rest z l n i fits h)
           ∙ ap (λ (r : List A). c + length r) (pick-true (f (getD l i z)) (getD l i z ∷ r) r e) ∙ omega arith
 
-      pub count-miss : i < n → f (getD l i z) ≡ false → length (select f (take n l)) ≡ c + length (select f (drop (i + 1) (take n l)))
+      pub count-miss : i < n → f (getD l i z) ≡ false → length (select f (take n l)) ≡ c + length
+          (select f (drop (i + 1) (take n l)))
       unfolding select
       count-miss h e =
           let r : List A = select f (drop (i + 1) (take n l)) in
-          inv ∙ ap (λ r. c + length (select f r)) (rest z l n i fits h) ∙ ap (λ (r : List A). c + length r) (pick-false (f (getD l i z)) (getD l i z ∷ r) r e)
+          inv ∙ ap (λ r. c + length (select f r)) (rest z l n i fits h)
+          ∙ ap (λ (r : List A). c + length r) (pick-false (f (getD l i z)) (getD l i z ∷ r) r e)
 
       pub count-end : n ≤ i → length (select f (take n l)) ≡ c
       unfolding select

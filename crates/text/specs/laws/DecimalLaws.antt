@@ -39,6 +39,7 @@ module _ (n : ℕ) (s : List ℕ) (i : ℕ) (inside : i < length s) where
   unfolding readFrom pick
   read-large l h g = rw (drop-cons s i 0 inside, le-ltb _ _ l, le-ltb _ _ h, lt-ltb _ _ g)
 
-  pub read-digit : 48 ≤ getD s i 0 → getD s i 0 ≤ 57 → n ≤ 99999999 → readFrom n (drop i s) ≡ readFrom (10 * n + (getD s i 0 - 48)) (drop (i + 1) s)
+  pub read-digit : 48 ≤ getD s i 0 → getD s i 0 ≤ 57 → n ≤ 99999999
+      → readFrom n (drop i s) ≡ readFrom (10 * n + (getD s i 0 - 48)) (drop (i + 1) s)
   unfolding readFrom pick
   read-digit l h g = rw (add-one, drop-cons s i 0 inside, le-ltb _ _ l, le-ltb _ _ h, le-ltb _ _ g)

@@ -14,7 +14,8 @@ use Rattle.lists.specs.Pick.{pick, pick-ind}
 use Rattle.lists.specs.Equal.{Is, isT, isF, is}
 use Rattle.lists.specs.Search.{place, place-first}
 use Rattle.lists.specs.Places.{at-all, place-none}
-use Rattle.text.specs.Hex.{digitOf, valueOf, halfOf, hexOf, pairOf, bytesOf, isBad, decodeOf, length-hexOf, hexOf-at, length-bytesOf, bytesOf-at, decode-bytes}
+use Rattle.text.specs.Hex.{digitOf, valueOf, halfOf, hexOf, pairOf, bytesOf, isBad, decodeOf, length-hexOf}
+use Rattle.text.specs.Hex.{hexOf-at, length-bytesOf, bytesOf-at, decode-bytes}
 use Rattle.text.specs.declared.hex.Decoded.{Decoded}
 use Rattle.text.specs.declared.hex.Decoded.the-variants.{Bytes}
 
@@ -25,11 +26,18 @@ value-low n h = rw (le-ltb (48 + n) 48 (omega arith), lt-ltb (48 + n) 58 (omega 
 value-high : (n : ℕ) → 10 ≤ n → n < 16 → valueOf (87 + n) ≡ n
 unfolding valueOf pick
 value-high n h g =
-    rw (le-ltb (87 + n) 48 (omega arith), le-ltb (87 + n) 58 (omega arith), le-ltb (87 + n) 97 (omega arith), lt-ltb (87 + n) 103 (omega arith)) (omega arith)
+    rw (
+      le-ltb (87 + n) 48 (omega arith),
+      le-ltb (87 + n) 58 (omega arith),
+      le-ltb (87 + n) 97 (omega arith),
+      lt-ltb
+          (87 + n) 103 (omega arith),
+    ) (omega arith)
 
 pub value-digit : (n : ℕ) → n < 16 → valueOf (digitOf n) ≡ n
 unfolding digitOf
-value-digit n h = pick-ind (λ (d : ℕ). valueOf d ≡ n) (ltb n 10) (λ e. value-low n (ltb-true n 10 e)) (λ e. value-high n (ltb-false n 10 e) h)
+value-digit n h = pick-ind (λ (d : ℕ). valueOf d ≡ n) (ltb n 10) (λ e. value-low n (ltb-true n 10 e))
+    (λ e. value-high n (ltb-false n 10 e) h)
 
 -- the two halves of a byte
 pair-halves : (b : ℕ) → b < 256 → pairOf (digitOf (halfOf b 0)) (digitOf (halfOf b 1)) ≡ b
@@ -67,7 +75,13 @@ module _ (s : List ℕ) (room k : ℕ) where
   never d h e = absurd (h e)
 
   always : length s ≤ place isBad s → (length s % 2 ≡ 1 → ⊥) → length s / 2 ≤ room → If (Bytes (length s / 2))
-  always h g f e = let z : k ≡ length s / 2 = cc in record { digits = h; even = omega arith; count = z; fits = omega arith }
+  always h g f e = let z : k ≡ length s / 2 = cc in record {
+    digits = h;
+    even = omega arith;
+    count = z;
+    fits = omega
+        arith;
+  }
 
   pub decodes : If (decodeOf s room)
   unfolding decodeOf
@@ -94,12 +108,15 @@ module _ (c : ℕ) where
   unfolding valueOf
   digit-value =
       pick-ind Given (ltb c 48) (λ e h. absurd (omega arith))
-      (λ a. pick-ind Given (ltb c 58) (λ e h. let l = ltb-false c 48 a in let u = ltb-true c 58 e in digit-low (c - 48) (omega arith) ∙ omega arith)
+      (λ a. pick-ind Given (ltb c 58) (λ e h. let l = ltb-false c 48 a in let u = ltb-true c 58 e in digit-low (c - 48)
+      (omega arith) ∙ omega arith)
       (λ _. pick-ind Given (ltb c 97) (λ e h. absurd (omega arith))
-      (λ b. pick-ind Given (ltb c 103) (λ e h. let l = ltb-false c 97 b in digit-high (c - 87) (omega arith) ∙ omega arith) (λ e h. absurd (omega arith)))))
+      (λ b. pick-ind Given (ltb c 103) (λ e h. let l = ltb-false c 97 b in digit-high (c - 87) (omega arith)
+      ∙ omega arith) (λ e h. absurd (omega arith)))))
 
 -- digits that were read are those that would be written
-halves-pair : (a b : ℕ) → a < 16 → b < 16 → (halfOf (a % 16 * 16 + b % 16) 0 ≡ a) × (halfOf (a % 16 * 16 + b % 16) 1 ≡ b)
+halves-pair : (a b : ℕ) → a < 16 → b < 16 → (halfOf (a % 16 * 16 + b % 16) 0 ≡ a)
+    × (halfOf (a % 16 * 16 + b % 16) 1 ≡ b)
 unfolding halfOf pick
 halves-pair a b h g = (omega arith, omega arith)
 
@@ -107,7 +124,8 @@ module _ (s : List ℕ) (good : length s ≤ place isBad s) (even : length s % 2
   value-small : (i : ℕ) → i < length s → valueOf (getD s i 0) < 16
   value-small i h = leb-false 16 (valueOf (getD s i 0)) (place-first isBad s 0 i (omega arith))
 
-  byte-at : (j : ℕ) → j < length s / 2 → getD (bytesOf s) j 0 ≡ valueOf (getD s (2 * j) 0) % 16 * 16 + valueOf (getD s (2 * j + 1) 0) % 16
+  byte-at : (j : ℕ) → j < length s / 2 → getD (bytesOf s) j 0 ≡ valueOf (getD s (2 * j) 0) % 16 * 16 + valueOf
+      (getD s (2 * j + 1) 0) % 16
   unfolding pairOf
   byte-at j h = bytesOf-at s j h
 
@@ -117,7 +135,8 @@ module _ (s : List ℕ) (good : length s ≤ place isBad s) (even : length s % 2
       let e₂ : 2 * j % 2 ≡ 0 = omega arith in
       let p = halves-pair _ _ (value-small (2 * j) (omega arith)) (value-small (2 * j + 1) (omega arith)) in
       hexOf-at (bytesOf s) (2 * j) (omega (arith, length-bytesOf s))
-      ∙ rw (e₁, e₂, byte-at j h) (ap digitOf (p .0) ∙ digit-value (getD s (2 * j) 0) (value-small (2 * j) (omega arith)))
+      ∙ rw (e₁, e₂, byte-at j h) (ap digitOf (p .0)
+      ∙ digit-value (getD s (2 * j) 0) (value-small (2 * j) (omega arith)))
 
   second-back : (j : ℕ) → j < length s / 2 → getD (hexOf (bytesOf s)) (2 * j + 1) 0 ≡ getD s (2 * j + 1) 0
   second-back j h =
@@ -125,14 +144,17 @@ module _ (s : List ℕ) (good : length s ≤ place isBad s) (even : length s % 2
       let e₂ : (2 * j + 1) % 2 ≡ 1 = omega arith in
       let p = halves-pair _ _ (value-small (2 * j) (omega arith)) (value-small (2 * j + 1) (omega arith)) in
       hexOf-at (bytesOf s) (2 * j + 1) (omega (arith, length-bytesOf s))
-      ∙ rw (e₁, e₂, byte-at j h) (ap digitOf (p .1) ∙ digit-value (getD s (2 * j + 1) 0) (value-small (2 * j + 1) (omega arith)))
+      ∙ rw (e₁, e₂, byte-at j h) (ap digitOf (p .1)
+      ∙ digit-value (getD s (2 * j + 1) 0) (value-small (2 * j + 1) (omega arith)))
 
   back-at : (i : ℕ) → i < length s → getD (hexOf (bytesOf s)) i 0 ≡ getD s i 0
   back-at i h = go (is (eqb (i % 2) 0))
     where
       go : Is (eqb (i % 2) 0) → getD (hexOf (bytesOf s)) i 0 ≡ getD s i 0
-      go (isT e) = let z = eqb-true (i % 2) 0 e in let f : i ≡ 2 * (i / 2) = omega arith in subst (λ (k : ℕ). getD (hexOf (bytesOf s)) k 0 ≡ getD s k 0) (sym f) (first-back (i / 2) (omega arith))
-      go (isF e) = let z = eqb-false (i % 2) 0 e in let f : i ≡ 2 * (i / 2) + 1 = omega arith in subst (λ (k : ℕ). getD (hexOf (bytesOf s)) k 0 ≡ getD s k 0) (sym f) (second-back (i / 2) (omega arith))
+      go (isT e) = let z = eqb-true (i % 2) 0 e in let f : i ≡ 2 * (i / 2) = omega arith in subst
+          (λ (k : ℕ). getD (hexOf (bytesOf s)) k 0 ≡ getD s k 0) (sym f) (first-back (i / 2) (omega arith))
+      go (isF e) = let z = eqb-false (i % 2) 0 e in let f : i ≡ 2 * (i / 2) + 1 = omega arith in subst
+          (λ (k : ℕ). getD (hexOf (bytesOf s)) k 0 ≡ getD s k 0) (sym f) (second-back (i / 2) (omega arith))
 
   pub hexOf-bytesOf : hexOf (bytesOf s) ≡ s
   hexOf-bytesOf =
@@ -151,7 +173,8 @@ pub decode-hexOf : (b : List ℕ) (room : ℕ) → all.Bytes b → length b ≤ 
 decode-hexOf b room w h =
     let n = length-hexOf b in
     let z : length (hexOf b) / 2 ≡ length b = omega arith in
-    let good : length (hexOf b) ≤ place isBad (hexOf b) = place-none isBad 0 (hexOf b) (λ i l. lt-leb 16 _ (digit-small b w i (omega arith))) in
+    let good : length (hexOf b) ≤ place isBad (hexOf b) = place-none isBad 0 (hexOf b)
+    (λ i l. lt-leb 16 _ (digit-small b w i (omega arith))) in
     sym (decode-bytes (hexOf b) room good (λ e. omega arith) (omega arith)) ∙ ap Bytes z
   where
     digit-small : (b : List ℕ) → all.Bytes b → (i : ℕ) → i < 2 * length b → valueOf (getD (hexOf b) i 0) < 16

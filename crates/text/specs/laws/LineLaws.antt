@@ -21,14 +21,16 @@ pub begins-short : (s w : List ℕ) → length s < length w → begins s w ≡ f
 unfolding begins
 begins-short s [] h = absurd (omega arith)
 begins-short [] (x ∷ w) h = refl
-begins-short (c ∷ s) (x ∷ w) h = pick-ind (λ (b : Bool). b ≡ false) (eqb c x) (λ e. begins-short s w (omega arith)) (λ e. refl)
+begins-short (c ∷ s) (x ∷ w) h = pick-ind (λ (b : Bool). b ≡ false) (eqb c x) (λ e. begins-short s w (omega arith))
+    (λ e. refl)
 
 pub begins-long : (s w : List ℕ) → begins s w ≡ true → length w ≤ length s
 unfolding begins
 begins-long s [] h = omega arith
 begins-long [] (x ∷ w) h = absurd (let z : _≡_ {A = ℕ} 0 1 = cc in omega arith)
 begins-long (c ∷ s) (x ∷ w) h =
-    pick-ind (λ (b : Bool). b ≡ true → suc (length w) ≤ suc (length s)) (eqb c x) (λ e g. let z = begins-long s w g in omega arith)
+    pick-ind (λ (b : Bool). b ≡ true → suc (length w) ≤ suc (length s)) (eqb c x) (λ e g. let z = begins-long s w g in
+    omega arith)
     (λ e g. absurd (let z : _≡_ {A = ℕ} 0 1 = cc in omega arith)) h
 
 pub begins-is : (s w : List ℕ) → begins s w ≡ true → s ≡ w ++ drop (length w) s

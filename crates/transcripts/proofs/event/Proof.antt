@@ -9,22 +9,26 @@ use Rattle.transcripts.proofs.event.Tie as tie
 slice-aggregate-on-reply : tie.Need-slice-aggregate-on-reply
 slice-aggregate-on-reply c =
     let k = c .before .before .before .before in
-    sym (length-take-le (k .at-most .result) (k .before .before .before .before .before .args .answer .now) (omega arith))
+    sym (length-take-le (k .at-most .result) (k .before .before .before .before .before .args .answer .now)
+    (omega arith))
 
 slice-aggregate-on-reply-2 : tie.Need-slice-aggregate-on-reply-2
 slice-aggregate-on-reply-2 c =
     let k = c .before .before .before .before in
-    sym (length-take-le (k .at-most2 .result) (k .before .before .before .before .before .before .args .request .now) (omega arith))
+    sym (length-take-le (k .at-most2 .result) (k .before .before .before .before .before .before .args .request .now)
+    (omega arith))
 
 slice-aggregate-on-call : tie.Need-slice-aggregate-on-call
 slice-aggregate-on-call c =
     let k = c .before .before .before .before in
-    sym (length-take-le (k .at-most .result) (k .before .before .before .before .before .args .answer .now) (omega arith))
+    sym (length-take-le (k .at-most .result) (k .before .before .before .before .before .args .answer .now)
+    (omega arith))
 
 slice-aggregate-on-call-2 : tie.Need-slice-aggregate-on-call-2
 slice-aggregate-on-call-2 c =
     let k = c .before .before .before .before in
-    sym (length-take-le (k .at-most2 .result) (k .before .before .before .before .before .before .args .request .now) (omega arith))
+    sym (length-take-le (k .at-most2 .result) (k .before .before .before .before .before .before .args .request .now)
+    (omega arith))
 
 pub event-spec : {M : Type 1} → statement M
 event-spec =

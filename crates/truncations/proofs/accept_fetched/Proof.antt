@@ -3,7 +3,7 @@ use native.Mathlib.Omega.{arith}
 use mathlib.Core.Path.{refl, ap}
 use Rattle.guard_state.specs.declared.Guard.{Guard}
 use Rattle.guard_state.specs.laws.Ranges.{in-range}
-use Rattle.changes.specs.laws.FetchedLaws.{judged-stops, judged-stores}
+use Rattle.page_changes.specs.laws.FetchedLaws.{judged-stops, judged-stores}
 use Rattle.truncations.specs.laws.RepliedLaws.{fetch-waits, page-sending, page-room}
 use borrow.Author.Needs.{needs}
 use Rattle.truncations.proofs.accept_fetched.Statement.{statement}
@@ -18,7 +18,8 @@ returns c =
     let l = j .before .before in
     let b = l .before .before .before .before .before in
     let a = b .args in (
-      λ d s h. judged-stops d (a .m .now) _ h (omega (arith, b .pre .0), omega (arith, b .pre .0)) (fetch-waits d (a .m .now) (b .pre .0)) _ (l .load .ensures) _ (a .reply .now)
+      λ d s w h. judged-stops d (a .m .now) _ h (omega (arith, b .pre .0), omega (arith, b .pre .0))
+          (fetch-waits d (a .m .now) (b .pre .0)) _ (l .load .ensures) _ (a .reply .now)
           (j .judge-page .ensures .0) s (omega (arith, c .if1 .taken)) (a .request .now),
       refl,
     )
@@ -26,8 +27,16 @@ returns c =
 returns-2 : tie.Need-returns-2
 returns-2 c =
     let l = c .before .before .before .before .before in
-    let b = l .before .before .before .before .before in
-    (λ d s h. absurd (omega (arith, page-room d (b .args .m .now) h (b .pre .0), ap (λ (x : Guard). x .digests) (l .load .ensures), c .if2 .taken)), refl)
+    let b = l .before .before .before .before .before in (
+      λ d s w h. absurd (omega (
+        arith,
+        page-room d (b .args .m .now) h (b .pre .0),
+        ap (λ (x : Guard). x .digests)
+            (l .load .ensures),
+        c .if2 .taken,
+      )),
+      refl,
+    )
 
 store-page-requires : tie.Need-store-page-requires
 store-page-requires c κs =
@@ -51,12 +60,15 @@ returns-3 c =
     let l = j .before .before in
     let b = l .before .before .before .before .before in
     let a = b .args in (
-      λ d s h. judged-stores d (a .m .now) _ h (omega (arith, b .pre .0), omega (arith, b .pre .0)) (fetch-waits d (a .m .now) (b .pre .0)) _ (l .load .ensures) _ (a .reply .now)
-          (j .judge-page .ensures .0) s (e .if1 .left) _ _ (a .request .now) _ (k .store-page .ensures .0 d s (page-sending d (a .m .now) h (b .pre .0))),
+      λ d s w h. judged-stores d (a .m .now) _ h (omega (arith, b .pre .0), omega (arith, b .pre .0))
+          (fetch-waits d (a .m .now) (b .pre .0)) _ (l .load .ensures) _ (a .reply .now)
+          (j .judge-page .ensures .0) s (e .if1 .left) _ _ (a .request .now) _
+          (k .store-page .ensures .0 d s (page-sending d (a .m .now) h (b .pre .0))),
       omega arith,
     )
 
 pub accept-fetched-spec : {M : Type 1} → statement M
 accept-fetched-spec =
     tie.close
-    (tie.spec (λ c κs. search needs) judge-page-requires (λ c. search needs) returns (λ c. search needs) returns-2 store-page-requires (λ c. search needs) (λ c. search needs) returns-3)
+    (tie.spec (λ c κs. search needs) judge-page-requires (λ c. search needs) returns (λ c. search needs) returns-2
+    store-page-requires (λ c. search needs) (λ c. search needs) returns-3)

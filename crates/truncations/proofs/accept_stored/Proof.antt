@@ -1,7 +1,6 @@
 -- `truncations::accept_stored` meets its contract. Assumes nothing.
 use native.Mathlib.Omega.{arith}
 use mathlib.Core.Path.{refl, sym, _∙_}
-use Rattle.filesystem.specs.Tables.{PAGE-BYTES}
 use Rattle.replies.specs.laws.JudgedLaws.{storing-reason}
 use Rattle.replies.specs.laws.TakenLaws.{answer-stops}
 use Rattle.guard_state.specs.State.{stateOf}
@@ -15,8 +14,10 @@ returns c =
     let j = c .before in
     let b = j .before .before .before .before in
     let a = b .args in (
-      λ d w h. answer-stops d w (stateOf d (a .m .now)) (a .reply .now) _ (store-waits d (a .m .now) (b .pre .0)) _ _ (a .request .now)
-          (j .judge-status .ensures ∙ sym (storing-reason (stateOf d (a .m .now) .skeleton .tables) (a .reply .now) _ _ _ _)) (omega (arith, c .if1 .taken)) refl,
+      λ d sha w h. answer-stops d w (stateOf d (a .m .now)) (a .reply .now) _ (store-waits d (a .m .now) (b .pre .0)) _
+          _ (a .request .now)
+          (j .judge-status .ensures ∙ sym (storing-reason (stateOf d (a .m .now) .skeleton .tables) (a .reply .now) _ _
+          _ _)) (omega (arith, c .if1 .taken)) refl,
       refl,
     )
 
@@ -32,7 +33,8 @@ returns-2 c =
     let j = i .before in
     let b = j .before .before .before .before in
     let a = b .args in (
-      λ d w h. stored-cuts d (a .m .now) h (b .pre .0) w (a .reply .now) _ _ (a .request .now) _ (sym (i .if1 .left) ∙ j .judge-status .ensures)
+      λ d sha w h. stored-cuts d (a .m .now) h (b .pre .0) w (a .reply .now) _ _ (a .request .now) _ (sym (i .if1 .left)
+          ∙ j .judge-status .ensures)
           (k .ask-cut .ensures .0 d (stored-within d (a .m .now) h (b .pre .0))),
       omega arith,
     )
@@ -40,4 +42,5 @@ returns-2 c =
 pub accept-stored-spec : {M : Type 1} → statement M
 accept-stored-spec =
     tie.close
-    (tie.spec (λ c. search needs) (λ c κs. search needs) returns ask-cut-requires (λ c. search needs) (λ c. search needs) returns-2)
+    (tie.spec (λ c. search needs) (λ c κs. search needs) returns ask-cut-requires (λ c. search needs)
+    (λ c. search needs) returns-2)

@@ -5,7 +5,7 @@ use Rattle.rules.specs.Calls.{truncate}
 use Rattle.handle_calls.specs.laws.HandledLaws.{judged-at}
 use Rattle.guard_state.specs.State.{stateOf}
 use Rattle.guard_state.specs.laws.LoadedLaws.{counts-fit, tables-loaded}
-use Rattle.changes.specs.laws.BegunLaws.{call-refused, call-passed}
+use Rattle.page_changes.specs.laws.BegunLaws.{call-refused, call-passed}
 use borrow.Author.Needs.{needs}
 use Rattle.truncations.proofs.begin_truncate.Statement.{statement}
 use Rattle.truncations.proofs.begin_truncate.Tie as tie
@@ -34,10 +34,11 @@ returns c =
     let j = v .before .before in
     let l = j .before .before in
     let a = l .before .before .before .before .args in (
-      λ d h.
+      λ d sha w h.
           call-passed d (stateOf d (a .m .now)) (a .handle) (truncate (a .handle) (a .size)) _
-          (judged-at _ (j .judge-truncate .ensures) _ (tables-loaded (a .m .now) _ (l .load .ensures) d) (d .width) (h .holds .valid .tables .nodes-valid .sound))
-          _ _ (v .j .given .1) _ _ (a .request .now) _ (s .truncate-at .ensures .0 d h (a .handle)),
+          (judged-at _ (j .judge-truncate .ensures) _ (tables-loaded (a .m .now) _ (l .load .ensures) d) (d .width)
+          (h .holds .valid .tables .nodes-valid .sound))
+          _ _ (v .j .given .1) _ _ (a .request .now) _ (s .truncate-at .ensures .0 d sha h (a .handle)),
       omega arith,
     )
 
@@ -47,9 +48,10 @@ returns-2 c =
     let j = v .before .before in
     let l = j .before .before in
     let a = l .before .before .before .before .args in (
-      λ d h.
+      λ d sha w h.
           call-refused d (stateOf d (a .m .now)) (a .handle) (truncate (a .handle) (a .size)) _
-          (judged-at _ (j .judge-truncate .ensures) _ (tables-loaded (a .m .now) _ (l .load .ensures) d) (d .width) (h .holds .valid .tables .nodes-valid .sound))
+          (judged-at _ (j .judge-truncate .ensures) _ (tables-loaded (a .m .now) _ (l .load .ensures) d) (d .width)
+          (h .holds .valid .tables .nodes-valid .sound))
           _ (a .m .now) (a .request .now) (v .j2 .given .1) refl,
       refl,
     )
@@ -57,4 +59,5 @@ returns-2 c =
 pub begin-truncate-spec : {M : Type 1} → statement M
 begin-truncate-spec =
     tie.close
-    (tie.spec (λ c κs. search needs) judge-truncate-requires (λ c. search needs) truncate-at-requires (λ c. search needs) (λ c. search needs) (λ c. search needs) returns (λ c. search needs) returns-2)
+    (tie.spec (λ c κs. search needs) judge-truncate-requires (λ c. search needs) truncate-at-requires
+    (λ c. search needs) (λ c. search needs) (λ c. search needs) returns (λ c. search needs) returns-2)

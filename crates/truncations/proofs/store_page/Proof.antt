@@ -10,7 +10,11 @@ node-size-requires : tie.Need-node-size-requires
 node-size-requires c κs = let l = c .before in (in-range _ _ (l .load .ensures) .node, omega arith)
 
 open-descriptor-requires : tie.Need-open-descriptor-requires
-open-descriptor-requires c κs = let l = c .before .before .before in (in-range _ _ (l .load .ensures) .opened, omega arith)
+open-descriptor-requires c κs = let l = c .before .before .before in (
+  in-range _ _ (l .load .ensures) .opened,
+  omega
+      arith,
+)
 
 write-store-cut-requires : tie.Need-write-store-cut-requires
 write-store-cut-requires c κs =
@@ -22,8 +26,15 @@ write-store-cut-requires c κs =
 send-store-requires : tie.Need-send-store-requires
 send-store-requires c κs =
     let l = c .before .before .before .before .before .before .before .before .before .before in
-    let b = l .before .before .before .before .before in
-    ((omega (arith, b .pre .0 .0), b .pre .0 .1), (omega arith, omega arith), b .pre .1, in-range _ _ (l .load .ensures) .page, omega arith, omega (arith, b .pre .4))
+    let b = l .before .before .before .before .before in (
+      (omega (arith, b .pre .0 .0), b .pre .0 .1),
+      (omega arith, omega arith),
+      b .pre .1,
+      in-range _ _
+          (l .load .ensures) .page,
+      omega arith,
+      omega (arith, b .pre .4),
+    )
 
 returns : tie.Need-returns
 returns c =
@@ -34,7 +45,8 @@ returns c =
     let l = z .before .before in
     let b = l .before .before .before .before .before in
     let a = b .args in (
-      λ q e h. page-sends q (a .m .now) _ (l .load .ensures) _ _ (a .fetched .now) _ _ (a .request .now) _ (b .pre .0) h (d .open-descriptor .ensures) (z .node-size .ensures)
+      λ q e h. page-sends q (a .m .now) _ (l .load .ensures) _ _ (a .fetched .now) _ _ (a .request .now) _ (b .pre .0) h
+          (d .open-descriptor .ensures) (z .node-size .ensures)
           (w .write-store-cut .ensures .0) (b .pre .4) (s .send-store .ensures .1 .0) (s .send-store .ensures .0 q e),
       omega arith,
     )
@@ -42,4 +54,5 @@ returns c =
 pub store-page-spec : {M : Type 1} → statement M
 store-page-spec =
     tie.close
-    (tie.spec (λ c κs. search needs) node-size-requires open-descriptor-requires write-store-cut-requires send-store-requires (λ c. search needs) (λ c. search needs) returns)
+    (tie.spec (λ c κs. search needs) node-size-requires open-descriptor-requires write-store-cut-requires
+    send-store-requires (λ c. search needs) (λ c. search needs) returns)

@@ -24,6 +24,7 @@ use Rattle.rules.specs.FitLaws.{shrink-fits}
 use Rattle.machine.specs.Machine.{State, Result, pagesFrom, apply, guard as digestStore}
 use Rattle.machine.specs.Consistent.{Consistent}
 use Rattle.handle_calls.specs.Passed.{PassedAt}
+use Rattle.guard_state.specs.Calls.{SHRINK-FETCHING}
 use Rattle.guard_state.specs.declared.Guard.{Guard}
 use Rattle.guard_state.specs.State.{numbersOf, stateOf, gatheredNone}
 use Rattle.guard_state.specs.laws.LoadedLaws.{node-there}
@@ -34,7 +35,7 @@ use Rattle.outcomes.specs.declared.Outcome.{Outcome}
 use Rattle.outcomes.specs.declared.Outcome.the-variants.{Done}
 use Rattle.outcomes.specs.Sent.{Sends}
 use Rattle.outcomes.specs.laws.SentLaws.{finish-sends}
-use Rattle.changes.specs.laws.BegunLaws.{begun-pages, passed-open, passed-node}
+use Rattle.page_changes.specs.laws.BegunLaws.{begun-pages, passed-open, passed-node}
 use Rattle.truncations.specs.Shrinking.{Shrinking, shrinkIn}
 
 -- its handle is known, and its file is no shorter
@@ -59,19 +60,23 @@ module _ (c : Config) (m : List ℕ) (held : Consistent c (stateOf c m)) (handle
   move = callAction (stateOf c m .skeleton .tables) (c .width) (truncate handle size)
 
   open-there : opened < g .opens
-  open-there = passed-open c m handle (truncate handle size) opened node passed (passed-truncate t handle size (passed .checks) .0)
+  open-there = passed-open c m handle (truncate handle size) opened node passed
+      (passed-truncate t handle size (passed .checks) .0)
 
   node-known : node < g .nodes
-  node-known = passed-node c m handle (truncate handle size) opened node passed (passed-truncate t handle size (passed .checks) .0) held
+  node-known = passed-node c m handle (truncate handle size) opened node passed
+      (passed-truncate t handle size (passed .checks) .0) held
 
   pub node-low : node < NODES
   node-low = omega (arith, node-known, in-range g (memOf m .head) refl .nodes)
 
   module _ (z : ℕ) (sized : z ≡ nodeAt (memOf m .nodes) node .size) where
     size-at : z ≡ file t handle .size
-    size-at = sized ∙ ap (λ (n : Node). n .size) (node-there m c node node-known) ∙ ap (λ (j : ℕ). nodeAt (t .nodes) j .size) (sym (passed .file-place))
+    size-at = sized ∙ ap (λ (n : Node). n .size) (node-there m c node node-known)
+        ∙ ap (λ (j : ℕ). nodeAt (t .nodes) j .size) (sym (passed .file-place))
 
-    pub truncate-done : size ≡ z → (m′ q : List ℕ) → stateOf c m′ ≡ ends c s t (s .contents) → Sends c (apply c (digestStore c) s move) (Done 0 0) m′ q q
+    pub truncate-done : size ≡ z → (m′ q : List ℕ) → stateOf c m′ ≡ ends c s t (s .contents)
+        → Sends c (apply c (digestStore c) s move) (Done 0 0) m′ q q
     unfolding callAction
     truncate-done e m′ q f = finish-sends c s _ t 0 m′ q (pick-true _ _ _ (eq-eqb size _ (e ∙ size-at))) f
 
@@ -87,10 +92,12 @@ module _ (c : Config) (m : List ℕ) (held : Consistent c (stateOf c m)) (handle
 
       begins : move ≡ begin node opened (shrinking size)
       unfolding callAction
-      begins = pick-false _ _ _ (ne-eqb size _ (λ e. other (e ∙ sym size-at))) ∙ ap₂ (λ (i j : ℕ). begin i j (shrinking size)) (passed .file-place) (passed .open-place)
+      begins = pick-false _ _ _ (ne-eqb size _ (λ e. other (e ∙ sym size-at)))
+          ∙ ap₂ (λ (i j : ℕ). begin i j (shrinking size)) (passed .file-place) (passed .open-place)
 
       -- the memory m₁ has its numbers
-      module _ (m₁ : List ℕ) (numbers : numbersOf (memOf m₁ .head) ≡ shrinkNumbers (numbersOf (memOf m .head)) node opened size) where
+      module _ (m₁ : List ℕ) (numbers : numbersOf (memOf m₁ .head) ≡ shrinkNumbers (numbersOf (memOf m .head)) node
+          opened size) where
         abbrev g₁ : Guard
         g₁ = numbersOf (memOf m₁ .head)
 
@@ -99,17 +106,22 @@ module _ (c : Config) (m : List ℕ) (held : Consistent c (stateOf c m)) (handle
         begun-within = subst (λ (x : Guard). x .opened < x .opens) (sym numbers) open-there
 
         pub truncate-begins : (p : Pending) → stateOf c m₁ ≡ waits c s p gatheredNone → (x : Outcome) (m′ b b′ : List ℕ)
-            → Sends c (pagesFrom c (digestStore c) (stateOf c m₁) (g₁ .node) (g₁ .opened) (shrinkIn m₁) (g₁ .size / PAGE-BYTES)) x m′ b b′
+            → Sends c (pagesFrom c (digestStore c) (stateOf c m₁) (g₁ .node) (g₁ .opened) (shrinkIn m₁)
+            (g₁ .size / PAGE-BYTES)) x m′ b b′
             → Sends c (apply c (digestStore c) s move) x m′ b b′
         unfolding shrinkNumbers shrinkIn first pageAt
         truncate-begins p e x m′ b b′ =
             subst (λ (v : Result (digestStore c)). Sends c v x m′ b b′)
-            (ap (λ (j : Guard). pagesFrom c (digestStore c) (stateOf c m₁) (j .node) (j .opened) (shrinking (j .size)) (j .size / PAGE-BYTES)) numbers
-            ∙ ap (λ (y : State (digestStore c)). pagesFrom c (digestStore c) y node opened (shrinking size) (size / PAGE-BYTES)) e
+            (ap (λ (j : Guard). pagesFrom c (digestStore c) (stateOf c m₁) (j .node) (j .opened) (shrinking (j .size))
+            (j .size / PAGE-BYTES)) numbers
+            ∙ ap (λ (y : State (digestStore c)). pagesFrom c (digestStore c) y node opened (shrinking size)
+            (size / PAGE-BYTES)) e
             ∙ begun-pages c s p node opened (shrinking size)
             ∙ ap (apply c (digestStore c) s) (sym begins))
 
-pub shrink-call : (m m₁ : List ℕ) (k o z : ℕ) → numbersOf (memOf m₁ .head) ≡ shrinkNumbers (numbersOf (memOf m .head)) k o z
+pub shrink-call : (m m₁ : List ℕ) (k o z : ℕ) → numbersOf (memOf m₁ .head) ≡ shrinkNumbers (numbersOf (memOf m .head)) k
+    o z
     → Shrinking (numbersOf (memOf m₁ .head) .call)
 unfolding shrinkNumbers
-shrink-call m m₁ k o z e = let n : numbersOf (memOf m₁ .head) .call ≡ 11 = ap (λ (x : Guard). x .call) e in (omega arith, omega arith)
+shrink-call m m₁ k o z e = let n : numbersOf (memOf m₁ .head) .call ≡ SHRINK-FETCHING = ap (λ (x : Guard). x .call) e in
+    (omega arith, omega arith)

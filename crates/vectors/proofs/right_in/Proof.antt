@@ -15,5 +15,6 @@ abbrev μ-loop : tie.MeasureT-loop
 pub right-in-spec : {M : Type 1} → statement M
 right-in-spec =
     tie.close
-    (tie.spec Inv-loop μ-loop (λ c κs. search needs) (λ c. omega arith) (λ c κs. search needs) (λ c. omega arith) (λ c. omega arith) (λ c. omega arith)
+    (tie.spec Inv-loop μ-loop (λ c κs. search needs) (λ c. omega arith) (λ c κs. search needs) (λ c. omega arith)
+    (λ c. omega arith) (λ c. omega arith)
     (λ c κs. search needs) (λ c. search needs))

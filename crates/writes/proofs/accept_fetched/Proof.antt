@@ -3,7 +3,7 @@ use native.Mathlib.Omega.{arith}
 use mathlib.Core.Path.{refl, ap}
 use Rattle.guard_state.specs.declared.Guard.{Guard}
 use Rattle.guard_state.specs.laws.Ranges.{in-range}
-use Rattle.changes.specs.laws.FetchedLaws.{judged-stops}
+use Rattle.page_changes.specs.laws.FetchedLaws.{judged-stops}
 use Rattle.writes.specs.laws.RepliedLaws.{fetch-waits, page-sending, page-room, page-goes}
 use borrow.Author.Needs.{needs}
 use Rattle.writes.proofs.accept_fetched.Statement.{statement}
@@ -18,7 +18,8 @@ returns c =
     let l = j .before .before in
     let b = l .before .before .before .before .before in
     let a = b .args in (
-      λ d s h. judged-stops d (a .m .now) _ h (omega (arith, b .pre .0), omega (arith, b .pre .0)) (fetch-waits d (a .m .now) (b .pre .0)) _ (l .load .ensures) _ (a .reply .now)
+      λ d s w h. judged-stops d (a .m .now) _ h (omega (arith, b .pre .0), omega (arith, b .pre .0))
+          (fetch-waits d (a .m .now) (b .pre .0)) _ (l .load .ensures) _ (a .reply .now)
           (j .judge-page .ensures .0) s (omega (arith, c .if1 .taken)) (a .request .now),
       refl,
     )
@@ -26,8 +27,14 @@ returns c =
 returns-2 : tie.Need-returns-2
 returns-2 c =
     let l = c .before .before .before .before .before in
-    let b = l .before .before .before .before .before in
-    (λ d s h. absurd (omega (arith, page-room d (b .args .m .now) h _ (l .load .ensures) (b .pre .0) (omega arith), c .if2 .taken)), refl)
+    let b = l .before .before .before .before .before in (
+      λ d s w h. absurd (omega (
+        arith,
+        page-room d (b .args .m .now) h _ (l .load .ensures) (b .pre .0) (omega arith),
+        c .if2 .taken,
+      )),
+      refl,
+    )
 
 store-page-requires : tie.Need-store-page-requires
 store-page-requires c κs =
@@ -53,7 +60,8 @@ returns-3 c =
     let l = j .before .before in
     let b = l .before .before .before .before .before in
     let a = b .args in (
-      λ d s h. page-goes d (a .m .now) h _ (l .load .ensures) (b .pre .0) s _ (a .reply .now) (j .judge-page .ensures .0) (e .if1 .left) _ _ (a .request .now) _
+      λ d s w h. page-goes d (a .m .now) h _ (l .load .ensures) (b .pre .0) s _ (a .reply .now)
+          (j .judge-page .ensures .0) (e .if1 .left) _ _ (a .request .now) _
           (k .store-page .ensures .0 d s (page-sending d (a .m .now) h _ (l .load .ensures) (b .pre .0))),
       omega arith,
     )

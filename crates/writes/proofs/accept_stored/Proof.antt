@@ -1,7 +1,6 @@
 -- `writes::accept_stored` meets its contract. Assumes nothing.
 use native.Mathlib.Omega.{arith}
 use mathlib.Core.Path.{refl, sym, _∙_}
-use Rattle.filesystem.specs.Tables.{PAGE-BYTES}
 use Rattle.replies.specs.laws.JudgedLaws.{storing-reason}
 use Rattle.replies.specs.laws.TakenLaws.{answer-stops}
 use Rattle.guard_state.specs.State.{stateOf}
@@ -16,8 +15,10 @@ returns c =
     let j = c .before in
     let b = j .before .before .before .before in
     let a = b .args in (
-      λ d u w h. answer-stops d w (stateOf d (a .m .now)) (a .reply .now) _ (store-waits d (a .m .now) (b .pre .0)) _ _ (a .request .now)
-          (j .judge-status .ensures ∙ sym (storing-reason (stateOf d (a .m .now) .skeleton .tables) (a .reply .now) _ _ _ _))
+      λ d u w h. answer-stops d w (stateOf d (a .m .now)) (a .reply .now) _ (store-waits d (a .m .now) (b .pre .0)) _ _
+          (a .request .now)
+          (j .judge-status .ensures ∙ sym (storing-reason (stateOf d (a .m .now) .skeleton .tables) (a .reply .now) _ _
+          _ _))
           (omega (arith, c .if1 .taken)) refl,
       refl,
     )
@@ -28,14 +29,25 @@ add-page c = record { fits = omega (arith, in-range _ _ (c .before .load .ensure
 returns-2 : tie.Need-returns-2
 returns-2 c =
     let l = c .before .before in
-    let b = l .before .before .before .before .before .before .before in
-    (λ d u w h. absurd (omega (arith, next-most d (b .args .m .now) h _ (l .load .ensures) (b .pre .0) _ refl, c .if2 .taken)), refl)
+    let b = l .before .before .before .before .before .before .before in (
+      λ d u w h. absurd (omega (
+        arith,
+        next-most d (b .args .m .now) h _ (l .load .ensures) (b .pre .0) _ refl,
+        c .if2 .taken,
+      )),
+      refl,
+    )
 
 carry-on-requires : tie.Need-carry-on-requires
 carry-on-requires c κs =
     let i = c .before .before in
-    let b = i .before .before .before .before .before .before .before .before .before in
-    ((omega (arith, b .pre .0), omega (arith, b .pre .0)), omega (arith, i .if2 .left), omega arith, omega (arith, b .pre .2))
+    let b = i .before .before .before .before .before .before .before .before .before in (
+      (omega (arith, b .pre .0), omega (arith, b .pre .0)),
+      omega (arith, i .if2 .left),
+      omega arith,
+      omega
+          (arith, b .pre .2),
+    )
 
 returns-3 : tie.Need-returns-3
 returns-3 c =
@@ -45,7 +57,8 @@ returns-3 c =
     let j = i .before in
     let b = j .before .before .before .before in
     let a = b .args in (
-      λ d u w h. stored-next d (a .m .now) h _ (l .load .ensures) (b .pre .0) _ refl w (a .reply .now) _ _ (a .request .now) _
+      λ d u w h. stored-next d (a .m .now) h _ (l .load .ensures) (b .pre .0) _ refl w (a .reply .now) _ _
+          (a .request .now) _
           (sym (i .if1 .left) ∙ j .judge-status .ensures)
           (k .carry-on .ensures .0 d u (next-sending d (a .m .now) h _ (l .load .ensures) (b .pre .0) _ refl)),
       omega arith,

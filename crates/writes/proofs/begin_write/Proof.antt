@@ -5,7 +5,7 @@ use Rattle.rules.specs.Calls.{write}
 use Rattle.handle_calls.specs.laws.HandledLaws.{judged-at}
 use Rattle.guard_state.specs.State.{stateOf}
 use Rattle.guard_state.specs.laws.LoadedLaws.{counts-fit, tables-loaded}
-use Rattle.changes.specs.laws.BegunLaws.{call-refused, call-passed}
+use Rattle.page_changes.specs.laws.BegunLaws.{call-refused, call-passed}
 use borrow.Author.Needs.{needs}
 use Rattle.writes.proofs.begin_write.Statement.{statement}
 use Rattle.writes.proofs.begin_write.Tie as tie
@@ -34,9 +34,10 @@ returns c =
     let j = v .before .before in
     let l = j .before .before in
     let a = l .before .before .before .before .before .args in (
-      λ d u h.
+      λ d u w h.
           call-passed d (stateOf d (a .m .now)) (a .handle) (write (a .handle) (a .bytes .now)) _
-          (judged-at _ (j .judge-write .ensures) _ (tables-loaded (a .m .now) _ (l .load .ensures) d) (d .width) (h .holds .valid .tables .nodes-valid .sound))
+          (judged-at _ (j .judge-write .ensures) _ (tables-loaded (a .m .now) _ (l .load .ensures) d) (d .width)
+          (h .holds .valid .tables .nodes-valid .sound))
           _ _ (v .j .given .1) _ _ (a .request .now) _ (s .write-at .ensures .0 d u h (a .handle)),
       omega arith,
     )
@@ -47,9 +48,10 @@ returns-2 c =
     let j = v .before .before in
     let l = j .before .before in
     let a = l .before .before .before .before .before .args in (
-      λ d u h.
+      λ d u w h.
           call-refused d (stateOf d (a .m .now)) (a .handle) (write (a .handle) (a .bytes .now)) _
-          (judged-at _ (j .judge-write .ensures) _ (tables-loaded (a .m .now) _ (l .load .ensures) d) (d .width) (h .holds .valid .tables .nodes-valid .sound))
+          (judged-at _ (j .judge-write .ensures) _ (tables-loaded (a .m .now) _ (l .load .ensures) d) (d .width)
+          (h .holds .valid .tables .nodes-valid .sound))
           _ (a .m .now) (a .request .now) (v .j2 .given .1) refl,
       refl,
     )
@@ -57,5 +59,6 @@ returns-2 c =
 pub begin-write-spec : {M : Type 1} → statement M
 begin-write-spec =
     tie.close
-    (tie.spec (λ c κs. search needs) judge-write-requires (λ c. search needs) write-at-requires (λ c. search needs) (λ c. search needs) (λ c. search needs)
+    (tie.spec (λ c κs. search needs) judge-write-requires (λ c. search needs) write-at-requires (λ c. search needs)
+    (λ c. search needs) (λ c. search needs)
     returns (λ c. search needs) returns-2)

@@ -33,8 +33,16 @@ returns-2 c =
     let a = l .before .before .before .before .args in
     let p = ap (λ (x : Guard). x .position) (l .load .ensures) in
     let n = ap (λ (x : Guard). x .bytes) (l .load .ensures) in
-    let k = ap (λ (x : Guard). x .digests) (l .load .ensures) in
-    (λ d u h. absurd (omega (arith, c .if2 .taken, k, few-sent d (a .m .now) (omega arith) (a .page) h (omega (arith, i .if1 .left, p, n)))), refl)
+    let k = ap (λ (x : Guard). x .digests) (l .load .ensures) in (
+      λ d u h. absurd (omega (
+        arith,
+        c .if2 .taken,
+        k,
+        few-sent d (a .m .now) (omega arith) (a .page) h
+            (omega (arith, i .if1 .left, p, n)),
+      )),
+      refl,
+    )
 
 on-page-requires : tie.Need-on-page-requires
 on-page-requires c κs =
@@ -53,12 +61,14 @@ returns-3 c =
     let a = b .args in
     let p = ap (λ (x : Guard). x .position) (l .load .ensures) in
     let n = ap (λ (x : Guard). x .bytes) (l .load .ensures) in (
-      λ d u h. from-page d (a .m .now) (omega arith) (a .page) h (omega (arith, i .if1 .left, p, n)) _ _ _ _ (v .on-page .ensures .0 d u h),
+      λ d u h. from-page d (a .m .now) (omega arith) (a .page) h (omega (arith, i .if1 .left, p, n)) _ _ _ _
+          (v .on-page .ensures .0 d u h),
       omega arith,
     )
 
 pub carry-on-spec : {M : Type 1} → statement M
 carry-on-spec =
     tie.close
-    (tie.spec (λ c κs. search needs) add-if1 (λ c. search needs) (λ c κs. search needs) (λ c. search needs) returns (λ c. search needs)
+    (tie.spec (λ c κs. search needs) add-if1 (λ c. search needs) (λ c κs. search needs) (λ c. search needs) returns
+    (λ c. search needs)
     returns-2 on-page-requires (λ c. search needs) (λ c. search needs) returns-3)

@@ -19,7 +19,10 @@ node-size-requires : tie.Need-node-size-requires
 node-size-requires c κs = (in-range _ _ (c .before .before .load .ensures) .node, omega arith)
 
 end-change-requires : tie.Need-end-change-requires
-end-change-requires c κs = (in-range _ _ (c .before .before .before .before .before .before .load .ensures) .opened, omega arith)
+end-change-requires c κs = (
+  in-range _ _ (c .before .before .before .before .before .before .load .ensures) .opened,
+  omega arith,
+)
 
 -- a size, by the size that was read
 sized : {a b x : ℕ} (y : ℕ) → a ≡ max x y → x ≡ b → a ≡ max b y
@@ -36,9 +39,11 @@ returns c =
     let e = l .load .ensures in (
       λ d i h behind q.
           finish-loaded d (a .m .now) (omega arith) i h behind _ e _ _ q
-          (v .end-change .ensures .0 d (writeIn (a .m .now)) (write-ended d (a .m .now) (omega arith) i h behind _ e _ _ (b .pre .0) refl (sized _ (z .larger .ensures) (n .node-size .ensures))) q),
+          (v .end-change .ensures .0 d (writeIn (a .m .now)) (write-ended d (a .m .now) (omega arith) i h behind _ e _ _
+          (b .pre .0) refl (sized _ (z .larger .ensures) (n .node-size .ensures))) q),
       omega arith,
     )
 
 pub end-write-spec : {M : Type 1} → statement M
-end-write-spec = tie.close (tie.spec (λ c κs. search needs) add-end cast-end node-size-requires (λ c κs. search needs) end-change-requires (λ c. search needs) returns)
+end-write-spec = tie.close (tie.spec (λ c κs. search needs) add-end cast-end node-size-requires (λ c κs. search needs)
+    end-change-requires (λ c. search needs) returns)

@@ -6,10 +6,9 @@ use lib.ListN.{take}
 use Rattle.memory.specs.Layout.{memOf}
 use Rattle.guard_state.specs.declared.Guard.{Guard}
 use Rattle.guard_state.specs.State.{numbersOf}
-use Rattle.guard_state.specs.laws.Ranges.{in-range}
-use Rattle.changes.specs.laws.SendingLaws.{open-within}
+use Rattle.guard_state.specs.laws.Ranges.{in-range, bytes-length}
+use Rattle.page_changes.specs.laws.SendingLaws.{open-within}
 use Rattle.writes.specs.Writing.{writeIn}
-use Rattle.writes.specs.laws.StoreLaws.{bytes-length}
 use Rattle.writes.specs.laws.PageLaws.{page-fetched, page-stored}
 use borrow.Author.Needs.{needs}
 use Rattle.writes.proofs.on_page.Statement.{statement}
@@ -34,7 +33,8 @@ returns c =
       λ d u h.
           page-fetched d (a .m .now) (omega arith) (a .page) h _ e _ _ (n .node-size .ensures)
           (f .is-fetched .ensures (take (numbersOf (memOf (a .m .now) .head) .bytes) (memOf (a .m .now) .staged))
-          (ap (λ j. l .load .result .position + j) (ap (λ (x : Guard). x .bytes) e ∙ sym (bytes-length d (a .m .now) (omega arith))))) _ _ _ _
+          (ap (λ j. l .load .result .position + j) (ap (λ (x : Guard). x .bytes) e
+          ∙ sym (bytes-length (a .m .now) (omega arith))))) _ _ _ _
           (i .if1 .taken) (v .ask-page .ensures .0 d (open-within d (a .m .now) (writeIn (a .m .now)) (a .page) h)),
       omega arith,
     )
@@ -52,7 +52,8 @@ returns-2 c =
       λ d u h.
           page-stored d (a .m .now) (omega arith) (a .page) h _ e _ _ (n .node-size .ensures)
           (f .is-fetched .ensures (take (numbersOf (memOf (a .m .now) .head) .bytes) (memOf (a .m .now) .staged))
-          (ap (λ j. l .load .result .position + j) (ap (λ (x : Guard). x .bytes) e ∙ sym (bytes-length d (a .m .now) (omega arith))))) _ _ _ _
+          (ap (λ j. l .load .result .position + j) (ap (λ (x : Guard). x .bytes) e
+          ∙ sym (bytes-length (a .m .now) (omega arith))))) _ _ _ _
           (i .if1 .left) (v .store-page .ensures .0 d u h),
       omega arith,
     )
@@ -60,5 +61,7 @@ returns-2 c =
 pub on-page-spec : {M : Type 1} → statement M
 on-page-spec =
     tie.close
-    (tie.spec (λ c κs. search needs) add-end node-size-requires (λ c. search needs) (λ c κs. search needs) (λ c κs. search needs) (λ c. search needs)
-    (λ c. search needs) returns (λ c. search needs) (λ c κs. search needs) (λ c. search needs) (λ c. search needs) returns-2)
+    (tie.spec (λ c κs. search needs) add-end node-size-requires (λ c. search needs) (λ c κs. search needs)
+    (λ c κs. search needs) (λ c. search needs)
+    (λ c. search needs) returns (λ c. search needs) (λ c κs. search needs) (λ c. search needs) (λ c. search needs)
+    returns-2)

@@ -20,10 +20,13 @@ node-size-requires : tie.Need-node-size-requires
 node-size-requires c κs = (in-range _ _ (c .before .before .before .load .ensures) .node, omega arith)
 
 open-descriptor-requires : tie.Need-open-descriptor-requires
-open-descriptor-requires c κs = (in-range _ _ (c .before .before .before .before .before .before .load .ensures) .opened, omega arith)
+open-descriptor-requires c κs =
+    (in-range _ _ (c .before .before .before .before .before .before .load .ensures) .opened, omega arith)
 
 staged-requires : tie.Need-staged-requires
-staged-requires c κs = let r = in-range _ _ (c .before .before .before .before .before .before .before .before .load .ensures) in (omega (arith, r .bytes), omega arith)
+staged-requires c κs = let r = in-range _ _
+    (c .before .before .before .before .before .before .before .before .load .ensures) in
+    (omega (arith, r .bytes), omega arith)
 
 write-store-requires : tie.Need-write-store-requires
 write-store-requires c κs =
@@ -48,18 +51,23 @@ returns c =
     let at = ap (λ (g : Guard). g .position) e in
     let size = ap (λ (g : Guard). g .bytes) e in (
       λ q u h.
-          page-goes-out q (a .m .now) (omega arith) (a .page) h (a .fetched .now) _ (a .request .now) _ _ _ _ _ _ (b .pre .0) at
+          page-goes-out q (a .m .now) (omega arith) (a .page) h (a .fetched .now) _ (a .request .now) _ _ _ _ _ _
+          (b .pre .0) at
           (t .staged .ensures .0 ∙ ap (λ (i : ℕ). take i (memOf (a .m .now) .staged)) size)
-          (d .open-descriptor .ensures ∙ ap (λ (g : Guard). openAt (memOf (a .m .now) .opens) (g .opened) .descriptor) e)
+          (d .open-descriptor .ensures ∙ ap (λ (g : Guard). openAt (memOf (a .m .now) .opens) (g .opened) .descriptor)
+          e)
           (z .larger .ensures
           ∙ ap₂ max (n .node-size .ensures ∙ ap (λ (g : Guard). nodeAt (memOf (a .m .now) .nodes) (g .node) .size) e)
           (y .smaller .ensures ∙ ap₂ (λ (i j : ℕ). min (i + j) (a .page * PAGE-BYTES + PAGE-BYTES)) at size))
-          (w .write-store .ensures .0) (omega (arith, b .pre .5)) (v .send-store .ensures .1 .0) (v .send-store .ensures .0 q u),
+          (w .write-store .ensures .0) (omega (arith, b .pre .5)) (v .send-store .ensures .1 .0)
+          (v .send-store .ensures .0 q u),
       omega arith,
     )
 
 pub store-page-spec : {M : Type 1} → statement M
 store-page-spec =
     tie.close
-    (tie.spec (λ c κs. search needs) add-end (λ c. search needs) (λ c. search needs) (λ c κs. search needs) node-size-requires (λ c. search needs)
-    (λ c κs. search needs) open-descriptor-requires staged-requires write-store-requires (λ c κs. search needs) (λ c. search needs) (λ c. search needs) returns)
+    (tie.spec (λ c κs. search needs) add-end (λ c. search needs) (λ c. search needs) (λ c κs. search needs)
+    node-size-requires (λ c. search needs)
+    (λ c κs. search needs) open-descriptor-requires staged-requires write-store-requires (λ c κs. search needs)
+    (λ c. search needs) (λ c. search needs) returns)

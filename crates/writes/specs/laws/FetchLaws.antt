@@ -17,7 +17,8 @@ module _ (position size page : ℕ) (d : List ℕ) where
   fetches-new h = rw (le-ltb (page * PAGE-BYTES) size h)
 
   -- a byte before the write stays
-  pub fetches-before : page * PAGE-BYTES < size → page * PAGE-BYTES < position → fetches (writing position d) size page ≡ true
+  pub fetches-before : page * PAGE-BYTES < size → page * PAGE-BYTES < position
+      → fetches (writing position d) size page ≡ true
   unfolding fetches
   fetches-before h g = rw (lt-ltb (page * PAGE-BYTES) size h, lt-ltb (page * PAGE-BYTES) position g)
 
@@ -26,6 +27,8 @@ module _ (position size page : ℕ) (d : List ℕ) where
       → fetches (writing position d) size page ≡ ltb end (min size (page * PAGE-BYTES + PAGE-BYTES))
   unfolding fetches
   fetches-behind end h g e =
-      ap (λ b. b && (ltb (page * PAGE-BYTES) position || ltb (position + length d) (min size (page * PAGE-BYTES + PAGE-BYTES)))) (lt-ltb (page * PAGE-BYTES) size h)
-      ∙ ap (λ b. b || ltb (position + length d) (min size (page * PAGE-BYTES + PAGE-BYTES))) (le-ltb (page * PAGE-BYTES) position g)
+      ap (λ b. b && (ltb (page * PAGE-BYTES) position || ltb (position + length d)
+      (min size (page * PAGE-BYTES + PAGE-BYTES)))) (lt-ltb (page * PAGE-BYTES) size h)
+      ∙ ap (λ b. b || ltb (position + length d) (min size (page * PAGE-BYTES + PAGE-BYTES)))
+      (le-ltb (page * PAGE-BYTES) position g)
       ∙ ap (λ (i : ℕ). ltb i (min size (page * PAGE-BYTES + PAGE-BYTES))) (sym e)

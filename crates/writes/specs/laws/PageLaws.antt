@@ -1,4 +1,5 @@
--- The pending write from page to page, as the machine has it: a page is fetched or goes out, and behind the last one the write is done.
+-- The pending write from page to page, as the machine has it: a page is fetched or goes out, and behind the last one
+-- the write is done.
 -- Assumes nothing.
 use mathlib.Core.Path.{_≡_, refl, ap, ap₂, sym, _∙_, subst}
 use mathlib.Core.Bool.{Bool, true, false}
@@ -13,19 +14,19 @@ use Rattle.memory.specs.Layout.{memOf, memorySize, newDigests}
 use Rattle.rules.specs.Pages.{pageAt, writing, first, last, fetches, cuts, sizeAfter, cursorAfter, numberOf}
 use Rattle.rules.specs.Requests.{fetchRequest}
 use Rattle.rules.specs.Skeleton.{Config}
-use Rattle.machine.specs.Machine.{State, Result, descriptorAt, asking, askStore, onPage, pagesFrom, pagesStored, finishChange, guard as digestStore}
+use Rattle.machine.specs.Machine.{State, Result, descriptorAt, asking, askStore, onPage, pagesFrom, pagesStored}
+use Rattle.machine.specs.Machine.{finishChange, guard as digestStore}
 use Rattle.guard_state.specs.declared.Guard.{Guard}
 use Rattle.guard_state.specs.State.{numbersOf, pendingIn, pendings, stagedBytes, stateOf}
 use Rattle.guard_state.specs.Onward.{goesOn}
 use Rattle.guard_state.specs.laws.LoadedLaws.{node-there}
-use Rattle.guard_state.specs.laws.Ranges.{in-range}
+use Rattle.guard_state.specs.laws.Ranges.{in-range, bytes-length}
 use Rattle.outcomes.specs.declared.Outcome.{Outcome}
 use Rattle.outcomes.specs.Sent.{Sends}
-use Rattle.changes.specs.Ended.{Ended}
-use Rattle.changes.specs.Sending.{Sending}
-use Rattle.changes.specs.laws.SendingLaws.{sending-ended, node-within}
+use Rattle.page_changes.specs.Ended.{Ended}
+use Rattle.page_changes.specs.Sending.{Sending}
+use Rattle.page_changes.specs.laws.SendingLaws.{sending-ended, node-within}
 use Rattle.writes.specs.Writing.{Writing, writeIn}
-use Rattle.writes.specs.laws.StoreLaws.{bytes-length}
 
 module _ (c : Config) (m : List ℕ) (long : memorySize ≤ length m) (i : ℕ) (h : Sending c m (writeIn m) i) where
   abbrev g : Guard
@@ -39,7 +40,7 @@ module _ (c : Config) (m : List ℕ) (long : memorySize ≤ length m) (i : ℕ) 
 
   last-page : last (writeIn m) ≡ pagesFor (g .position + g .bytes)
   unfolding writeIn last
-  last-page = ap (λ (n : ℕ). pagesFor (g .position + n)) (bytes-length c m long)
+  last-page = ap (λ (n : ℕ). pagesFor (g .position + n)) (bytes-length m long)
 
   -- Behind the last page: the numbers that the write ends with.
   module _ (behind : g .position + g .bytes ≤ i * PAGE-BYTES) where
@@ -51,31 +52,38 @@ module _ (c : Config) (m : List ℕ) (long : memorySize ≤ length m) (i : ℕ) 
     unfolding writeIn first pageAt pagesFor
     few = let b = in-range g (memOf m .head) refl .bytes in omega (arith, last-page, b)
 
-    ended : (size end : ℕ) → Writing (g .call) → end ≡ g .position + g .bytes → size ≡ max (nodeAt (memOf m .nodes) (g .node) .size) end
+    ended : (size end : ℕ) → Writing (g .call) → end ≡ g .position + g .bytes
+        → size ≡ max (nodeAt (memOf m .nodes) (g .node) .size) end
         → Ended c m (writeIn m) (g .node) (g .opened) size end (g .position / PAGE-BYTES) (g .digests) (g .bytes)
     unfolding writeIn first pageAt sizeAfter cursorAfter numberOf
     ended size end (a, b) e f =
-        let n = bytes-length c m long in
-        sending-ended c m (writeIn m) i h size end (g .position / PAGE-BYTES) (g .bytes) (a, omega (arith, b)) no-page few
-        (f ∙ ap₂ max size-there (e ∙ ap (λ (k : ℕ). g .position + k) (sym n))) (e ∙ ap (λ (k : ℕ). g .position + k) (sym n)) refl (sym n)
+        let n = bytes-length m long in
+        sending-ended c m (writeIn m) i h size end (g .position / PAGE-BYTES) (g .bytes) (a, omega (arith, b)) no-page
+        few
+        (f ∙ ap₂ max size-there (e ∙ ap (λ (k : ℕ). g .position + k) (sym n))) (e
+        ∙ ap (λ (k : ℕ). g .position + k) (sym n)) refl (sym n)
 
     pub write-ended : (x : Guard) → x ≡ g → (size end : ℕ) → Writing (g .call) → end ≡ x .position + x .bytes
         → size ≡ max (nodeAt (memOf m .nodes) (x .node) .size) end
         → Ended c m (writeIn m) (x .node) (x .opened) size end (x .position / PAGE-BYTES) (x .digests) (x .bytes)
     write-ended x e size end w =
-        subst (λ (y : Guard). end ≡ y .position + y .bytes → size ≡ max (nodeAt (memOf m .nodes) (y .node) .size) end → Ended c m (writeIn m) (y .node) (y .opened) size end (y .position / PAGE-BYTES) (y .digests) (y .bytes))
+        subst (λ (y : Guard). end ≡ y .position + y .bytes → size ≡ max (nodeAt (memOf m .nodes) (y .node) .size) end
+        → Ended c m (writeIn m) (y .node) (y .opened) size end (y .position / PAGE-BYTES) (y .digests) (y .bytes))
         (sym e) (ended size end w)
 
     -- the places that were loaded are the pending write's
     pub finish-loaded : (x : Guard) → x ≡ g → (r : Outcome) (m′ q : List ℕ)
         → Sends c (finishChange c (digestStore c) s (x .node) (x .opened) (writeIn m)) r m′ q q
         → Sends c (finishChange c (digestStore c) s (g .node) (g .opened) (writeIn m)) r m′ q q
-    finish-loaded x e r m′ q = subst (λ (y : Guard). Sends c (finishChange c (digestStore c) s (y .node) (y .opened) (writeIn m)) r m′ q q) e
+    finish-loaded x e r m′ q = subst (λ (y : Guard). Sends c (finishChange c (digestStore c) s (y .node) (y .opened)
+        (writeIn m)) r m′ q q) e
 
-    pub from-behind : (r : Outcome) (m′ q q′ : List ℕ) → Sends c (finishChange c (digestStore c) s (g .node) (g .opened) (writeIn m)) r m′ q q′
+    pub from-behind : (r : Outcome) (m′ q q′ : List ℕ)
+        → Sends c (finishChange c (digestStore c) s (g .node) (g .opened) (writeIn m)) r m′ q q′
         → Sends c (pagesFrom c (digestStore c) s (g .node) (g .opened) (writeIn m) i) r m′ q q′
     unfolding pagesFrom pagesStored cuts writeIn
-    from-behind r m′ q q′ = subst (λ (x : Result (digestStore c)). Sends c x r m′ q q′) (sym (pick-false _ _ _ (le-ltb i (last (writeIn m)) no-page) ∙ pick-false _ _ _ refl))
+    from-behind r m′ q q′ = subst (λ (x : Result (digestStore c)). Sends c x r m′ q q′)
+        (sym (pick-false _ _ _ (le-ltb i (last (writeIn m)) no-page) ∙ pick-false _ _ _ refl))
 
   -- A page that is written.
   pub page-ahead : i < last (writeIn m) → i * PAGE-BYTES < g .position + g .bytes
@@ -91,10 +99,12 @@ module _ (c : Config) (m : List ℕ) (long : memorySize ≤ length m) (i : ℕ) 
     unfolding pagesFor
     a-page = omega (arith, last-page, ahead)
 
-    pub from-page : (r : Outcome) (m′ q q′ : List ℕ) → Sends c (onPage c (digestStore c) s (g .node) (g .opened) (writeIn m) i) r m′ q q′
+    pub from-page : (r : Outcome) (m′ q q′ : List ℕ)
+        → Sends c (onPage c (digestStore c) s (g .node) (g .opened) (writeIn m) i) r m′ q q′
         → Sends c (pagesFrom c (digestStore c) s (g .node) (g .opened) (writeIn m) i) r m′ q q′
     unfolding pagesFrom
-    from-page r m′ q q′ = subst (λ (x : Result (digestStore c)). Sends c x r m′ q q′) (sym (pick-true _ _ _ (lt-ltb i (last (writeIn m)) a-page)))
+    from-page r m′ q q′ = subst (λ (x : Result (digestStore c)). Sends c x r m′ q q′)
+        (sym (pick-true _ _ _ (lt-ltb i (last (writeIn m)) a-page)))
 
   -- whether it is fetched
   fetch-known : (x : Guard) → x ≡ g → (b : Bool) (size : ℕ) → size ≡ nodeAt (memOf m .nodes) (x .node) .size
@@ -102,18 +112,24 @@ module _ (c : Config) (m : List ℕ) (long : memorySize ≤ length m) (i : ℕ) 
       → b ≡ fetches (writeIn m) (nodeAt (s .skeleton .tables .nodes) (g .node) .size) i
   unfolding writeIn
   fetch-known x e b size u v =
-      v ∙ ap₂ (λ (p z : ℕ). fetches (writing p (take (g .bytes) (memOf m .staged))) z i) (ap (λ (y : Guard). y .position) e)
+      v ∙ ap₂ (λ (p z : ℕ). fetches (writing p (take (g .bytes) (memOf m .staged))) z i)
+      (ap (λ (y : Guard). y .position) e)
       (u ∙ ap (λ (y : Guard). nodeAt (memOf m .nodes) (y .node) .size) e ∙ size-there)
 
   module _ (x : Guard) (e : x ≡ g) (b : Bool) (size : ℕ) (u : size ≡ nodeAt (memOf m .nodes) (x .node) .size)
-      (v : b ≡ fetches (writing (x .position) (take (g .bytes) (memOf m .staged))) size i) (r : Outcome) (m′ q q′ : List ℕ) where
+      (v : b ≡ fetches (writing (x .position) (take (g .bytes) (memOf m .staged))) size i) (r : Outcome)
+      (m′ q q′ : List ℕ) where
     pub page-fetched : b ≡ true
-        → Sends c (asking c (digestStore c) s (fetchRequest (descriptorAt c (digestStore c) s (g .opened)) i) (pendingIn (goesOn 9 i g) (memOf m .staged)) (s .progress)) r m′ q q′
+        → Sends c (asking c (digestStore c) s (fetchRequest (descriptorAt c (digestStore c) s (g .opened)) i)
+        (pendingIn (goesOn 9 i g) (memOf m .staged)) (s .progress)) r m′ q q′
         → Sends c (onPage c (digestStore c) s (g .node) (g .opened) (writeIn m) i) r m′ q q′
     unfolding onPage pendingIn pendings stagedBytes goesOn writeIn
-    page-fetched t = subst (λ (y : Result (digestStore c)). Sends c y r m′ q q′) (sym (pick-true _ _ _ (sym (fetch-known x e b size u v) ∙ t)))
+    page-fetched t = subst (λ (y : Result (digestStore c)). Sends c y r m′ q q′)
+        (sym (pick-true _ _ _ (sym (fetch-known x e b size u v) ∙ t)))
 
-    pub page-stored : b ≡ false → Sends c (askStore c (digestStore c) s (g .node) (g .opened) (writeIn m) i []) r m′ q q′
+    pub page-stored : b ≡ false → Sends c (askStore c (digestStore c) s (g .node) (g .opened) (writeIn m) i []) r m′ q
+        q′
         → Sends c (onPage c (digestStore c) s (g .node) (g .opened) (writeIn m) i) r m′ q q′
     unfolding onPage
-    page-stored t = subst (λ (y : Result (digestStore c)). Sends c y r m′ q q′) (sym (pick-false _ _ _ (sym (fetch-known x e b size u v) ∙ t)))
+    page-stored t = subst (λ (y : Result (digestStore c)). Sends c y r m′ q q′)
+        (sym (pick-false _ _ _ (sym (fetch-known x e b size u v) ∙ t)))

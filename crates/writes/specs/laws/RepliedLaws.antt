@@ -13,6 +13,7 @@ use Rattle.rules.specs.Requests.{fetching, storing}
 use Rattle.rules.specs.Skeleton.{Config}
 use Rattle.machine.specs.Machine.{Result, askStore, pagesFrom, guard as digestStore}
 use Rattle.machine.specs.Consistent.{Consistent}
+use Rattle.guard_state.specs.Calls.{FETCHING, STORING}
 use Rattle.guard_state.specs.declared.Guard.{Guard}
 use Rattle.guard_state.specs.State.{numbersOf, stateOf, filePages}
 use Rattle.guard_state.specs.laws.PendingLaws.{fetch-pending, store-pending}
@@ -20,9 +21,9 @@ use Rattle.outcomes.specs.declared.Outcome.{Outcome}
 use Rattle.outcomes.specs.Sent.{Sends}
 use Rattle.outcomes.specs.Answered.{answered}
 use Rattle.replies.specs.Judged.{statusReason}
-use Rattle.changes.specs.Sending.{Sending}
-use Rattle.changes.specs.laws.SendingLaws.{fetching-fits, fetching-sending, storing-sending}
-use Rattle.changes.specs.laws.FetchedLaws.{JudgedPage, judged-stores, stored-goes}
+use Rattle.page_changes.specs.Sending.{Sending}
+use Rattle.page_changes.specs.laws.SendingLaws.{fetching-fits, fetching-sending, storing-sending}
+use Rattle.page_changes.specs.laws.FetchedLaws.{JudgedPage, judged-stores, stored-goes}
 use Rattle.writes.specs.Writing.{writeIn}
 use Rattle.writes.specs.laws.PageLaws.{page-ahead, few-sent}
 
@@ -31,17 +32,19 @@ module _ (c : Config) (m : List ℕ) where
   g = numbersOf (memOf m .head)
 
   -- by the call's number
-  pub fetch-waits : g .call ≡ 9 → stateOf c m .skeleton .pending ≡ fetching (g .node) (g .opened) (writeIn m) (g .page)
+  pub fetch-waits : g .call ≡ FETCHING → stateOf c m .skeleton .pending ≡ fetching (g .node) (g .opened) (writeIn m)
+      (g .page)
   unfolding writeIn
   fetch-waits e = fetch-pending c m e
 
-  pub store-waits : g .call ≡ 10 → stateOf c m .skeleton .pending ≡ storing (g .node) (g .opened) (writeIn m) (g .page)
+  pub store-waits : g .call ≡ STORING → stateOf c m .skeleton .pending ≡ storing (g .node) (g .opened) (writeIn m)
+      (g .page)
   unfolding writeIn
   store-waits e = store-pending c m e
 
   module _ (h : Consistent c (stateOf c m)) (l : Guard) (loaded : l ≡ numbersOf (memOf m .head)) where
     -- its page came
-    module _ (e : g .call ≡ 9) where
+    module _ (e : g .call ≡ FETCHING) where
       held-page : Sending c m (writeIn m) (g .page)
       held-page = fetching-sending c m (writeIn m) h (omega arith, omega arith) (fetch-waits e)
 
@@ -54,27 +57,34 @@ module _ (c : Config) (m : List ℕ) where
           subst (λ (x : Guard). x .digests < newDigests) (sym loaded)
           (few-sent c m long (g .page) held-page (page-ahead c m long (g .page) held-page (f .page .to)))
 
-      pub page-goes : c .digest ≡ sha256 → (b : ℕ) (r : List ℕ) → JudgedPage m l b r → b ≡ 0 → (x : Outcome) (m′ z z′ : List ℕ)
-          → Sends c (askStore c (digestStore c) (stateOf c m) (g .node) (g .opened) (writeIn m) (l .page) r) x m′ z z′ → Sends c (answered c (stateOf c m) r) x m′ z z′
+      pub page-goes : c .digest ≡ sha256 → (b : ℕ) (r : List ℕ) → JudgedPage m l b r → b ≡ 0
+          → (x : Outcome) (m′ z z′ : List ℕ)
+          → Sends c (askStore c (digestStore c) (stateOf c m) (g .node) (g .opened) (writeIn m) (l .page) r) x m′ z z′
+          → Sends c (answered c (stateOf c m) r) x m′ z z′
       page-goes same b r judged p x m′ z z′ s =
-          judged-stores c m (writeIn m) h (omega arith, omega arith) (fetch-waits e) l loaded b r judged same p x m′ z z′
-          (subst (λ (y : Guard). Sends c (askStore c (digestStore c) (stateOf c m) (g .node) (g .opened) (writeIn m) (y .page) r) x m′ z z′) loaded s)
+          judged-stores c m (writeIn m) h (omega arith, omega arith) (fetch-waits e) l loaded b r judged same p x m′ z
+          z′
+          (subst (λ (y : Guard). Sends c (askStore c (digestStore c) (stateOf c m) (g .node) (g .opened) (writeIn m)
+          (y .page) r) x m′ z z′) loaded s)
 
     -- its page is stored, and i is the next one
-    module _ (e : g .call ≡ 10) (i : ℕ) (next : i ≡ l .page + 1) where
+    module _ (e : g .call ≡ STORING) (i : ℕ) (next : i ≡ l .page + 1) where
       as-next : suc (g .page) ≡ i
       as-next = let p : l .page ≡ g .page = ap (λ (x : Guard). x .page) loaded in omega arith
 
       pub next-sending : Sending c m (writeIn m) i
-      next-sending = subst (Sending c m (writeIn m)) as-next (storing-sending c m (writeIn m) h (omega arith, omega arith) (store-waits e))
+      next-sending = subst (Sending c m (writeIn m)) as-next (storing-sending c m (writeIn m) h
+          (omega arith, omega arith) (store-waits e))
 
       -- the largest file has the page before it
       pub next-most : i ≤ filePages
       unfolding writeIn last sizeAfter pagesFor
       next-most = let s = next-sending in omega (arith, s .to, s .fits .most)
 
-      pub stored-next : c .width ≡ ID-BYTES → (r : List ℕ) (x : Outcome) (m′ b b′ : List ℕ) → 0 ≡ statusReason r PAGE-BYTES
-          → Sends c (pagesFrom c (digestStore c) (stateOf c m) (g .node) (g .opened) (writeIn m) i) x m′ b b′ → Sends c (answered c (stateOf c m) r) x m′ b b′
+      pub stored-next : c .width ≡ ID-BYTES → (r : List ℕ) (x : Outcome) (m′ b b′ : List ℕ)
+          → 0 ≡ statusReason r PAGE-BYTES
+          → Sends c (pagesFrom c (digestStore c) (stateOf c m) (g .node) (g .opened) (writeIn m) i) x m′ b b′
+          → Sends c (answered c (stateOf c m) r) x m′ b b′
       stored-next w r x m′ b b′ z =
           subst (λ (v : Result (digestStore c)). Sends c v x m′ b b′)
           (sym

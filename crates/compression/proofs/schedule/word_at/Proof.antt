@@ -10,4 +10,5 @@ unfolding word
 returns c = c .pack .ensures
 
 pub word-at-spec : {M : Type 1} → statement M
-word-at-spec = tie.close (tie.spec (λ c. search needs) (λ c. search needs) (λ c. search needs) (λ c. search needs) (λ c. search needs) (λ c. search needs) (λ c. search needs) (λ _ _. tt) returns)
+word-at-spec = tie.close (tie.spec (λ c. search needs) (λ c. search needs) (λ c. search needs) (λ c. search needs)
+    (λ c. search needs) (λ c. search needs) (λ c. search needs) (λ _ _. tt) returns)

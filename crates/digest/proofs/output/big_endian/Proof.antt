@@ -11,4 +11,5 @@ unfolding bigEndian
 returns c = simp div-one
 
 pub big-endian-spec : {M : Type 1} → statement M
-big-endian-spec = tie.close (tie.spec (λ c. search needs) (λ c. search needs) (λ c. search needs) (λ c. search needs) returns)
+big-endian-spec = tie.close (tie.spec (λ c. search needs) (λ c. search needs) (λ c. search needs) (λ c. search needs)
+    returns)

@@ -14,4 +14,5 @@ returns c =
     (called .ensures) (omega arith) (c .with-length .ensures)
 
 pub last-blocks-spec : {M : Type 1} → statement M
-last-blocks-spec = tie.close (tie.spec (λ c κs. search needs) (λ c. search needs) (λ c. search needs) (λ c. search needs) (λ c κs. search needs) returns)
+last-blocks-spec = tie.close (tie.spec (λ c κs. search needs) (λ c. search needs) (λ c. search needs)
+    (λ c. search needs) (λ c κs. search needs) returns)

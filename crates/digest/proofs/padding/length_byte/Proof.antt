@@ -9,4 +9,5 @@ returns : tie.Need-returns
 returns c = length-byte _ _ (c .pre)
 
 pub length-byte-spec : {M : Type 1} → statement M
-length-byte-spec = tie.close (tie.spec (λ c. search needs) (λ c. search needs) (λ c. search needs) (λ c. search needs) returns)
+length-byte-spec = tie.close (tie.spec (λ c. search needs) (λ c. search needs) (λ c. search needs) (λ c. search needs)
+    returns)

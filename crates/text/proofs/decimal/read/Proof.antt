@@ -5,7 +5,8 @@ use Prim.Native.Nat.{_≤_, _-_}
 use mathlib.Core.Path.{_≡_, sym, _∙_}
 use lib.ListN.{length, drop}
 use Rattle.text.specs.Decimal.{readFrom, readDecimal}
-use Rattle.text.specs.laws.DecimalLaws.{read-start, read-end, read-low, read-high, read-large, read-digit, read-none}
+use Rattle.text.specs.laws.DecimalLaws.{read-start, read-end, read-low, read-high, read-large, read-digit}
+use Rattle.text.specs.laws.DecimalLaws.{read-none}
 use Rattle.text.proofs.decimal.read.Statement.{statement}
 use Rattle.text.proofs.decimal.read.Tie as tie
 
@@ -32,14 +33,16 @@ returns-3 c =
     let l = c .before .before .before .before .before .loop in
     let s = c .before .before .before .before .before .before .before .before .args .text .now in
     let d = c .before .before .digit-value in
-    sym (l .inv .2 ∙ read-high (l .n) s (l .i) (omega arith) (rw (d .ensures) at (c .before .if2 .left)) (rw (d .ensures) at (c .if3 .taken)))
+    sym (l .inv .2 ∙ read-high (l .n) s (l .i) (omega arith) (rw (d .ensures) at (c .before .if2 .left))
+    (rw (d .ensures) at (c .if3 .taken)))
 
 returns-4 : tie.Need-returns-4 Inv-loop μ-loop
 returns-4 c =
     let l = c .before .before .before .before .before .before .loop in
     let s = c .before .before .before .before .before .before .before .before .before .args .text .now in
     let d = c .before .before .before .digit-value in
-    sym (l .inv .2 ∙ read-large (l .n) s (l .i) (omega arith) (rw (d .ensures) at (c .before .before .if2 .left)) (rw (d .ensures) at (c .before .if3 .left)) (c .if4 .taken))
+    sym (l .inv .2 ∙ read-large (l .n) s (l .i) (omega arith) (rw (d .ensures) at (c .before .before .if2 .left))
+    (rw (d .ensures) at (c .before .if3 .left)) (c .if4 .taken))
 
 loop-again : tie.Need-loop-again Inv-loop μ-loop
 loop-again c =

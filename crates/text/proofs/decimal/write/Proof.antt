@@ -44,7 +44,8 @@ loop-again c =
       simp length-set (omega arith),
       simp length-set (omega arith),
       omega arith,
-      digit-more (c .before .before .args .n) (l .rest) (l .i) (l .out) (l .inv .0) (l .inv .3) t (l .i - 1) (omega arith),
+      digit-more (c .before .before .args .n) (l .rest) (l .i) (l .out) (l .inv .0) (l .inv .3) t (l .i - 1)
+          (omega arith),
       λ k p. take-set-le k (l .out) (l .i) _ (omega arith) ∙ l .inv .4 k (omega arith),
     )
 
@@ -62,5 +63,6 @@ returns c =
 pub write-spec : {M : Type 1} → statement M
 write-spec =
     tie.close
-    (tie.spec Inv-loop μ-loop (λ c. omega arith) loop-holds (λ c. omega arith) (λ c. omega arith) (λ c. omega arith) sub-i (λ c. omega arith) loop-again
+    (tie.spec Inv-loop μ-loop (λ c. omega arith) loop-holds (λ c. omega arith) (λ c. omega arith) (λ c. omega arith)
+    sub-i (λ c. omega arith) loop-again
     (λ c. omega arith) (λ c. omega arith) (λ c. omega arith) same-length returns)

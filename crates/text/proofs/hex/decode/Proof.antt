@@ -34,4 +34,5 @@ returns-4 c =
     (decode-bytes _ _ (rw e at (d .before .before .if1 .left)) (d .before .if2 .left) (d .if3 .left), search needs)
 
 pub decode-spec : {M : Type 1} → statement M
-decode-spec = tie.close (tie.spec (λ _ _. tt) returns returns-2 returns-3 (λ c κs. omega arith) (λ c. search needs) returns-4)
+decode-spec = tie.close (tie.spec (λ _ _. tt) returns returns-2 returns-3 (λ c κs. omega arith) (λ c. search needs)
+    returns-4)

@@ -13,7 +13,8 @@ use Rattle.text.proofs.hex.encode.Statement.{statement}
 use Rattle.text.proofs.hex.encode.Tie as tie
 
 abbrev Inv-loop : tie.InvT-loop
-Inv-loop bytes out₀ n i₀ out i = (i ≤ 2 * n) × (length out ≡ length out₀) × (out ≡ overwrite out₀ 0 (take i (hexOf bytes)))
+Inv-loop bytes out₀ n i₀ out i = (i ≤ 2 * n) × (length out ≡ length out₀)
+    × (out ≡ overwrite out₀ 0 (take i (hexOf bytes)))
 
 abbrev μ-loop : tie.MeasureT-loop
 μ-loop bytes out₀ n i₀ out i = 2 * n - i
@@ -33,14 +34,16 @@ loop-again c =
     ∙ sym (hexOf-at (a .bytes .now) (l .i) (omega arith)) in (
       omega arith,
       simp length-set (l .inv .1),
-      rw (l .inv .2, v) (overwrite-more 0 (a .out .now) 0 s (l .i) (l .i) (omega arith) (omega (arith, length-hexOf (a .bytes .now))) (omega arith)),
+      rw (l .inv .2, v) (overwrite-more 0 (a .out .now) 0 s (l .i) (l .i) (omega arith)
+          (omega (arith, length-hexOf (a .bytes .now))) (omega arith)),
     )
 
 returns : tie.Need-returns Inv-loop μ-loop
 returns c =
     let l = c .before .loop in
     let a = c .before .before .before .before .args in
-    l .inv .2 ∙ ap (overwrite (a .out .now) 0) (take-all (l .i) (hexOf (a .bytes .now)) (omega (arith, length-hexOf (a .bytes .now))))
+    l .inv .2 ∙ ap (overwrite (a .out .now) 0) (take-all (l .i) (hexOf (a .bytes .now))
+    (omega (arith, length-hexOf (a .bytes .now))))
 
 pub encode-spec : {M : Type 1} → statement M
 encode-spec =

@@ -26,20 +26,24 @@ loop-again c =
     let l = c .before .before .before .before .loop in
     let a = c .before .before .before .before .before .before .before .args in
     let s = bytesOf (a .text .now) in
-    let v : c .pair .result ≡ getD s (l .i) 0 = c .pair .ensures ∙ sym (bytesOf-at (a .text .now) (l .i) (omega arith)) in (
+    let v : c .pair .result ≡ getD s (l .i) 0 = c .pair .ensures
+    ∙ sym (bytesOf-at (a .text .now) (l .i) (omega arith)) in (
       omega arith,
       simp length-set (l .inv .1),
-      rw (l .inv .2, v) (overwrite-more 0 (a .out .now) 0 s (l .i) (l .i) (omega arith) (omega (arith, length-bytesOf (a .text .now))) (omega arith)),
+      rw (l .inv .2, v) (overwrite-more 0 (a .out .now) 0 s (l .i) (l .i) (omega arith)
+          (omega (arith, length-bytesOf (a .text .now))) (omega arith)),
     )
 
 returns : tie.Need-returns Inv-loop μ-loop
 returns c =
     let l = c .before .loop in
     let a = c .before .before .before .before .args in
-    l .inv .2 ∙ ap (overwrite (a .out .now) 0) (take-all (l .i) (bytesOf (a .text .now)) (omega (arith, length-bytesOf (a .text .now))))
+    l .inv .2 ∙ ap (overwrite (a .out .now) 0) (take-all (l .i) (bytesOf (a .text .now))
+    (omega (arith, length-bytesOf (a .text .now))))
 
 pub fill-spec : {M : Type 1} → statement M
 fill-spec =
     tie.close
-    (tie.spec Inv-loop μ-loop loop-holds (λ c. omega arith) (λ c. omega arith) (λ c. omega arith) (λ c. omega arith) (λ c. omega arith) (λ _ _. tt)
+    (tie.spec Inv-loop μ-loop loop-holds (λ c. omega arith) (λ c. omega arith) (λ c. omega arith) (λ c. omega arith)
+    (λ c. omega arith) (λ _ _. tt)
     (λ c. omega arith) (λ c. omega arith) (λ c. omega arith) loop-again (λ c. search needs) returns)

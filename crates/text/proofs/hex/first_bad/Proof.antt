@@ -24,13 +24,17 @@ returns : tie.Need-returns Inv-loop μ-loop
 returns c =
     let l = c .before .before .before .before .loop in
     let s = c .before .before .before .before .before .before .args .text .now in
-    scan-here isBad 0 _ s (l .i) (l .inv .1) (omega arith) (le-leb 16 _ (rw (c .before .value .ensures) at (c .if1 .taken)))
+    scan-here isBad 0 _ s (l .i) (l .inv .1) (omega arith)
+    (le-leb 16 _ (rw (c .before .value .ensures) at (c .if1 .taken)))
 
 loop-again : tie.Need-loop-again Inv-loop μ-loop
 loop-again c =
     let l = c .before .before .before .before .loop in
-    let s = c .before .before .before .before .before .before .args .text .now in
-    (omega arith, scan-on isBad 0 _ s (l .i) (l .inv .1) (omega arith) (lt-leb 16 _ (rw (c .before .value .ensures) at (c .if1 .left))))
+    let s = c .before .before .before .before .before .before .args .text .now in (
+      omega arith,
+      scan-on isBad 0 _ s (l .i) (l .inv .1) (omega arith)
+          (lt-leb 16 _ (rw (c .before .value .ensures) at (c .if1 .left))),
+    )
 
 returns-2 : tie.Need-returns-2 Inv-loop μ-loop
 returns-2 c =
@@ -40,4 +44,5 @@ returns-2 c =
 
 pub first-bad-spec : {M : Type 1} → statement M
 first-bad-spec =
-    tie.close (tie.spec Inv-loop μ-loop loop-holds (λ c. omega arith) (λ _ _. tt) returns (λ c. omega arith) (λ c. omega arith) loop-again returns-2)
+    tie.close (tie.spec Inv-loop μ-loop loop-holds (λ c. omega arith) (λ _ _. tt) returns (λ c. omega arith)
+    (λ c. omega arith) loop-again returns-2)

@@ -17,7 +17,12 @@ returns-2 c = rw (le-ltb _ _ (c .before .if1 .left), lt-ltb _ _ (c .if2 .taken))
 
 returns-3 : tie.Need-returns-3
 unfolding valueOf pick
-returns-3 c = rw (le-ltb _ _ (c .before .before .if1 .left), le-ltb _ _ (c .before .if2 .left), lt-ltb _ _ (c .if3 .taken))
+returns-3 c = rw (
+  le-ltb _ _ (c .before .before .if1 .left),
+  le-ltb _ _ (c .before .if2 .left),
+  lt-ltb _ _
+      (c .if3 .taken),
+)
 
 returns-4 : tie.Need-returns-4
 unfolding valueOf pick

@@ -12,7 +12,8 @@ use Rattle.text.proofs.line.end.Statement.{statement}
 use Rattle.text.proofs.line.end.Tie as tie
 
 abbrev Inv-loop : tie.InvT-loop
-Inv-loop text from i₀ i = (from ≤ i) × (i ≤ length text) × (from + place isNewline (drop from text) ≡ i + place isNewline (drop i text))
+Inv-loop text from i₀ i = (from ≤ i) × (i ≤ length text)
+    × (from + place isNewline (drop from text) ≡ i + place isNewline (drop i text))
 
 abbrev μ-loop : tie.MeasureT-loop
 μ-loop text from i₀ i = length text - i
@@ -40,7 +41,13 @@ returns-2 : tie.Need-returns-2 Inv-loop μ-loop
 returns-2 c =
     let l = c .before .loop in
     let s = c .before .before .args .text .now in
-    record { found = scan-end isNewline 0 _ s (l .i) (l .inv .2) (omega arith); after = omega arith; inside = omega arith }
+    record {
+      found = scan-end isNewline 0 _ s (l .i) (l .inv .2) (omega arith);
+      after = omega arith;
+      inside = omega
+          arith;
+    }
 
 pub end-spec : {M : Type 1} → statement M
-end-spec = tie.close (tie.spec Inv-loop μ-loop loop-holds (λ c. omega arith) returns (λ c. omega arith) (λ c. omega arith) loop-again returns-2)
+end-spec = tie.close (tie.spec Inv-loop μ-loop loop-holds (λ c. omega arith) returns (λ c. omega arith)
+    (λ c. omega arith) loop-again returns-2)

@@ -1,4 +1,5 @@
--- `transcripts::file::replay` is safe and ends. Nothing says that the input ends, so the turns are counted down from a number that no
+-- `transcripts::file::replay` is safe and ends. Nothing says that the input ends, so the turns are counted down from a
+-- number that no
 -- run uses up. Assumes nothing.
 use native.Mathlib.Omega.{arith}
 use mathlib.Core.Path.{_≡_, refl}

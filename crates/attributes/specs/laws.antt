@@ -1,0 +1,3 @@
+pub mod ChangedLaws
+pub mod ReachLaws
+pub mod StatLaws

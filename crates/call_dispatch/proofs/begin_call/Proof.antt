@@ -1,0 +1,184 @@
+-- `call_dispatch::begin_call` meets its contract. Assumes nothing.
+use native.Mathlib.Omega.{arith}
+use mathlib.Core.Path.{refl, ap, subst}
+use lib.ListN.{length}
+use Rattle.filesystem.specs.Tables.{DATA-BYTES}
+use Rattle.guard_state.specs.State.{stateOf}
+use Rattle.call_reader.specs.declared.ParsedCall.{ParsedCall}
+use Rattle.call_reader.specs.Meaning.{meant, Ranges}
+use Rattle.call_dispatch.specs.laws.CalledLaws.{call-as, path-as, none-as, rest-length, write-as}
+use borrow.Author.Needs.{needs}
+use Rattle.call_dispatch.proofs.begin_call.Statement.{statement}
+use Rattle.call_dispatch.proofs.begin_call.Tie as tie
+
+-- by path
+sub-begin-by-path : tie.Need-sub-begin-by-path
+sub-begin-by-path c =
+    let v = c .before .before in
+    let k = v .before .before in
+    let a = k .before .before .before .before .args in
+    let r = subst (λ (z : ParsedCall). Ranges z (length (a .call .now))) (v .p .given .1) (k .read-call .ensures .1) in
+    r .0
+
+part-begin-by-path-start : tie.Need-part-begin-by-path-start
+part-begin-by-path-start c =
+    let v = c .before .before in
+    let k = v .before .before in
+    let a = k .before .before .before .before .args in
+    let r = subst (λ (z : ParsedCall). Ranges z (length (a .call .now))) (v .p .given .1) (k .read-call .ensures .1) in
+    r .0
+
+begin-by-path-requires : tie.Need-begin-by-path-requires
+begin-by-path-requires c κs =
+    let v = c .before .before .before .before in
+    let k = v .before .before in
+    let b = k .before .before .before .before in
+    let r = subst (λ (z : ParsedCall). Ranges z (length (b .args .call .now))) (v .p .given .1)
+    (k .read-call .ensures .1) in
+    (r .1, omega arith, omega (arith, b .pre .1))
+
+returns : tie.Need-returns
+returns c =
+    let s = c .before .before .before .before in
+    let v = s .before .before .before .before .before in
+    let k = v .before .before in
+    let a = k .before .before .before .before .args in (
+      λ q d w h. path-as q w (stateOf q (a .m .now)) (a .call .now) (k .read-call .result) (k .read-call .ensures .0) _
+          _ _ (v .p .given .1) _ _ (a .request .now) _ (s .begin-by-path .ensures .0 q d w h),
+      omega arith,
+    )
+
+-- close and seek
+begin-close-requires : tie.Need-begin-close-requires
+begin-close-requires c κs =
+    (omega arith, omega (arith, c .before .before .before .before .before .before .before .before .before .pre .1))
+
+returns-2 : tie.Need-returns-2
+unfolding meant
+returns-2 c =
+    let s = c .before .before .before .before in
+    let v = s .before .before .before .before in
+    let k = v .before .before in
+    let a = k .before .before .before .before .args in (
+      λ q d w h. call-as q w (stateOf q (a .m .now)) (a .call .now) (k .read-call .result) (k .read-call .ensures .0) _
+          (ap (λ (z : ParsedCall). meant z (a .call .now)) (v .p2 .given .1)) _ _ (a .request .now) _
+          (s .begin-close .ensures .0 q d w h),
+      omega arith,
+    )
+
+returns-3 : tie.Need-returns-3
+unfolding meant
+returns-3 c =
+    let s = c .before .before in
+    let v = s .before .before .before in
+    let k = v .before .before in
+    let a = k .before .before .before .before .args in (
+      λ q d w h. call-as q w (stateOf q (a .m .now)) (a .call .now) (k .read-call .result) (k .read-call .ensures .0) _
+          (ap (λ (z : ParsedCall). meant z (a .call .now)) (v .p3 .given .1)) _ _ (a .request .now) _
+          (s .finish-seek .ensures .0 q d w h (a .request .now)),
+      omega arith,
+    )
+
+-- read
+begin-read-requires : tie.Need-begin-read-requires
+begin-read-requires c κs =
+    let v = c .before .before .before in
+    let k = v .before .before in
+    let b = k .before .before .before .before in
+    let r = subst (λ (z : ParsedCall). Ranges z (length (b .args .call .now))) (v .p4 .given .1)
+    (k .read-call .ensures .1) in
+    (r .1, omega arith, omega (arith, b .pre .1))
+
+returns-4 : tie.Need-returns-4
+unfolding meant
+returns-4 c =
+    let s = c .before .before .before .before in
+    let v = s .before .before .before .before in
+    let k = v .before .before in
+    let a = k .before .before .before .before .args in (
+      λ q d w h. call-as q w (stateOf q (a .m .now)) (a .call .now) (k .read-call .result) (k .read-call .ensures .0) _
+          (ap (λ (z : ParsedCall). meant z (a .call .now)) (v .p4 .given .1)) _ _ (a .request .now) _
+          (s .begin-read .ensures .0 q d w h),
+      omega arith,
+    )
+
+-- write
+sub-begin-write : tie.Need-sub-begin-write
+sub-begin-write c =
+    let v = c .before .before in
+    let k = v .before .before in
+    let a = k .before .before .before .before .args in
+    let r = subst (λ (z : ParsedCall). Ranges z (length (a .call .now))) (v .p5 .given .1) (k .read-call .ensures .1) in
+    r .1
+
+part-begin-write-start : tie.Need-part-begin-write-start
+part-begin-write-start c =
+    let v = c .before .before in
+    let k = v .before .before in
+    let a = k .before .before .before .before .args in
+    let r = subst (λ (z : ParsedCall). Ranges z (length (a .call .now))) (v .p5 .given .1) (k .read-call .ensures .1) in
+    r .1
+
+begin-write-requires : tie.Need-begin-write-requires
+begin-write-requires c κs =
+    let v = c .before .before .before .before in
+    let k = v .before .before in
+    let b = k .before .before .before .before in
+    let r = subst (λ (z : ParsedCall). Ranges z (length (b .args .call .now))) (v .p5 .given .1)
+    (k .read-call .ensures .1) in
+    (rest-length (b .args .call .now) _ DATA-BYTES (r .2), omega arith, omega (arith, b .pre .1))
+
+returns-5 : tie.Need-returns-5
+unfolding meant
+returns-5 c =
+    let s = c .before .before .before .before in
+    let v = s .before .before .before .before .before in
+    let k = v .before .before in
+    let a = k .before .before .before .before .args in (
+      λ q d w h. write-as q w (stateOf q (a .m .now)) (a .call .now) (k .read-call .result) (k .read-call .ensures .0) _
+          _ (v .p5 .given .1) _ _ (a .request .now) _
+          (s .begin-write .ensures .0 q d w h),
+      omega arith,
+    )
+
+-- truncate
+begin-truncate-requires : tie.Need-begin-truncate-requires
+begin-truncate-requires c κs =
+    (omega arith, omega (arith, c .before .before .before .before .before .before .before .before .before .pre .1))
+
+returns-6 : tie.Need-returns-6
+unfolding meant
+returns-6 c =
+    let s = c .before .before .before .before in
+    let v = s .before .before .before .before in
+    let k = v .before .before in
+    let a = k .before .before .before .before .args in (
+      λ q d w h. call-as q w (stateOf q (a .m .now)) (a .call .now) (k .read-call .result) (k .read-call .ensures .0) _
+          (ap (λ (z : ParsedCall). meant z (a .call .now)) (v .p6 .given .1)) _ _ (a .request .now) _
+          (s .begin-truncate .ensures .0 q d w h),
+      omega arith,
+    )
+
+-- no call
+returns-7 : tie.Need-returns-7
+returns-7 c =
+    let k = c .before .before in
+    let a = k .before .before .before .before .args in (
+      λ q d w h. none-as q w (stateOf q (a .m .now)) (a .call .now) (k .read-call .result) (k .read-call .ensures .0)
+          (c .enum-told .given .1) (a .m .now) (a .request .now) refl,
+      refl,
+    )
+
+pub begin-call-spec : {M : Type 1} → statement M
+begin-call-spec =
+    tie.close
+    (tie.spec (λ c κs. search needs) (λ c. search needs) sub-begin-by-path part-begin-by-path-start (λ c. search needs)
+    begin-by-path-requires
+    (λ c. search needs) begin-close-requires (λ c. search needs) (λ c κs. search needs) (λ c. search needs)
+    (λ c. search needs) begin-read-requires
+    (λ c. search needs) sub-begin-write part-begin-write-start (λ c. search needs) begin-write-requires
+    (λ c. search needs) begin-truncate-requires (λ c. search needs)
+    (λ c. search needs) (λ c. search needs) returns (λ c. search needs) (λ c. search needs) returns-2
+    (λ c. search needs) returns-3
+    (λ c. search needs) (λ c. search needs) returns-4 (λ c. search needs) (λ c. search needs) returns-5
+    (λ c. search needs) (λ c. search needs) returns-6 returns-7)

@@ -1,0 +1,147 @@
+-- What a call's bytes were read as is what the machine makes of them; and what a consistent state has for every call.
+-- Assumes nothing.
+use mathlib.Core.Path.{_≡_, refl, ap, sym, _∙_, subst}
+use mathlib.Core.List.{List}
+use mathlib.Core.Option.{some, Option, none}
+use Prim.Native.Nat.{ℕ, _-_, _<_, _≤_}
+use native.Mathlib.Omega.{arith}
+use lib.ListN.{length, take, drop, length-drop}
+use lib.Seq.{take-all}
+use Rattle.filesystem.specs.Tables.{ID-BYTES}
+use Rattle.filesystem.specs.Sound.{to-sound}
+use Rattle.rules.specs.Calls.{Call, openAs, remove, rmdir, chmod, readdir, stat, write, readCall, byPath}
+use Rattle.rules.specs.Skeleton.{Config}
+use Rattle.rules.specs.Rules.{refuse, callChecks, callAction, callOr, isNone}
+use Rattle.machine.specs.Machine.{State, Result, guard as digestStore, apply}
+use Rattle.machine.specs.Consistent.{Consistent}
+use Rattle.call_reader.specs.declared.ParsedCall.{ParsedCall}
+use Rattle.call_reader.specs.declared.ParsedCall.the-variants.{ByPath, Write, Malformed}
+use Rattle.call_reader.specs.Meaning.{madeBy, meant, NumberFits}
+use Rattle.path_calls.specs.Begun.{begun}
+use Rattle.guard_state.specs.State.{stateOf}
+use Rattle.outcomes.specs.declared.Outcome.{Outcome}
+use Rattle.outcomes.specs.declared.Outcome.the-variants.{Refused}
+use Rattle.outcomes.specs.Sent.{Sends}
+use Rattle.outcomes.specs.laws.SentLaws.{refusal-sends}
+use Rattle.outcomes.specs.Started.{startedBy}
+use Rattle.call_dispatch.specs.Called.{called, calledWith}
+use Rattle.lists.specs.Pick.{pick}
+use Rattle.lists.specs.Form.{bind}
+use Rattle.lists.specs.Checks.{decide}
+use Rattle.filesystem.specs.Paths.{Path, readPath}
+use Rattle.path_calls.specs.Judged.{judged}
+
+-- what the bytes were read as, by its form
+module _ (c : Config) (s : State (digestStore c)) where
+  pub called-none : called c s none ≡ apply c (digestStore c) s (refuse 22)
+  unfolding called isNone decide pick
+  called-none = refl
+
+  pub called-some : (q : Call) → called c s (some q) ≡ startedBy c s q
+  unfolding called isNone callOr decide pick startedBy
+  called-some q = refl
+
+  pub called-path : (make : Path → Call) (path : List ℕ) → called c s (byPath make path) ≡ begun c s path make
+  unfolding byPath begun judged bind called isNone callOr decide pick
+  called-path make path = go (readPath path)
+    where
+      go : (p : Option Path) → called c s (bind p (λ x. some (make x)))
+          ≡ apply c (digestStore c) s
+          (elim p [
+            | none ↦ refuse 22
+            | some x ↦ decide refuse (callChecks (s .skeleton .tables) (make x))
+                (callAction (s .skeleton .tables) (c .width) (make x))
+          ])
+      go none = refl
+      go (some x) = refl
+
+-- the bytes from a place on, as a slice has them
+rest : (b : List ℕ) (start : ℕ) → take (length b - start) (drop start b) ≡ drop start b
+rest b start = take-all (length b - start) (drop start b) (omega (arith, length-drop start b))
+
+pub rest-length : (b : List ℕ) (start n : ℕ) → length b - start ≤ n → length (take (length b - start) (drop start b)) ≤
+    n
+rest-length b start n h = subst (λ (l : List ℕ). length l ≤ n) (sym (rest b start))
+    (omega (arith, length-drop start b, h))
+
+module _ (c : Config) (wide : c .width ≡ ID-BYTES) (s : State (digestStore c)) (b : List ℕ) (p : ParsedCall)
+    (known : meant p b ≡ readCall ID-BYTES b) where
+  read-as : calledWith c s b ≡ called c s (meant p b)
+  unfolding calledWith
+  read-as = ap (λ (w : ℕ). called c s (readCall w b)) wide ∙ ap (called c s) (sym known)
+
+  pub call-as : (q : Call) → meant p b ≡ some q → (r : Outcome) (m x x′ : List ℕ) → Sends c (startedBy c s q) r m x x′
+      → Sends c (calledWith c s b) r m x x′
+  call-as q e r m x x′ = subst (λ (y : Result (digestStore c)). Sends c y r m x x′) (sym (read-as ∙ ap (called c s) e
+      ∙ called-some c s q))
+
+  pub path-as : (k n start : ℕ) → p ≡ ByPath k n start → (r : Outcome) (m x x′ : List ℕ)
+      → Sends c (begun c s (take (length b - start) (drop start b)) (madeBy k n)) r m x x′
+      → Sends c (calledWith c s b) r m x x′
+  unfolding meant
+  path-as k n start e r m x x′ =
+      subst (λ (y : Result (digestStore c)). Sends c y r m x x′)
+      (ap (λ (l : List ℕ). begun c s l (madeBy k n)) (rest b start)
+      ∙ sym (read-as ∙ ap (λ (z : ParsedCall). called c s (meant z b)) e ∙ called-path c s (madeBy k n) (drop start b)))
+
+  pub write-as : (h start : ℕ) → p ≡ Write h start → (r : Outcome) (m x x′ : List ℕ)
+      → Sends c (startedBy c s (write h (take (length b - start) (drop start b)))) r m x x′
+      → Sends c (calledWith c s b) r m x x′
+  unfolding meant
+  write-as h start e r m x x′ f =
+      call-as (write h (drop start b)) (ap (λ (z : ParsedCall). meant z b) e) r m x x′
+      (subst (λ (l : List ℕ). Sends c (startedBy c s (write h l)) r m x x′) (rest b start) f)
+
+  pub none-as : p ≡ Malformed → (m x : List ℕ) → stateOf c m ≡ s → Sends c (calledWith c s b) (Refused 22) m x x
+  unfolding meant
+  none-as e m x g =
+      subst (λ (y : Result (digestStore c)). Sends c y (Refused 22) m x x)
+      (sym (read-as ∙ ap (λ (z : ParsedCall). called c s (meant z b)) e ∙ called-none c s))
+      (refusal-sends c s (refuse 22) 22 m x refl g)
+
+-- there is a root
+pub some-node : (c : Config) (s : State (digestStore c)) → Consistent c s → 0 < length (s .skeleton .tables .nodes)
+some-node c s h = to-sound (c .width) (s .skeleton .tables .nodes)
+    (h .holds .valid .tables .nodes-valid .sound) .has-root
+
+-- the call that a kind makes of its number and its path
+module _ (q : Config) (s : State (digestStore q)) (path : List ℕ) (r : Outcome) (m x x′ : List ℕ) (n : ℕ) where
+  abbrev Made : (Path → Call) → Type 0
+  Made make = Sends q (begun q s path make) r m x x′
+
+  module _ {k : ℕ} where
+    pub open-made : k ≡ 3 → Made (openAs n) → Made (madeBy k n)
+    unfolding madeBy pick
+    open-made e = subst (λ (j : ℕ). Made (madeBy j n)) (sym e)
+
+    pub remove-made : k ≡ 9 → Made remove → Made (madeBy k n)
+    unfolding madeBy pick
+    remove-made e = subst (λ (j : ℕ). Made (madeBy j n)) (sym e)
+
+    pub rmdir-made : k ≡ 10 → Made rmdir → Made (madeBy k n)
+    unfolding madeBy pick
+    rmdir-made e = subst (λ (j : ℕ). Made (madeBy j n)) (sym e)
+
+    pub chmod-made : k ≡ 11 → Made (chmod n) → Made (madeBy k n)
+    unfolding madeBy pick
+    chmod-made e = subst (λ (j : ℕ). Made (madeBy j n)) (sym e)
+
+    pub readdir-made : k ≡ 12 → Made readdir → Made (madeBy k n)
+    unfolding madeBy pick
+    readdir-made e = subst (λ (j : ℕ). Made (madeBy j n)) (sym e)
+
+    pub stat-made : k ≡ 13 → Made stat → Made (madeBy k n)
+    unfolding madeBy pick
+    stat-made e = subst (λ (j : ℕ). Made (madeBy j n)) (sym e)
+
+-- the last kind is none of those above
+above-three : (k : ℕ) → 1 ≤ k → (k ≡ 1 → ⊥) → (k ≡ 2 → ⊥) → (k ≡ 3 → ⊥) → 4 ≤ k
+above-three k l a b d = omega arith
+
+the-last : (k : ℕ) → 9 ≤ k → k ≤ 13 → (k ≡ 9 → ⊥) → (k ≡ 10 → ⊥) → (k ≡ 11 → ⊥) → (k ≡ 12 → ⊥) → k ≡ 13
+the-last k l m a b d e = omega arith
+
+pub last-kind : (k n : ℕ) → NumberFits k n → (k ≡ 1 → ⊥) → (k ≡ 2 → ⊥) → (k ≡ 3 → ⊥) → (k ≡ 9 → ⊥) → (k ≡ 10 → ⊥)
+    → (k ≡ 11 → ⊥)
+    → (k ≡ 12 → ⊥) → k ≡ 13
+last-kind k n f a b d = the-last k (f .between (above-three k (f .least) a b d)) (f .most)

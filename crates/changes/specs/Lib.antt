@@ -1,4 +1,0 @@
-pub mod Asked
-pub mod Ended
-pub mod Sending
-pub mod laws

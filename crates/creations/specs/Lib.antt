@@ -1,0 +1,2 @@
+pub mod NameChecks
+pub mod laws

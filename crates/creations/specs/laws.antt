@@ -1,0 +1,4 @@
+pub mod CreatedLaws
+pub mod IdLaws
+pub mod NameLaws
+pub mod NewLaws

@@ -1,0 +1,65 @@
+-- What is pending, by its number under `header::CALL` (src/calls.rt); any other number is idle.
+--   IDLE … CUTTING      the numbers, one for each constructor of the definition
+--   OnNode call         it is of a call on a node that is there: open, remove, chmod, readdir, stat
+--   questionOn          what such a call on the node in place k asks the host; `number` is its mode or its rights
+-- Assumes nothing.
+use Prim.Native.Nat.{ℕ}
+use mathlib.Core.List.{[], _∷_}
+use lib.ListN.{getD}
+use Rattle.rules.specs.Requests.{Question, opening, removing, changing, listing, stating}
+
+abbrev pub IDLE : ℕ
+IDLE = 0
+
+abbrev pub CREATING : ℕ
+CREATING = 1
+
+abbrev pub OPENING : ℕ
+OPENING = 2
+
+abbrev pub CLOSING : ℕ
+CLOSING = 3
+
+abbrev pub REMOVING : ℕ
+REMOVING = 4
+
+abbrev pub CHANGING : ℕ
+CHANGING = 5
+
+abbrev pub LISTING : ℕ
+LISTING = 6
+
+abbrev pub STATING : ℕ
+STATING = 7
+
+abbrev pub READING : ℕ
+READING = 8
+
+-- of a write: a page is fetched; a page is stored
+abbrev pub FETCHING : ℕ
+FETCHING = 9
+
+abbrev pub STORING : ℕ
+STORING = 10
+
+-- of a truncation: its page is fetched; its page is stored; the file is cut
+abbrev pub SHRINK-FETCHING : ℕ
+SHRINK-FETCHING = 11
+
+abbrev pub SHRINK-STORING : ℕ
+SHRINK-STORING = 12
+
+abbrev pub CUTTING : ℕ
+CUTTING = 13
+
+pub data OnNode : ℕ → Type 0 where
+  forOpen : OnNode OPENING
+  forRemove : OnNode REMOVING
+  forChmod : OnNode CHANGING
+  forReaddir : OnNode LISTING
+  forStat : OnNode STATING
+
+unfoldable pub questionOn : (call k number : ℕ) → Question
+questionOn call k number =
+    getD (stating k ∷ stating k ∷ opening k number ∷ stating k ∷ removing k ∷ changing k number ∷ listing k ∷ []) call
+    (stating k)

@@ -1,0 +1,3 @@
+pub mod ListChecks
+pub mod Listing
+pub mod laws

@@ -1,0 +1,3 @@
+pub mod ListedLaws
+pub mod ListingLaws
+pub mod ReaddirLaws

@@ -1,0 +1,3 @@
+pub mod OpenChecks
+pub mod Moved
+pub mod laws

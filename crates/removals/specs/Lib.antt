@@ -1,0 +1,2 @@
+pub mod RemoveChecks
+pub mod laws

@@ -1,0 +1,2 @@
+pub mod RemoveLaws
+pub mod RemovedLaws
