@@ -38,6 +38,13 @@ extern "C" {
 
 #define GUARD_VERSION "1.1"
 
+/* How the functions of these headers are compiled: inline, in each program that includes them. Whoever cannot use inline
+ * functions takes libguard_client.so, which has each of them and the archive's entries as symbols (guard_exports.c,
+ * ./run library). */
+#ifndef GUARD_FUNCTION
+#define GUARD_FUNCTION static inline
+#endif
+
 enum {
     GUARD_MEMORY_LENGTH = 52672,
     GUARD_ANSWER_LENGTH = 9690,  /* the least length of an answer buffer: the longest listing */
@@ -89,8 +96,20 @@ enum {
  *                                                        the reply's bytes
  *     stat            path                               the size, and the reply's bytes the call itself
  *
- * Reads and writes begin at the file's cursor and move it; a read ends at the end of the file. A position is at most the size, and a truncation makes
- * no file longer. A read or write of no bytes and a truncation to the same size ask for nothing. */
+ * Reads and writes begin at the file's cursor, which is 0 after an open, and move it; a read ends at the end of the
+ * file. A position is at most the size, and a truncation makes no file longer; a cursor that stood behind the new end
+ * then stands at that end, unlike POSIX. A read or write of no bytes and a truncation to the same size ask for nothing.
+ *
+ * Bits that a mode must have, else GUARD_BARRED (4.8, 7.6, 7.7):
+ *
+ *     on the way                                         1 of each directory that a component is looked up in; "/" has no component
+ *     create, mkdir, remove, rmdir                       2 of the parent; none of the node itself
+ *     open                                               4 of the file to read, 2 to write
+ *     readdir                                            4 of the directory
+ *     chmod, stat                                        none of the node
+ *
+ * By handle the rights of the open count, else GUARD_BAD_HANDLE: 1 for a read, 2 for a write or truncation, none for
+ * close and seek. A chmod does not touch them. A file is open once at a time. */
 enum {
     GUARD_CREATE = 1, GUARD_MKDIR = 2, GUARD_OPEN = 3, GUARD_CLOSE = 4, GUARD_SEEK = 5, GUARD_READ = 6, GUARD_WRITE = 7,
     GUARD_TRUNCATE = 8, GUARD_REMOVE = 9, GUARD_RMDIR = 10, GUARD_CHMOD = 11, GUARD_READDIR = 12, GUARD_STAT = 13
@@ -149,7 +168,15 @@ enum {
     GUARD_STOP_LISTING = 7     /* a listing that lacks a child, has one twice or one that is not there, or is malformed */
 };
 
-/* The archive's entries. A slice is a pointer and a length; use the functions below, which know the guard's length. */
+/* The archive's entries: what a binding of another language calls; a C program uses the functions below, which know the
+ * guard's length. A slice is a pointer and a length. By the C convention of x86-64, a guard_outcome is given back through
+ * memory: int (4 bytes, 4 of padding), uint64_t, size_t.
+ *
+ * - `memory` is any GUARD_MEMORY_LENGTH bytes or more, of no alignment; what lies behind stays as it was. Of less, every
+ *   entry is refused GUARD_SHORT_BUFFER. `digest` of a save is 32 bytes.
+ * - A runtime that moves memory must hold what it lends still until the entry is back. No entry calls back, allocates,
+ *   blocks or keeps a pointer.
+ * - examples/python and examples/rust are such bindings. */
 guard_outcome guard_entry_fresh(uint8_t *memory, size_t memory_length);
 guard_outcome guard_entry_call(uint8_t *memory, size_t memory_length, const uint8_t *call, size_t length, uint8_t *answer,
                                size_t answer_length, uint8_t *request, size_t request_length);
@@ -159,23 +186,27 @@ guard_outcome guard_entry_save(uint8_t *memory, size_t memory_length, uint8_t *i
 guard_outcome guard_entry_load(uint8_t *memory, size_t memory_length, const uint8_t *image, size_t length, const uint8_t *digest,
                                size_t digest_length);
 
+/* GUARD_VERSION, of whoever has compiled this: a program that calls the library's may compare the two. */
+GUARD_FUNCTION const char *guard_version(void) { return GUARD_VERSION; }
+
 /* Makes a guard of any bytes: it holds the root, a directory with id 1 and mode 7, and nothing else. A guard of zeros, as a static one is before this,
- * is a stopped one: everything is refused GUARD_STOPPED_FOR_GOOD. */
-static inline void guard_fresh(guard *g)
+ * is a stopped one: everything is refused GUARD_STOPPED_FOR_GOOD. Of other bytes that were never made fresh little is
+ * promised: each function ends, and reads and writes nothing that is not lent to it (13.1). */
+GUARD_FUNCTION void guard_fresh(guard *g)
 {
     (void)guard_entry_fresh(g->memory, sizeof g->memory);
 }
 
 /* A call of `length` bytes, see above. Both buffers are lent with every call and reply, and must have their least lengths. */
-static inline guard_outcome guard_call(guard *g, const uint8_t *call, size_t length, uint8_t *answer, size_t answer_length,
-                                       uint8_t *request, size_t request_length)
+GUARD_FUNCTION guard_outcome guard_call(guard *g, const uint8_t *call, size_t length, uint8_t *answer, size_t answer_length,
+                                        uint8_t *request, size_t request_length)
 {
     return guard_entry_call(g->memory, sizeof g->memory, call, length, answer, answer_length, request, request_length);
 }
 
 /* The host's reply to the pending request. */
-static inline guard_outcome guard_reply(guard *g, const uint8_t *reply, size_t length, uint8_t *answer, size_t answer_length,
-                                        uint8_t *request, size_t request_length)
+GUARD_FUNCTION guard_outcome guard_reply(guard *g, const uint8_t *reply, size_t length, uint8_t *answer, size_t answer_length,
+                                         uint8_t *request, size_t request_length)
 {
     return guard_entry_reply(g->memory, sizeof g->memory, reply, length, answer, answer_length, request, request_length);
 }
@@ -184,14 +215,14 @@ static inline guard_outcome guard_reply(guard *g, const uint8_t *reply, size_t l
  * image that is longer than the buffer is refused GUARD_SHORT_BUFFER. A save that is refused writes nothing. Once the save is
  * done, the image may be copied anywhere, to the host too. The digest must be kept where the host cannot change it: whoever chooses the digest chooses
  * which files the next guard believes in. */
-static inline guard_outcome guard_save(guard *g, uint8_t *image, size_t image_length, uint8_t digest[GUARD_DIGEST_LENGTH])
+GUARD_FUNCTION guard_outcome guard_save(guard *g, uint8_t *image, size_t image_length, uint8_t digest[GUARD_DIGEST_LENGTH])
 {
     return guard_entry_save(g->memory, sizeof g->memory, image, image_length, digest);
 }
 
 /* Takes an image back, in place of all that the guard holds, if it has this digest: that of the last save. No file may be open. Done with 0. An image
  * that the host kept is copied to memory that the host cannot write first. */
-static inline guard_outcome guard_load(guard *g, const uint8_t *image, size_t length, const uint8_t *digest, size_t digest_length)
+GUARD_FUNCTION guard_outcome guard_load(guard *g, const uint8_t *image, size_t length, const uint8_t *digest, size_t digest_length)
 {
     return guard_entry_load(g->memory, sizeof g->memory, image, length, digest, digest_length);
 }

@@ -35,21 +35,21 @@ enum { GUARD_MODE_READ = 4, GUARD_MODE_WRITE = 2, GUARD_MODE_SEARCH = 1, GUARD_M
 
 /* ---- numbers in bytes */
 
-static inline void guard_put_number(uint8_t *to, uint64_t x, size_t bytes)
+GUARD_FUNCTION void guard_put_number(uint8_t *to, uint64_t x, size_t bytes)
 {
     for (size_t i = 0; i < bytes; i++)
         to[i] = (uint8_t)(x >> 8 * i);
 }
 
-static inline uint32_t guard_get_number(const uint8_t *from)
+GUARD_FUNCTION uint32_t guard_get_number(const uint8_t *from)
 {
     return (uint32_t)from[0] | (uint32_t)from[1] << 8 | (uint32_t)from[2] << 16 | (uint32_t)from[3] << 24;
 }
 
-static inline size_t guard_smaller(size_t a, size_t b) { return a < b ? a : b; }
+GUARD_FUNCTION size_t guard_smaller(size_t a, size_t b) { return a < b ? a : b; }
 
 /* A null pointer with length 0 is an empty string of bytes, which memcpy does not allow. */
-static inline void guard_copy(void *to, const void *from, size_t length)
+GUARD_FUNCTION void guard_copy(void *to, const void *from, size_t length)
 {
     if (length > 0)
         memcpy(to, from, length);
@@ -61,7 +61,7 @@ static inline void guard_copy(void *to, const void *from, size_t length)
  * handed in as a call of no bytes: the guard refuses it GUARD_MALFORMED, as it would the whole; but a path that has no room there, which is over
  * 4,000 bytes long, it would call too long. */
 
-static inline size_t guard_path_call(uint8_t *to, size_t room, uint8_t kind, const char *path)
+GUARD_FUNCTION size_t guard_path_call(uint8_t *to, size_t room, uint8_t kind, const char *path)
 {
     size_t n = strlen(path);
     if (room < 1 || n > room - 1)
@@ -72,7 +72,7 @@ static inline size_t guard_path_call(uint8_t *to, size_t room, uint8_t kind, con
 }
 
 /* With a mode or rights, at most `most`. */
-static inline size_t guard_path_call_with(uint8_t *to, size_t room, uint8_t kind, const char *path, unsigned field, unsigned most)
+GUARD_FUNCTION size_t guard_path_call_with(uint8_t *to, size_t room, uint8_t kind, const char *path, unsigned field, unsigned most)
 {
     size_t n = strlen(path);
     if (field > most || room < 2 || n > room - 2)
@@ -84,7 +84,7 @@ static inline size_t guard_path_call_with(uint8_t *to, size_t room, uint8_t kind
 }
 
 /* With a number of so many bytes, or none. */
-static inline size_t guard_handle_call(uint8_t *to, size_t room, uint8_t kind, uint32_t handle, uint64_t x, size_t bytes)
+GUARD_FUNCTION size_t guard_handle_call(uint8_t *to, size_t room, uint8_t kind, uint32_t handle, uint64_t x, size_t bytes)
 {
     if (room < 5 + bytes)
         return 0;
@@ -94,37 +94,37 @@ static inline size_t guard_handle_call(uint8_t *to, size_t room, uint8_t kind, u
     return 5 + bytes;
 }
 
-static inline size_t guard_create_call(uint8_t *to, size_t room, const char *path, unsigned mode)
+GUARD_FUNCTION size_t guard_create_call(uint8_t *to, size_t room, const char *path, unsigned mode)
 {
     return guard_path_call_with(to, room, GUARD_CREATE, path, mode, GUARD_MODE_ALL);
 }
 
-static inline size_t guard_mkdir_call(uint8_t *to, size_t room, const char *path, unsigned mode)
+GUARD_FUNCTION size_t guard_mkdir_call(uint8_t *to, size_t room, const char *path, unsigned mode)
 {
     return guard_path_call_with(to, room, GUARD_MKDIR, path, mode, GUARD_MODE_ALL);
 }
 
-static inline size_t guard_open_call(uint8_t *to, size_t room, const char *path, unsigned rights)
+GUARD_FUNCTION size_t guard_open_call(uint8_t *to, size_t room, const char *path, unsigned rights)
 {
     return rights == 0 ? 0 : guard_path_call_with(to, room, GUARD_OPEN, path, rights, GUARD_RIGHT_BOTH);
 }
 
-static inline size_t guard_close_call(uint8_t *to, size_t room, uint32_t handle)
+GUARD_FUNCTION size_t guard_close_call(uint8_t *to, size_t room, uint32_t handle)
 {
     return guard_handle_call(to, room, GUARD_CLOSE, handle, 0, 0);
 }
 
-static inline size_t guard_seek_call(uint8_t *to, size_t room, uint32_t handle, uint64_t position)
+GUARD_FUNCTION size_t guard_seek_call(uint8_t *to, size_t room, uint32_t handle, uint64_t position)
 {
     return guard_handle_call(to, room, GUARD_SEEK, handle, position, 8);
 }
 
-static inline size_t guard_read_call(uint8_t *to, size_t room, uint32_t handle, size_t count)
+GUARD_FUNCTION size_t guard_read_call(uint8_t *to, size_t room, uint32_t handle, size_t count)
 {
     return count > GUARD_TRANSFER_LENGTH ? 0 : guard_handle_call(to, room, GUARD_READ, handle, count, 4);
 }
 
-static inline size_t guard_write_call(uint8_t *to, size_t room, uint32_t handle, const void *bytes, size_t length)
+GUARD_FUNCTION size_t guard_write_call(uint8_t *to, size_t room, uint32_t handle, const void *bytes, size_t length)
 {
     if (length > GUARD_TRANSFER_LENGTH || room < 5 + length)
         return 0;
@@ -132,21 +132,21 @@ static inline size_t guard_write_call(uint8_t *to, size_t room, uint32_t handle,
     return 5 + length;
 }
 
-static inline size_t guard_truncate_call(uint8_t *to, size_t room, uint32_t handle, uint64_t size)
+GUARD_FUNCTION size_t guard_truncate_call(uint8_t *to, size_t room, uint32_t handle, uint64_t size)
 {
     return guard_handle_call(to, room, GUARD_TRUNCATE, handle, size, 8);
 }
 
-static inline size_t guard_remove_call(uint8_t *to, size_t room, const char *path) { return guard_path_call(to, room, GUARD_REMOVE, path); }
-static inline size_t guard_rmdir_call(uint8_t *to, size_t room, const char *path) { return guard_path_call(to, room, GUARD_RMDIR, path); }
+GUARD_FUNCTION size_t guard_remove_call(uint8_t *to, size_t room, const char *path) { return guard_path_call(to, room, GUARD_REMOVE, path); }
+GUARD_FUNCTION size_t guard_rmdir_call(uint8_t *to, size_t room, const char *path) { return guard_path_call(to, room, GUARD_RMDIR, path); }
 
-static inline size_t guard_chmod_call(uint8_t *to, size_t room, const char *path, unsigned mode)
+GUARD_FUNCTION size_t guard_chmod_call(uint8_t *to, size_t room, const char *path, unsigned mode)
 {
     return guard_path_call_with(to, room, GUARD_CHMOD, path, mode, GUARD_MODE_ALL);
 }
 
-static inline size_t guard_readdir_call(uint8_t *to, size_t room, const char *path) { return guard_path_call(to, room, GUARD_READDIR, path); }
-static inline size_t guard_stat_call(uint8_t *to, size_t room, const char *path) { return guard_path_call(to, room, GUARD_STAT, path); }
+GUARD_FUNCTION size_t guard_readdir_call(uint8_t *to, size_t room, const char *path) { return guard_path_call(to, room, GUARD_READDIR, path); }
+GUARD_FUNCTION size_t guard_stat_call(uint8_t *to, size_t room, const char *path) { return guard_path_call(to, room, GUARD_STAT, path); }
 
 /* ---- what a stat and a readdir that are done have in their answer (5.5) */
 
@@ -156,7 +156,7 @@ typedef struct { uint32_t id; uint8_t kind, mode; uint32_t size; } guard_stat;
 typedef struct { uint32_t id; uint8_t kind, name_length; const char *name; } guard_dirent;
 
 /* 1, or 0 where these bytes are no stat. */
-static inline int guard_get_stat(const uint8_t *bytes, size_t length, guard_stat *s)
+GUARD_FUNCTION int guard_get_stat(const uint8_t *bytes, size_t length, guard_stat *s)
 {
     if (length != GUARD_STAT_LENGTH)
         return 0;
@@ -168,7 +168,7 @@ static inline int guard_get_stat(const uint8_t *bytes, size_t length, guard_stat
 }
 
 /* The entry that begins at `*at`, which is 0 at first and then moves behind it: 1, or 0 where no whole entry is left. */
-static inline int guard_get_dirent(const uint8_t *listing, size_t length, size_t *at, guard_dirent *e)
+GUARD_FUNCTION int guard_get_dirent(const uint8_t *listing, size_t length, size_t *at, guard_dirent *e)
 {
     const uint8_t *from;
     if (*at > length || length - *at < 6 || length - *at - 6 < listing[*at + 5])
@@ -184,14 +184,14 @@ static inline int guard_get_dirent(const uint8_t *listing, size_t length, size_t
 
 /* ---- paths (3) */
 
-static inline int guard_is_name(const char *name, size_t length)
+GUARD_FUNCTION int guard_is_name(const char *name, size_t length)
 {
     if (length < 1 || length > GUARD_NAME_LENGTH || memchr(name, 0, length) || memchr(name, '/', length))
         return 0;
     return !(name[0] == '.' && (length == 1 || (length == 2 && name[1] == '.')));
 }
 
-static inline int guard_is_path(const char *path, size_t length)
+GUARD_FUNCTION int guard_is_path(const char *path, size_t length)
 {
     size_t at = 0;
     if (length < 1 || length > GUARD_PATH_LENGTH || path[0] != '/')
@@ -219,14 +219,14 @@ typedef struct {
     const uint8_t *bytes; /* of a store: the page */
 } guard_request;
 
-static inline int guard_get_path(const uint8_t *bytes, size_t length, guard_request *r)
+GUARD_FUNCTION int guard_get_path(const uint8_t *bytes, size_t length, guard_request *r)
 {
     r->path = (const char *)bytes;
     r->path_length = length;
     return guard_is_path(r->path, length);
 }
 
-static inline int guard_get_mode_and_path(const uint8_t *bytes, size_t length, guard_request *r)
+GUARD_FUNCTION int guard_get_mode_and_path(const uint8_t *bytes, size_t length, guard_request *r)
 {
     int is_open = r->kind == GUARD_OPEN;
     if (length < 1 || (is_open && bytes[0] < GUARD_RIGHT_READ) || bytes[0] > (is_open ? GUARD_RIGHT_BOTH : (int)GUARD_MODE_ALL))
@@ -235,7 +235,7 @@ static inline int guard_get_mode_and_path(const uint8_t *bytes, size_t length, g
     return guard_get_path(bytes + 1, length - 1, r);
 }
 
-static inline int guard_get_descriptor(const uint8_t *bytes, size_t length, guard_request *r)
+GUARD_FUNCTION int guard_get_descriptor(const uint8_t *bytes, size_t length, guard_request *r)
 {
     int paged = r->kind == GUARD_FETCH || r->kind == GUARD_STORE, sized = r->kind == GUARD_CUT || r->kind == GUARD_STORE;
     size_t n = 4 + (paged ? 4U : 0U) + (sized ? 4U : 0U);
@@ -249,7 +249,7 @@ static inline int guard_get_descriptor(const uint8_t *bytes, size_t length, guar
 }
 
 /* 1, or 0 where no guard sends these bytes: then only the kind can be relied upon. */
-static inline int guard_get_request(const uint8_t *bytes, size_t length, guard_request *r)
+GUARD_FUNCTION int guard_get_request(const uint8_t *bytes, size_t length, guard_request *r)
 {
     memset(r, 0, sizeof *r);
     if (length < 1)
@@ -267,7 +267,7 @@ static inline int guard_get_request(const uint8_t *bytes, size_t length, guard_r
  *
  * A host that cannot obey replies what is wrong: a negative status or descriptor, the id 0. So values are not judged here. */
 
-static inline size_t guard_status_reply(uint8_t *to, size_t room, int32_t status)
+GUARD_FUNCTION size_t guard_status_reply(uint8_t *to, size_t room, int32_t status)
 {
     if (room < 4)
         return 0;
@@ -275,9 +275,9 @@ static inline size_t guard_status_reply(uint8_t *to, size_t room, int32_t status
     return 4;
 }
 
-static inline size_t guard_descriptor_reply(uint8_t *to, size_t room, int32_t descriptor) { return guard_status_reply(to, room, descriptor); }
+GUARD_FUNCTION size_t guard_descriptor_reply(uint8_t *to, size_t room, int32_t descriptor) { return guard_status_reply(to, room, descriptor); }
 
-static inline size_t guard_id_reply(uint8_t *to, size_t room, uint32_t id)
+GUARD_FUNCTION size_t guard_id_reply(uint8_t *to, size_t room, uint32_t id)
 {
     if (room < 4)
         return 0;
@@ -286,7 +286,7 @@ static inline size_t guard_id_reply(uint8_t *to, size_t room, uint32_t id)
 }
 
 /* As many bytes of the page as the file has, and zeros behind them. */
-static inline size_t guard_page_reply(uint8_t *to, size_t room, const void *bytes, size_t length)
+GUARD_FUNCTION size_t guard_page_reply(uint8_t *to, size_t room, const void *bytes, size_t length)
 {
     if (length > GUARD_PAGE_LENGTH || room < GUARD_PAGE_LENGTH)
         return 0;
@@ -295,7 +295,7 @@ static inline size_t guard_page_reply(uint8_t *to, size_t room, const void *byte
     return GUARD_PAGE_LENGTH;
 }
 
-static inline size_t guard_stat_reply(uint8_t *to, size_t room, const guard_stat *s)
+GUARD_FUNCTION size_t guard_stat_reply(uint8_t *to, size_t room, const guard_stat *s)
 {
     if (room < GUARD_STAT_LENGTH)
         return 0;
@@ -307,7 +307,7 @@ static inline size_t guard_stat_reply(uint8_t *to, size_t room, const guard_stat
 }
 
 /* One entry more behind the `length` bytes that the listing has: how long it is then. An empty directory's has none and no bytes. */
-static inline size_t guard_dirent_reply(uint8_t *listing, size_t room, size_t length, const guard_dirent *e)
+GUARD_FUNCTION size_t guard_dirent_reply(uint8_t *listing, size_t room, size_t length, const guard_dirent *e)
 {
     uint8_t *to;
     if (length > room || room - length < 6 + (size_t)e->name_length || e->name_length < 1 || e->name_length > GUARD_NAME_LENGTH)
@@ -323,7 +323,7 @@ static inline size_t guard_dirent_reply(uint8_t *listing, size_t room, size_t le
 /* ---- in words: never null, and nothing to be freed */
 
 /* The number of a refusal (7.1): its word in the requirements, and what it says. */
-static inline const char *guard_number_text(uint64_t number)
+GUARD_FUNCTION const char *guard_number_text(uint64_t number)
 {
     switch (number) {
     case GUARD_STOPPED_FOR_GOOD: return "stopped: a reply was wrong, and the guard works no more";
@@ -350,7 +350,7 @@ static inline const char *guard_number_text(uint64_t number)
 }
 
 /* The reason of a stop (5.10). */
-static inline const char *guard_stop_text(uint64_t reason)
+GUARD_FUNCTION const char *guard_stop_text(uint64_t reason)
 {
     switch (reason) {
     case GUARD_STOP_LENGTH: return "length: the reply has the wrong one";
@@ -364,7 +364,7 @@ static inline const char *guard_stop_text(uint64_t reason)
     }
 }
 
-static inline const char *guard_call_name(int kind)
+GUARD_FUNCTION const char *guard_call_name(int kind)
 {
     switch (kind) {
     case GUARD_CREATE: return "create";
@@ -384,7 +384,7 @@ static inline const char *guard_call_name(int kind)
     }
 }
 
-static inline const char *guard_request_name(int kind)
+GUARD_FUNCTION const char *guard_request_name(int kind)
 {
     switch (kind) {
     case GUARD_FETCH: return "fetch";
@@ -395,7 +395,7 @@ static inline const char *guard_request_name(int kind)
     }
 }
 
-static inline const char *guard_outcome_name(int kind)
+GUARD_FUNCTION const char *guard_outcome_name(int kind)
 {
     switch (kind) {
     case GUARD_DONE: return "done";
@@ -422,7 +422,7 @@ typedef struct guard_client {
 } guard_client;
 
 /* A client with a fresh guard. */
-static inline void guard_client_fresh(guard_client *c, guard *g)
+GUARD_FUNCTION void guard_client_fresh(guard_client *c, guard *g)
 {
     guard_fresh(g);
     c->g = g;
@@ -431,7 +431,7 @@ static inline void guard_client_fresh(guard_client *c, guard *g)
 }
 
 /* Copies what the host has to `copy`, at most `longest` bytes: of more than that, whatever the host claims, as one byte too many. */
-static inline size_t guard_client_copy(guard_client *c, const uint8_t *from, size_t length, size_t longest)
+GUARD_FUNCTION size_t guard_client_copy(guard_client *c, const uint8_t *from, size_t length, size_t longest)
 {
     guard_copy(c->copy, from, guard_smaller(length, longest));
     c->copy[longest] = 0;
@@ -439,13 +439,13 @@ static inline size_t guard_client_copy(guard_client *c, const uint8_t *from, siz
 }
 
 /* The request buffer that the guard is lent: where the host's is too short, so is this one, and the guard says so. */
-static inline size_t guard_client_room(const uint8_t *request, size_t room)
+GUARD_FUNCTION size_t guard_client_room(const uint8_t *request, size_t room)
 {
     return request ? guard_smaller(room, GUARD_REQUEST_LENGTH) : (size_t)GUARD_REQUEST_LENGTH;
 }
 
 /* Keeps what an outcome says, and copies a request out. */
-static inline guard_outcome guard_client_keep(guard_client *c, guard_outcome o, uint8_t *request)
+GUARD_FUNCTION guard_outcome guard_client_keep(guard_client *c, guard_outcome o, uint8_t *request)
 {
     if (o.kind == GUARD_ASK && request)
         memcpy(request, c->request, o.length);
@@ -458,7 +458,7 @@ static inline guard_outcome guard_client_keep(guard_client *c, guard_outcome o, 
 
 /* A call. A request is copied to the front of `request`, which the host may write, with at least GUARD_REQUEST_LENGTH bytes; where that is null,
  * it stands in c->request alone. */
-static inline guard_outcome guard_client_call(guard_client *c, const uint8_t *call, size_t length, uint8_t *request, size_t room)
+GUARD_FUNCTION guard_outcome guard_client_call(guard_client *c, const uint8_t *call, size_t length, uint8_t *request, size_t room)
 {
     guard_outcome o = guard_call(c->g, call, length, c->answer, sizeof c->answer, c->request, guard_client_room(request, room));
     return guard_client_keep(c, o, request);
@@ -466,7 +466,7 @@ static inline guard_outcome guard_client_call(guard_client *c, const uint8_t *ca
 
 /* The host's reply, in memory that the host may write. Of a reply that is claimed to be longer than GUARD_REPLY_LENGTH, as many bytes are read, and
  * the guard is told that it is too long. */
-static inline guard_outcome guard_client_reply(guard_client *c, const uint8_t *reply, size_t length, uint8_t *request, size_t room)
+GUARD_FUNCTION guard_outcome guard_client_reply(guard_client *c, const uint8_t *reply, size_t length, uint8_t *request, size_t room)
 {
     size_t n = guard_client_copy(c, reply, length, GUARD_REPLY_LENGTH);
     guard_outcome o = guard_reply(c->g, c->copy, n, c->answer, sizeof c->answer, c->request, guard_client_room(request, room));
@@ -474,7 +474,7 @@ static inline guard_outcome guard_client_reply(guard_client *c, const uint8_t *r
 }
 
 /* A save whose image goes to memory that the host may write. The digest may not lie there. */
-static inline guard_outcome guard_client_save(guard_client *c, uint8_t *image, size_t room, uint8_t digest[GUARD_DIGEST_LENGTH])
+GUARD_FUNCTION guard_outcome guard_client_save(guard_client *c, uint8_t *image, size_t room, uint8_t digest[GUARD_DIGEST_LENGTH])
 {
     guard_outcome o = guard_save(c->g, c->copy, guard_smaller(room, GUARD_IMAGE_LENGTH), digest);
     if (o.kind == GUARD_DONE)
@@ -484,7 +484,7 @@ static inline guard_outcome guard_client_save(guard_client *c, uint8_t *image, s
 
 /* A load of an image in memory that the host may write. Of one that is claimed to be longer than GUARD_IMAGE_LENGTH, as many bytes are read; it
  * is no save's, and refused GUARD_WRONG_DIGEST. */
-static inline guard_outcome guard_client_load(guard_client *c, const uint8_t *image, size_t length, const uint8_t *digest, size_t digest_length)
+GUARD_FUNCTION guard_outcome guard_client_load(guard_client *c, const uint8_t *image, size_t length, const uint8_t *digest, size_t digest_length)
 {
     size_t n = guard_client_copy(c, image, length, GUARD_IMAGE_LENGTH);
     return guard_load(c->g, c->copy, n, digest, digest_length);

@@ -2,12 +2,14 @@
 
 #include <string.h>
 
-void client_begin(client *c, client_host *ask, void *with)
+void client_begin(client *c, client_host *ask, void *with, FILE *trace)
 {
     memset(c, 0, sizeof *c);
     c->ask = ask;
     c->host = with;
+    c->trace = trace;
     guard_client_fresh(&c->layer, &c->guard);
+    trace_fresh(trace);
 }
 
 size_t client_ask_host(void *h, const uint8_t *request, size_t length, uint8_t reply[HOST_REPLY_LENGTH])
@@ -17,9 +19,15 @@ size_t client_ask_host(void *h, const uint8_t *request, size_t length, uint8_t r
 
 guard_outcome client_call(client *c, const uint8_t *call, size_t length)
 {
+    trace_event(c->trace, 'c', call, length);
     guard_outcome o = guard_client_call(&c->layer, call, length, NULL, 0);
-    while (o.kind == GUARD_ASK)
-        o = guard_client_reply(&c->layer, c->reply, c->ask(c->host, c->layer.request, o.length, c->reply), NULL, 0);
+    while (o.kind == GUARD_ASK) {
+        trace_outcome(c->trace, o, c->layer.request);
+        size_t n = c->ask(c->host, c->layer.request, o.length, c->reply);
+        trace_event(c->trace, 'r', c->reply, n);
+        o = guard_client_reply(&c->layer, c->reply, n, NULL, 0);
+    }
+    trace_outcome(c->trace, o, c->layer.answer);
     return o;
 }
 

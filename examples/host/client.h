@@ -1,5 +1,5 @@
-/* A client of the guard: each call in one function, which builds the call and carries requests and replies between guard and host until the call is
- * done, refused or stopped. */
+/* A client of the guard: each call in one function, which builds the call and carries requests and replies between
+ * guard and host until the call is done, refused or stopped. */
 #ifndef CLIENT_H
 #define CLIENT_H
 
@@ -8,6 +8,7 @@
 
 #include "guard_client.h"
 #include "host.h"
+#include "trace.h"
 
 /* Whoever obeys requests: the host's own function, or one that listens in between. */
 typedef size_t client_host(void *host, const uint8_t *request, size_t length, uint8_t reply[HOST_REPLY_LENGTH]);
@@ -17,13 +18,14 @@ typedef struct {
     guard_client layer; /* has the answer of a call that is done, and copies what the host can write: here, the reply */
     client_host *ask;
     void *host;
+    FILE *trace; /* where all that goes in and comes out is written (trace.h), or null */
     uint8_t reply[HOST_REPLY_LENGTH];
     uint8_t call[GUARD_CALL_LENGTH]; /* the last call's bytes; none where it could not be built, which the guard refuses */
     size_t call_length;
 } client;
 
-/* A client with a fresh guard. */
-void client_begin(client *c, client_host *ask, void *with);
+/* A client with a fresh guard; `trace` may be null. */
+void client_begin(client *c, client_host *ask, void *with, FILE *trace);
 
 /* The host of host.h, as a client_host. */
 size_t client_ask_host(void *host, const uint8_t *request, size_t length, uint8_t reply[HOST_REPLY_LENGTH]);

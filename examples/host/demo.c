@@ -11,16 +11,17 @@
 
 #include "client.h"
 #include "disk.h"
+#include "saves.h"
 
 /* The host's part of the directory and the client's own, which the host cannot reach. */
 #define LOG "host/tree/cellar/log"
 #define NOTE "host/tree/cellar/note"
-#define IMAGE "host/image"
-#define OLD_IMAGE "host/image.old"
+#define OLD_IMAGE "host/image.0" /* of the first save; the second writes the other */
 #define DIGEST "client/digest"
 
 typedef struct {
     client client;
+    saves saves;
     host *host;
     char asked[128]; /* what the guard has asked for since the last line */
     int same;        /* the host gives out descriptor 0 whatever is asked */
@@ -37,7 +38,8 @@ static size_t ask(void *to, const uint8_t *request, size_t length, uint8_t reply
     size_t n = strlen(s->asked);
     guard_get_request(request, length, &r);
     int paged = r.kind == GUARD_FETCH || r.kind == GUARD_STORE;
-    snprintf(s->asked + n, sizeof s->asked - n, paged ? "%s%s %d" : "%s%s", n ? " " : "", guard_request_name(r.kind), (int)r.page);
+    snprintf(s->asked + n, sizeof s->asked - n, paged ? "%s%s %d" : "%s%s", n ? " " : "", guard_request_name(r.kind),
+        (int)r.page);
     n = host_reply(s->host, request, length, reply);
     if (s->same && r.kind == GUARD_OPEN)
         memset(reply, 0, n);
@@ -85,21 +87,42 @@ static void show_listing(const stage *s, size_t length)
 {
     guard_dirent e;
     for (size_t at = 0; guard_get_dirent(s->client.layer.answer, length, &at, &e);)
-        printf("    > id %u, a %s, %.*s\n", (unsigned)e.id, e.kind == GUARD_FILE ? "file" : "directory", e.name_length, e.name);
+        printf("    > id %u, a %s, %.*s\n", (unsigned)e.id, e.kind == GUARD_FILE ? "file" : "directory",
+            e.name_length, e.name);
 }
 
-/* ---- save and load */
+/* ---- save and start */
+
+/* This host keeps one tree alone, so it has nothing to go back to. */
+static int sync_host(void *h, const uint8_t *digest)
+{
+    (void)digest;
+    return host_sync(h);
+}
+
+static int start_host(void *h, const uint8_t *digest)
+{
+    (void)h, (void)digest;
+    return 0;
+}
 
 static void save(stage *s)
 {
-    static uint8_t image[GUARD_IMAGE_LENGTH];
+    guard_outcome o = {GUARD_STOPPED, 0, 0};
+    if (saves_save(&s->saves, &s->client.layer, &o) < 0)
+        perror("save");
     uint8_t digest[GUARD_DIGEST_LENGTH];
-    host_sync(s->host);
-    guard_outcome o = guard_client_save(&s->client.layer, image, sizeof image, digest);
+    disk_read(DIGEST, 0, digest, sizeof digest);
     row(s, o, GUARD_DONE, o.number, "save");
-    disk_new(IMAGE, image, o.length);
-    disk_new(DIGEST, digest, sizeof digest);
-    printf("    the image, %zu bytes, may lie with the host; its digest is what the client keeps: %s\n", o.length, digits(digest, sizeof digest));
+    printf("    the image, %zu bytes, may lie with the host; its digest is what the client keeps: %s\n", o.length,
+           digits(digest, sizeof digest));
+}
+
+/* The last save's image. */
+static void start(stage *s)
+{
+    guard_outcome o = {saves_start(&s->saves, &s->client.layer) == SAVES_LOADED ? GUARD_DONE : GUARD_STOPPED, 0, 0};
+    row(s, o, GUARD_DONE, 0, "load the image");
 }
 
 static void load(stage *s, const char *file, int kind, uint64_t number)
@@ -108,7 +131,9 @@ static void load(stage *s, const char *file, int kind, uint64_t number)
     uint8_t digest[GUARD_DIGEST_LENGTH];
     size_t length = disk_read(file, 0, image, sizeof image);
     size_t digest_length = disk_read(DIGEST, 0, digest, sizeof digest);
-    row(s, guard_client_load(&s->client.layer, image, length, digest, digest_length), kind, number, "load the image");
+    guard_outcome o = guard_client_load(&s->client.layer, image, length, digest, digest_length);
+    trace_load(s->client.trace, image, length, digest, digest_length, o);
+    row(s, o, kind, number, "load the image");
 }
 
 /* ---- the client's work */
@@ -136,6 +161,8 @@ static void first_life(stage *s)
 {
     static const char note[] = "The key is under the third cask.\n";
     client *c = &s->client;
+    if (saves_start(&s->saves, &c->layer) != SAVES_FRESH)
+        s->wrong = 1;
     make_files(s);
     row(s, client_create(c, "/cellar/note", 7), GUARD_DONE, 4, "create /cellar/note, mode 7");
     row(s, client_open(c, "/cellar/note", 2), GUARD_DONE, 4, "open /cellar/note, write");
@@ -156,13 +183,12 @@ static void first_life(stage *s)
 static void second_life(stage *s)
 {
     client *c = &s->client;
-    load(s, IMAGE, GUARD_DONE, 0);
+    start(s);
     row(s, client_open(c, "/cellar/note", 3), GUARD_DONE, 4, "open /cellar/note, read and write");
     row(s, client_read(c, 4, 4096), GUARD_DONE, 33, "read up to 4,096 bytes");
     show_text(s, 33);
     row(s, client_write(c, 4, "No: it is gone.\n", 16), GUARD_DONE, 16, "write on at the end");
     row(s, client_close(c, 4), GUARD_DONE, 0, "close");
-    disk_move(IMAGE, OLD_IMAGE);
     save(s);
 }
 
@@ -177,7 +203,7 @@ static void read_log(stage *s, int kind, uint64_t number)
 static void byte_changed(stage *s)
 {
     char byte;
-    load(s, IMAGE, GUARD_DONE, 0);
+    start(s);
     disk_read(LOG, 1500, &byte, 1);
     disk_write(LOG, 1500, "!", 1);
     read_log(s, GUARD_STOPPED, GUARD_STOP_PAGE);
@@ -188,7 +214,7 @@ static void byte_changed(stage *s)
 static void old_page(stage *s)
 {
     char page[GUARD_PAGE_LENGTH];
-    load(s, IMAGE, GUARD_DONE, 0);
+    start(s);
     disk_read(LOG, 0, page, sizeof page);
     row(s, client_open(&s->client, "/cellar/log", 3), GUARD_DONE, 3, "open /cellar/log, read and write");
     row(s, client_write(&s->client, 3, "day 001  cask 01  19.9 C\n", 25), GUARD_DONE, 25, "write 25 bytes");
@@ -199,7 +225,7 @@ static void old_page(stage *s)
 
 static void file_hidden(stage *s)
 {
-    load(s, IMAGE, GUARD_DONE, 0);
+    start(s);
     disk_move(NOTE, "aside");
     row(s, client_readdir(&s->client, "/cellar"), GUARD_STOPPED, GUARD_STOP_LISTING, "readdir /cellar");
     disk_move("aside", NOTE);
@@ -207,15 +233,16 @@ static void file_hidden(stage *s)
 
 static void same_descriptor(stage *s)
 {
-    load(s, IMAGE, GUARD_DONE, 0);
+    start(s);
     s->same = 1;
     row(s, client_open(&s->client, "/cellar/log", 1), GUARD_DONE, 3, "open /cellar/log, read");
-    row(s, client_open(&s->client, "/cellar/note", 2), GUARD_STOPPED, GUARD_STOP_DESCRIPTOR, "open /cellar/note, write");
+    row(s, client_open(&s->client, "/cellar/note", 2), GUARD_STOPPED, GUARD_STOP_DESCRIPTOR,
+        "open /cellar/note, write");
 }
 
 static void files_swapped(stage *s)
 {
-    load(s, IMAGE, GUARD_DONE, 0);
+    start(s);
     disk_swap(LOG, NOTE);
     read_log(s, GUARD_STOPPED, GUARD_STOP_PAGE);
     disk_swap(LOG, NOTE);
@@ -225,14 +252,15 @@ static void old_image(stage *s) { load(s, OLD_IMAGE, GUARD_REFUSED, GUARD_WRONG_
 
 static void untouched(stage *s)
 {
-    load(s, IMAGE, GUARD_DONE, 0);
+    start(s);
     read_log(s, GUARD_DONE, 2500);
 }
 
 /* ---- lives: each a process of its own, so that nothing goes on but what lies in files */
 
 static const struct { const char *title; void (*act)(stage *); } lives[] = {
-    {"The client makes files; the guard keeps names, sizes, modes and digests, and asks the host to keep the pages.", first_life},
+    {"The client makes files; the guard keeps names, sizes, modes and digests, and asks the host to keep the pages.",
+        first_life},
     {"The client is switched off and on: a new process, a fresh guard, and the image with the digest that the client kept.", second_life},
     {"Someone changes byte 1,500 of the log on the disk.", byte_changed},
     {"Someone puts an old page back, after the client has written a newer one.", old_page},
@@ -254,7 +282,10 @@ static int live(int number)
             perror("host");
             exit(2);
         }
-        client_begin(&s.client, ask, &s);
+        FILE *trace = getenv("GUARD_TRACE") ? fopen(getenv("GUARD_TRACE"), "a") : NULL;
+        client_begin(&s.client, ask, &s, trace);
+        s.saves = (saves){.images = "host", .own = "client", .sync = sync_host, .start = start_host, .host = s.host,
+            .trace = trace};
         lives[number].act(&s);
         host_close(s.host);
         exit(s.wrong);
@@ -274,7 +305,8 @@ int main(void)
         perror(place);
         return 2;
     }
-    printf("A guard of %d bytes for a client, and a host that keeps the files in %s/host/tree.\n", GUARD_MEMORY_LENGTH, place);
+    printf("A guard of %d bytes for a client, and a host that keeps the files in %s/host/tree.\n",
+        GUARD_MEMORY_LENGTH, place);
     printf("Each line: the call in words, its bytes, what the guard asks of the host, what comes back to the client.\n");
     for (size_t i = 0; i < sizeof lives / sizeof *lives; i++)
         wrong |= live((int)i);

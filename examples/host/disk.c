@@ -35,8 +35,6 @@ static void put(FILE *f, const char *file, const void *bytes, size_t length)
 
 void disk_write(const char *file, long at, const void *bytes, size_t length) { put(at_place(file, "r+b", at), file, bytes, length); }
 
-void disk_new(const char *file, const void *bytes, size_t length) { put(at_place(file, "wb", 0), file, bytes, length); }
-
 void disk_move(const char *from, const char *to) { need(!rename(from, to), from); }
 
 void disk_swap(const char *one, const char *other)

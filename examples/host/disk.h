@@ -7,7 +7,6 @@
 
 size_t disk_read(const char *file, long at, void *bytes, size_t length); /* how many there are */
 void disk_write(const char *file, long at, const void *bytes, size_t length);
-void disk_new(const char *file, const void *bytes, size_t length);
 void disk_move(const char *from, const char *to);
 void disk_swap(const char *one, const char *other);
 

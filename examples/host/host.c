@@ -1,4 +1,4 @@
-#define _GNU_SOURCE /* syncfs */
+#define _GNU_SOURCE /* syncfs, O_PATH */
 #include "host.h"
 
 #include <dirent.h>
@@ -11,6 +11,7 @@
 #include <unistd.h>
 
 #include "table.h"
+#include "whole.h"
 
 struct host {
     int tree;                     /* the directory */
@@ -23,31 +24,60 @@ typedef guard_request request;
 
 /* ---- replies */
 
-static size_t status(uint8_t *reply, int32_t x) { return guard_status_reply(reply, HOST_REPLY_LENGTH, x); }
+static size_t status_reply(uint8_t *reply, int32_t x) { return guard_status_reply(reply, HOST_REPLY_LENGTH, x); }
 
-/* The right reply to nothing: a status that is not asked for, a descriptor below 0, too short for a page, a stat or an entry. */
-static size_t failed(uint8_t *reply) { return status(reply, errno > 0 ? -errno : -EIO); }
+/* The right reply to nothing: a status that is not asked for, a descriptor below 0, too short for a page, a stat or
+ * an entry. */
+static size_t failed(uint8_t *reply) { return status_reply(reply, errno > 0 ? -errno : -EIO); }
 
 /* The same for create and mkdir, where every number but 0 might be an id. */
 static size_t no_id(uint8_t *reply) { return guard_id_reply(reply, HOST_REPLY_LENGTH, 0); }
 
 /* ---- nodes by path */
 
-/* A path of the guard as one from the tree's directory. */
-static const char *below(const char *path) { return path[1] ? path + 1 : "."; }
+/* The directory that the last component of a path stands in, open, and that component. No symbolic link is followed
+ * on the way: the guard knows of none, and one that came to the disk may lead anywhere. */
+static int reach(const host *h, const char *path, const char **name)
+{
+    char part[GUARD_NAME_LENGTH + 1];
+    int at = whole_open(h->tree, ".", O_PATH | O_DIRECTORY), next;
+    path++; /* behind the first "/" */
+    for (const char *slash; at >= 0 && (slash = strchr(path, '/')); path = slash + 1, at = next) {
+        snprintf(part, sizeof part, "%.*s", (int)(slash - path), path);
+        next = whole_open(at, part, O_PATH | O_DIRECTORY | O_NOFOLLOW);
+        whole_leave(at);
+    }
+    *name = *path ? path : ".";
+    return at;
+}
 
-/* The row of a node that is on the disk. One that came there without us, or as we were killed, has none: it gets a row now. */
+static int open_node(const host *h, const char *path, int flags)
+{
+    const char *name;
+    int at = reach(h, path, &name), file = at < 0 ? -1 : whole_open(at, name, flags | O_NOFOLLOW);
+    whole_leave(at);
+    return file;
+}
+
+static int look(const host *h, const char *path, struct stat *s)
+{
+    const char *name;
+    int at = reach(h, path, &name), status = at < 0 ? -1 : fstatat(at, name, s, AT_SYMLINK_NOFOLLOW);
+    whole_leave(at);
+    return status;
+}
+
+/* The row of a node that is on the disk. One that came there without us, or as we were killed, has none: it gets a
+ * row now. */
 static table_row *row_of(host *h, const char *path)
 {
     table_row *row = table_find(&h->table, path);
     return row ? row : table_add(&h->table, path, 0);
 }
 
-static uint8_t kind_of(const struct stat *s) { return S_ISREG(s->st_mode) ? GUARD_FILE : S_ISDIR(s->st_mode) ? GUARD_DIRECTORY : 0; }
-
-static int look(const host *h, const char *path, struct stat *s)
+static uint8_t kind_of(const struct stat *s)
 {
-    return fstatat(h->tree, below(path), s, AT_SYMLINK_NOFOLLOW);
+    return S_ISREG(s->st_mode) ? GUARD_FILE : S_ISDIR(s->st_mode) ? GUARD_DIRECTORY : 0;
 }
 
 /* The disk has a new node: its id. */
@@ -60,21 +90,28 @@ static size_t added(host *h, const request *r, uint8_t *reply)
 
 static size_t create(host *h, const request *r, uint8_t *reply)
 {
-    int file = openat(h->tree, below(r->path), O_RDWR | O_CREAT | O_EXCL | O_CLOEXEC, 0600);
-    return file < 0 || close(file) ? no_id(reply) : added(h, r, reply);
+    int file = open_node(h, r->path, O_RDWR | O_CREAT | O_EXCL);
+    whole_leave(file);
+    return file < 0 ? no_id(reply) : added(h, r, reply);
 }
 
 static size_t make_directory(host *h, const request *r, uint8_t *reply)
 {
-    return mkdirat(h->tree, below(r->path), 0700) ? no_id(reply) : added(h, r, reply);
+    const char *name;
+    int at = reach(h, r->path, &name), status = at < 0 ? -1 : mkdirat(at, name, 0700);
+    whole_leave(at);
+    return status ? no_id(reply) : added(h, r, reply);
 }
 
 static size_t removed(host *h, const request *r, int flag, uint8_t *reply)
 {
-    if (unlinkat(h->tree, below(r->path), flag))
+    const char *name;
+    int at = reach(h, r->path, &name), status = at < 0 ? -1 : unlinkat(at, name, flag);
+    whole_leave(at);
+    if (status)
         return failed(reply);
     table_remove(&h->table, r->path);
-    return table_write(&h->table) ? failed(reply) : status(reply, 0);
+    return table_write(&h->table) ? failed(reply) : status_reply(reply, 0);
 }
 
 static size_t change_mode(host *h, const request *r, uint8_t *reply)
@@ -84,7 +121,7 @@ static size_t change_mode(host *h, const request *r, uint8_t *reply)
     if (look(h, r->path, &s) || !(row = row_of(h, r->path)))
         return failed(reply);
     row->mode = r->mode;
-    return table_write(&h->table) ? failed(reply) : status(reply, 0);
+    return table_write(&h->table) ? failed(reply) : status_reply(reply, 0);
 }
 
 static size_t stat_node(host *h, const request *r, uint8_t *reply)
@@ -93,20 +130,23 @@ static size_t stat_node(host *h, const request *r, uint8_t *reply)
     const table_row *row;
     if (look(h, r->path, &s) || !(row = row_of(h, r->path)))
         return failed(reply);
-    guard_stat node = {row->id, kind_of(&s), row->mode, S_ISDIR(s.st_mode) ? 0 : s.st_size > UINT32_MAX ? UINT32_MAX : (uint32_t)s.st_size};
+    uint32_t size = S_ISDIR(s.st_mode) ? 0 : s.st_size > UINT32_MAX ? UINT32_MAX : (uint32_t)s.st_size;
+    guard_stat node = {row->id, kind_of(&s), row->mode, size};
     return guard_stat_reply(reply, HOST_REPLY_LENGTH, &node);
 }
 
 /* ---- listings */
 
 /* One entry of a directory put behind those of a listing: its length then, or 0 where it cannot be. */
-static size_t put_entry(host *h, const char *directory, const char *name, uint8_t *reply, size_t listed)
+static size_t put_entry(host *h, const char *directory, DIR *d, const char *name, uint8_t *reply, size_t listed)
 {
     char path[GUARD_PATH_LENGTH + 1];
     struct stat s;
     const table_row *row;
     int length = snprintf(path, sizeof path, "%s/%s", directory[1] ? directory : "", name);
-    if (length < 0 || (size_t)length >= sizeof path || look(h, path, &s) || !(row = row_of(h, path)))
+    if (length < 0 || (size_t)length >= sizeof path)
+        return 0;
+    if (fstatat(dirfd(d), name, &s, AT_SYMLINK_NOFOLLOW) || !(row = row_of(h, path)))
         return 0;
     guard_dirent e = {row->id, kind_of(&s), (uint8_t)strlen(name), name}; /* a name of the disk has at most 255 bytes */
     return guard_dirent_reply(reply, HOST_REPLY_LENGTH, listed, &e);
@@ -115,19 +155,31 @@ static size_t put_entry(host *h, const char *directory, const char *name, uint8_
 static size_t put_entries(host *h, const char *path, DIR *d, uint8_t *reply)
 {
     size_t length = 0;
-    for (struct dirent *e; (e = readdir(d));) {
+    errno = 0; /* which alone tells the end of a directory from one that cannot be read on */
+    for (struct dirent *e; (e = readdir(d)); errno = 0) {
         if (!strcmp(e->d_name, ".") || !strcmp(e->d_name, ".."))
             continue;
-        if ((length = put_entry(h, path, e->d_name, reply, length)) == 0)
+        if ((length = put_entry(h, path, d, e->d_name, reply, length)) == 0)
             return failed(reply);
     }
-    return length;
+    return errno ? failed(reply) : length;
+}
+
+/* Takes an open directory over, or closes it. */
+static DIR *entries_of(int file)
+{
+    DIR *d = NULL;
+    int tries = 0;
+    while (file >= 0 && !(d = fdopendir(file)) && whole_again(&tries))
+        ;
+    if (!d)
+        whole_leave(file);
+    return d;
 }
 
 static size_t list(host *h, const request *r, uint8_t *reply)
 {
-    int file = openat(h->tree, below(r->path), O_RDONLY | O_DIRECTORY | O_CLOEXEC);
-    DIR *d = file < 0 ? NULL : fdopendir(file);
+    DIR *d = entries_of(open_node(h, r->path, O_RDONLY | O_DIRECTORY));
     if (!d)
         return failed(reply);
     size_t length = put_entries(h, r->path, d, reply);
@@ -142,40 +194,27 @@ static size_t open_file(host *h, const request *r, uint8_t *reply)
     int d = 0;
     while (d < GUARD_DESCRIPTORS && h->files[d] >= 0)
         d++;
-    int file = openat(h->tree, below(r->path), O_RDWR | O_NOFOLLOW | O_CLOEXEC);
-    if (file < 0)
-        return failed(reply);
-    if (d == GUARD_DESCRIPTORS) {
-        close(file);
-        return status(reply, -EMFILE);
-    }
-    h->files[d] = file;
-    return status(reply, d);
+    if (d == GUARD_DESCRIPTORS)
+        return status_reply(reply, -EMFILE);
+    h->files[d] = open_node(h, r->path, O_RDWR);
+    return h->files[d] < 0 ? failed(reply) : status_reply(reply, d);
 }
 
 static int file_of(const host *h, const request *r) { return h->files[r->descriptor]; }
 
+/* Linux has closed a file whatever it says; where it was only interrupted, nothing is lost. */
 static size_t close_file(host *h, const request *r, uint8_t *reply)
 {
-    if (close(file_of(h, r)))
-        return failed(reply);
+    int file = file_of(h, r);
     h->files[r->descriptor] = -1;
-    return status(reply, 0);
+    return close(file) && errno != EINTR ? failed(reply) : status_reply(reply, 0);
 }
 
 static size_t fetch(host *h, const request *r, uint8_t *reply)
 {
-    size_t got = 0;
     memset(reply, 0, GUARD_PAGE_LENGTH);
-    while (got < GUARD_PAGE_LENGTH) {
-        ssize_t n = pread(file_of(h, r), reply + got, GUARD_PAGE_LENGTH - got, (off_t)r->page * GUARD_PAGE_LENGTH + (off_t)got);
-        if (n < 0)
-            return failed(reply);
-        if (n == 0)
-            break;
-        got += (size_t)n;
-    }
-    return GUARD_PAGE_LENGTH;
+    ssize_t n = whole_read(file_of(h, r), reply, GUARD_PAGE_LENGTH, (off_t)r->page * GUARD_PAGE_LENGTH);
+    return n < 0 ? failed(reply) : GUARD_PAGE_LENGTH;
 }
 
 /* A page is written as far as the file then reaches, so that the disk has no zeros behind its end. */
@@ -183,19 +222,14 @@ static size_t store(host *h, const request *r, uint8_t *reply)
 {
     off_t at = (off_t)r->page * GUARD_PAGE_LENGTH;
     off_t end = at + GUARD_PAGE_LENGTH < r->size ? at + GUARD_PAGE_LENGTH : r->size;
-    for (const uint8_t *bytes = r->bytes; at < end;) {
-        ssize_t n = pwrite(file_of(h, r), bytes, (size_t)(end - at), at);
-        if (n <= 0)
-            return failed(reply);
-        bytes += n;
-        at += n;
-    }
-    return ftruncate(file_of(h, r), r->size) ? failed(reply) : status(reply, GUARD_PAGE_LENGTH);
+    if (end > at && whole_write(file_of(h, r), r->bytes, (size_t)(end - at), at))
+        return failed(reply);
+    return whole_cut(file_of(h, r), r->size) ? failed(reply) : status_reply(reply, GUARD_PAGE_LENGTH);
 }
 
 static size_t cut(host *h, const request *r, uint8_t *reply)
 {
-    return ftruncate(file_of(h, r), r->size) ? failed(reply) : status(reply, 0);
+    return whole_cut(file_of(h, r), r->size) ? failed(reply) : status_reply(reply, 0);
 }
 
 /* ---- requests */
@@ -206,7 +240,7 @@ size_t host_reply(host *h, const uint8_t *bytes, size_t length, uint8_t reply[HO
     char path[GUARD_PATH_LENGTH + 1] = "";
     errno = 0;
     if (!guard_get_request(bytes, length, &r))
-        return status(reply, -EINVAL);
+        return status_reply(reply, -EINVAL);
     guard_copy(path, r.path, r.path_length);
     r.path = path;
     switch (r.kind) {
@@ -227,13 +261,49 @@ size_t host_reply(host *h, const uint8_t *bytes, size_t length, uint8_t reply[HO
 
 /* ---- start and end */
 
-/* Rows of nodes that are gone: a host that was killed had removed them. */
-static void forget_removed(host *h)
+/* Rows of nodes that are gone: a host that was killed had removed them. A node that cannot be looked at is not gone. */
+static int forget_removed(host *h)
 {
     struct stat s;
-    for (size_t i = h->table.count; i-- > 0;)
-        if (look(h, h->table.rows[i].path, &s))
-            table_remove(&h->table, h->table.rows[i].path);
+    for (size_t i = h->table.count; i-- > 0;) {
+        if (!look(h, h->table.rows[i].path, &s))
+            continue;
+        if (errno != ENOENT && errno != ENOTDIR && errno != ELOOP)
+            return -1;
+        table_remove(&h->table, h->table.rows[i].path);
+    }
+    return 0;
+}
+
+/* Whether a directory has no entries: 1, 0, or -1 and errno. */
+static int is_empty(int directory)
+{
+    int found = 0;
+    DIR *d = entries_of(whole_open(directory, ".", O_RDONLY | O_DIRECTORY));
+    if (!d)
+        return -1;
+    errno = 0;
+    for (struct dirent *e; !found && (e = readdir(d));)
+        found = strcmp(e->d_name, ".") && strcmp(e->d_name, "..");
+    int failed = errno;
+    closedir(d);
+    errno = failed;
+    return failed ? -1 : !found;
+}
+
+/* The table of the host's last life, or, over a directory with nothing in it, the first one: written before any node
+ * is made. A tree without its table would be given new ids and no modes, so there is no host over one. */
+static int take_table(host *h, const char *file)
+{
+    if (!table_read(&h->table, file))
+        return forget_removed(h);
+    if (errno != ENOENT)
+        return -1;
+    int empty = is_empty(h->tree);
+    if (empty == 0)
+        errno = EBADMSG;
+    table_begin(&h->table, file);
+    return empty == 1 ? table_write(&h->table) : -1;
 }
 
 host *host_open(const char *tree, const char *table_file)
@@ -243,16 +313,12 @@ host *host_open(const char *tree, const char *table_file)
         return NULL;
     for (int d = 0; d < GUARD_DESCRIPTORS; d++)
         h->files[d] = -1;
-    if ((mkdir(tree, 0700) && errno != EEXIST) || (h->tree = open(tree, O_RDONLY | O_DIRECTORY | O_CLOEXEC)) < 0) {
+    h->tree = mkdir(tree, 0700) && errno != EEXIST ? -1 : whole_open(AT_FDCWD, tree, O_RDONLY | O_DIRECTORY);
+    if (h->tree < 0 || take_table(h, table_file)) {
+        whole_leave(h->tree);
         free(h);
         return NULL;
     }
-    if (table_read(&h->table, table_file)) {
-        close(h->tree);
-        free(h);
-        return NULL;
-    }
-    forget_removed(h);
     return h;
 }
 
@@ -265,4 +331,12 @@ void host_close(host *h)
     free(h);
 }
 
-int host_sync(host *h) { return syncfs(h->tree); }
+/* The table is there already: each change of it waited for the disk. */
+int host_sync(host *h)
+{
+    int status, tries = 0;
+    do
+        status = syncfs(h->tree);
+    while (status && whole_again(&tries));
+    return status;
+}

@@ -1,8 +1,11 @@
-/* A host for the guard over a directory of this machine: it obeys the guard's requests and replies truly (include/guard.h has both, byte by byte; guard_client.h reads and builds them).
+/* A host for the guard over a directory of this machine: it obeys the guard's requests and replies truly
+ * (include/guard.h has both, byte by byte; guard_client.h reads and builds them).
  *
- * The disk holds names, kinds, sizes and bytes, as ordinary files that anyone may read. Ids and modes stand in a table of the host's own (table.h), in a file beside
- * the directory: files are opened for reading and writing whatever their mode, since the guard is the one who judges rights. A host that was killed and is
- * started again replies what the disk says. What an honest host never meets, a full disk or a file that is gone, is replied as what it is: the guard stops. */
+ * The disk holds names, kinds, sizes and bytes, as ordinary files that anyone may read. Ids and modes stand in a
+ * table of the host's own (table.h), in a file beside the directory: files are opened for reading and writing
+ * whatever their mode, since the guard is the one who judges rights. A host that was killed and is started again
+ * replies what the disk says. What an honest host never meets, a full disk or a file that is gone, is replied as what
+ * it is: the guard stops. */
 #ifndef HOST_H
 #define HOST_H
 
@@ -15,7 +18,9 @@ enum { HOST_REPLY_LENGTH = GUARD_REPLY_LENGTH };
 
 typedef struct host host;
 
-/* A host over the directory `tree`, which is made where it is not there, and the file `table_file`, whose name must stay where it is. Null and errno where it cannot be. */
+/* A host over the directory `tree`, which is made where it is not there, and the file `table_file`, whose name must
+ * stay where it is. Null and errno where it cannot be; EBADMSG: the table is damaged, or the tree has nodes and no
+ * table. */
 host *host_open(const char *tree, const char *table_file);
 
 void host_close(host *h);
@@ -23,7 +28,8 @@ void host_close(host *h);
 /* Obeys a request; the reply's length. */
 size_t host_reply(host *h, const uint8_t *request, size_t length, uint8_t reply[HOST_REPLY_LENGTH]);
 
-/* Waits until all is on the disk: before a save, so that an image never knows of pages that a power loss takes away. 0, or -1 and errno. */
+/* Waits until all is on the disk: before a save, so that an image never knows of pages that a power loss takes away.
+ * 0, or -1 and errno. */
 int host_sync(host *h);
 
 #endif

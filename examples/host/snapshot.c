@@ -9,6 +9,8 @@
 #include <sys/stat.h>
 #include <unistd.h>
 
+#include "whole.h"
+
 enum { PATH = 4096, OPEN_AT_ONCE = 16 };
 
 /* What copy_one needs to know: nftw hands nothing on. */
@@ -19,20 +21,20 @@ static int copy_bytes(int from, int to)
 {
     char bytes[65536];
     ssize_t n;
-    while ((n = read(from, bytes, sizeof bytes)) > 0)
-        for (ssize_t done = 0, w; done < n; done += w)
-            if ((w = write(to, bytes + done, (size_t)(n - done))) <= 0)
-                return -1;
+    for (off_t at = 0; (n = whole_read(from, bytes, sizeof bytes, at)) > 0; at += n)
+        if (whole_write(to, bytes, (size_t)n, at))
+            return -1;
     return n < 0 ? -1 : 0;
 }
 
 static int copy_file(const char *path, const char *to)
 {
-    int in = open(path, O_RDONLY | O_CLOEXEC), out = in < 0 ? -1 : open(to, O_WRONLY | O_CREAT | O_EXCL | O_CLOEXEC, 0600);
-    int failed = out < 0 || copy_bytes(in, out);
-    if (in >= 0)
-        close(in);
-    return (out >= 0 && close(out)) || failed ? -1 : 0;
+    int in = whole_open(AT_FDCWD, path, O_RDONLY | O_NOFOLLOW);
+    int out = in < 0 ? -1 : whole_open(AT_FDCWD, to, O_WRONLY | O_CREAT | O_EXCL);
+    int status = out < 0 ? -1 : copy_bytes(in, out);
+    whole_leave(in);
+    whole_leave(out);
+    return status;
 }
 
 static int copy_one(const char *path, const struct stat *s, int flag, struct FTW *where)
@@ -43,6 +45,7 @@ static int copy_one(const char *path, const struct stat *s, int flag, struct FTW
         errno = ENAMETOOLONG;
         return -1;
     }
+    errno = EINVAL; /* what is neither is none of the guard's */
     return flag == FTW_D ? mkdir(to, 0700) : flag == FTW_F ? copy_file(path, to) : -1;
 }
 
@@ -61,5 +64,7 @@ static int clear_one(const char *path, const struct stat *s, int flag, struct FT
 
 int snapshot_clear(const char *directory)
 {
-    return access(directory, F_OK) && errno == ENOENT ? 0 : nftw(directory, clear_one, OPEN_AT_ONCE, FTW_DEPTH | FTW_PHYS);
+    if (access(directory, F_OK) && errno == ENOENT)
+        return 0;
+    return nftw(directory, clear_one, OPEN_AT_ONCE, FTW_DEPTH | FTW_PHYS);
 }

@@ -1,58 +1,87 @@
+#define _XOPEN_SOURCE 700 /* open_memstream */
 #include "table.h"
 
 #include <errno.h>
 #include <stdio.h>
+#include <stdlib.h>
 #include <string.h>
 
-/* One record is "ID MODE PATH" and a zero byte: a path may hold every other byte. The first one has no path, and the next id to be given.
- * `tr '\0' '\n' <FILE` shows it. */
-static int read_row(FILE *f, table *t)
+#include "guard_client.h"
+#include "whole.h"
+
+/* The first record is "NEXT COUNT " and a zero byte: the next id to be given, and how many rows follow. A row is "ID
+ * MODE PATH" and a zero byte: a path may hold every other byte. `tr '\0' '\n' <FILE` shows it. */
+enum { ROW_LENGTH = 11 + 4 + GUARD_PATH_LENGTH + 1, FILE_LENGTH = (1 + TABLE_ROWS) * ROW_LENGTH };
+
+/* A record's two numbers; what stands behind them, up to its zero byte. Null where there is none. */
+static const char *read_record(const char **at, const char *end, unsigned *one, unsigned *other)
 {
-    table_row *row = &t->rows[t->count];
-    size_t n = 0;
-    int byte;
-    if (fscanf(f, "%u %hhu", &row->id, &row->mode) != 2 || fgetc(f) != ' ')
+    const char *record = *at, *zero = memchr(record, 0, (size_t)(end - record));
+    int behind = 0;
+    if (!zero || sscanf(record, "%u %u%n", one, other, &behind) != 2 || record[behind] != ' ')
+        return NULL;
+    *at = zero + 1;
+    return record + behind + 1;
+}
+
+static int read_row(const char **at, const char *end, table_row *row)
+{
+    unsigned id, mode;
+    const char *path = read_record(at, end, &id, &mode);
+    if (!path || id == 0 || mode > GUARD_MODE_ALL || !guard_is_path(path, strlen(path)))
         return 0;
-    while ((byte = fgetc(f)) > 0 && n < GUARD_PATH_LENGTH)
-        row->path[n++] = (char)byte;
-    row->path[n] = '\0';
-    return byte == 0;
+    row->id = id;
+    row->mode = (uint8_t)mode;
+    strcpy(row->path, path);
+    return 1;
+}
+
+/* All of a file's bytes are those of a table, or it is none. */
+static int read_rows(table *t, const char *at, const char *end)
+{
+    unsigned count;
+    if (!read_record(&at, end, &t->next, &count) || count > TABLE_ROWS)
+        return 0;
+    for (t->count = 0; t->count < count; t->count++)
+        if (!read_row(&at, end, &t->rows[t->count]))
+            return 0;
+    return at == end && table_find(t, "/") != NULL;
+}
+
+void table_begin(table *t, const char *file)
+{
+    t->file = file;
+    t->next = 2; /* the root has 1 */
+    t->count = 1;
+    t->rows[0] = (table_row){GUARD_ROOT, GUARD_MODE_ALL, "/"};
 }
 
 int table_read(table *t, const char *file)
 {
+    char *bytes = malloc(FILE_LENGTH + 1);
+    ssize_t n = bytes ? whole_get(file, bytes, FILE_LENGTH + 1) : -1;
+    int good = n >= 0 && read_rows(t, bytes, bytes + n);
+    if (n >= 0 && !good)
+        errno = EBADMSG;
     t->file = file;
-    t->count = 0;
-    t->next = 2; /* the root has 1 */
-    FILE *f = fopen(file, "rb");
-    if (!f && errno != ENOENT)
-        return -1;
-    if (f && read_row(f, t))
-        t->next = t->rows[0].id;
-    while (f && t->count < TABLE_ROWS && read_row(f, t))
-        t->count++;
-    if (f)
-        fclose(f);
-    if (!table_find(t, "/"))
-        t->rows[t->count < TABLE_ROWS ? t->count++ : 0] = (table_row){1, 7, "/"};
-    return 0;
+    free(bytes);
+    return good ? 0 : -1;
 }
 
 int table_write(const table *t)
 {
-    char fresh[4096];
-    if ((size_t)snprintf(fresh, sizeof fresh, "%s.new", t->file) >= sizeof fresh) {
-        errno = ENAMETOOLONG;
-        return -1;
-    }
-    FILE *f = fopen(fresh, "wb");
+    char *bytes = NULL;
+    size_t length = 0;
+    FILE *f = open_memstream(&bytes, &length);
     if (!f)
         return -1;
-    fprintf(f, "%u 0 %c", t->next, 0);
+    fprintf(f, "%u %zu %c", t->next, t->count, 0);
     for (size_t i = 0; i < t->count; i++)
         fprintf(f, "%u %u %s%c", t->rows[i].id, t->rows[i].mode, t->rows[i].path, 0);
     int failed = ferror(f);
-    return fclose(f) || failed ? -1 : rename(fresh, t->file);
+    int status = fclose(f) || failed ? -1 : whole_replace(t->file, bytes, length);
+    free(bytes);
+    return status;
 }
 
 table_row *table_find(table *t, const char *path)

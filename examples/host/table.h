@@ -1,4 +1,5 @@
-/* What the host knows of its nodes and the disk does not say: an id and a mode for each path. Kept in a file, so that it outlives the program. */
+/* What the host knows of its nodes and the disk does not say: an id and a mode for each path. Kept in a file, so that
+ * it outlives the program. */
 #ifndef TABLE_H
 #define TABLE_H
 
@@ -13,16 +14,20 @@ typedef struct { uint32_t id; uint8_t mode; char path[GUARD_PATH_LENGTH + 1]; } 
 
 typedef struct { const char *file; uint32_t next; size_t count; table_row rows[TABLE_ROWS]; } table;
 
-/* Reads the file; where there is none, the table has the root alone. 0, or -1 and errno. */
+/* A table with the root alone, whose file is not written yet. */
+void table_begin(table *t, const char *file);
+
+/* Reads the file. 0, or -1 and errno: ENOENT where there is none, EBADMSG where it is empty, cut short or no table. */
 int table_read(table *t, const char *file);
 
-/* Writes the file anew and puts it in the place of the old one: whenever the program is killed, one of the two is there, whole. 0, or -1 and errno. */
+/* Writes the file anew and puts it in the place of the old one: whenever power is lost, one of the two is there,
+ * whole. 0, or -1 and errno. */
 int table_write(const table *t);
 
 table_row *table_find(table *t, const char *path);
 
-/* A row with an id that no node had before, or null and errno where there is no room. An id that comes back might be one that an older image still
- * has. */
+/* A row with an id that no node had before, or null and errno where there is no room. An id that comes back might be
+ * one that an older image still has. */
 table_row *table_add(table *t, const char *path, uint8_t mode);
 
 /* Takes a row out, if it is there. */

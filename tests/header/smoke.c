@@ -54,11 +54,24 @@ static void refusals(guard *g)
     expect(guard_save(g, NULL, 0, digest), GUARD_REFUSED, GUARD_SHORT_BUFFER, 0);
 }
 
+/* The version, and the cursor after a truncation: behind the new end it stands at that end. */
+static void notes(guard *g)
+{
+    if (strcmp(guard_version(), GUARD_VERSION))
+        step = -1000;
+    expect(call(g, "\10\2\0\0\0\5\0\0\0\0\0\0\0", 13), GUARD_DONE, 0, 0); /* to the size that it has */
+    expect(call(g, "\10\2\0\0\0\0\0\0\0\0\0\0\0", 13), GUARD_ASK, 0, 9);
+    expect(reply(g, "\0\0\0\0", 4), GUARD_DONE, 0, 0);
+    expect(call(g, "\7\2\0\0\0hello", 10), GUARD_ASK, 0, GUARD_REQUEST_LENGTH); /* at 0: no fetch, five bytes in all */
+    expect(reply(g, "\0\4\0\0", 4), GUARD_DONE, 5, 0);
+}
+
 int main(void)
 {
     guard *second = &beside.second;
     uint8_t page[GUARD_PAGE_LENGTH] = "hello";
     make_file(&first);
+    notes(&first);
     refusals(&first);
     guard_outcome o = guard_save(&first, image, sizeof image, digest);
     expect(o, GUARD_DONE, 4 + 15 + 16 + 4 + 32, 4 + 15 + 16 + 4 + 32);

@@ -3,6 +3,7 @@
 What a host may choose is the real one's: a new id is taken over into the model, a listing may stand in any order.
 """
 
+import os
 import subprocess
 
 from model.events import Ask, Call, Done, Load, Reply, Save
@@ -26,11 +27,16 @@ class Different(Exception):
 
 
 class Driver:
-    """The program of drive.c over a place on the disk: the directory `tree` and the file `table`."""
+    """The program of drive.c over a place on the disk: the directory `tree` and the file `table`.
 
-    def __init__(self, program, place):
+    What the disk has for certain is recorded beside it, if that is wanted.
+    """
+
+    def __init__(self, program, place, record=False, errors=None, words=None):
+        recorded = {"PLACE": str(place), "DURABLE": str(durable(place))} if record else {}
         self.process = subprocess.Popen(
-            [program, place / "tree", place / "table"], stdin=subprocess.PIPE, stdout=subprocess.PIPE
+            [program, *(words or [place / "tree", place / "table"])],
+            stdin=subprocess.PIPE, stdout=subprocess.PIPE, stderr=errors, env={**os.environ, **recorded},
         )
 
     def send(self, *lines):
@@ -57,6 +63,10 @@ class Driver:
             pass
         self.process.stdout.close()
         return self.process.wait()
+
+
+def durable(place):
+    return place.with_name(place.name + ".durable")
 
 
 class ChosenIds(Host):

@@ -1,15 +1,17 @@
 /* The client of examples/host over the archive and the real host, driven by lines: drive TREE TABLE
  *
  *     c CALL            a call, with its requests and replies; prints done, refused or stopped as the desk program does
- *     s                 a save; prints done, its number, the image, the digest
+ *     s                 the host's tree brought to the disk, and a save; prints done, its number, the image, the digest
  *     f                 the host is closed and opened again, the guard is a fresh one; prints fresh
  *     l IMAGE DIGEST    a load
- *     k COUNT           the program kills itself at the disk's change number COUNT from now (points.c); prints armed */
+ *     k COUNT           the program kills itself at the disk's change number COUNT from now (points.c); prints armed
+ *     e COUNT           from now on each COUNT-th system call fails for a moment; prints armed */
 #include <stdio.h>
 #include <stdlib.h>
 #include <string.h>
 
 #include "client.h"
+#include "durable.h"
 #include "points.h"
 
 enum { LINE = 2 * (GUARD_IMAGE_LENGTH + GUARD_DIGEST_LENGTH) + 8 };
@@ -28,7 +30,7 @@ static void start(void)
         perror(tree);
         exit(2);
     }
-    client_begin(&c, client_ask_host, h);
+    client_begin(&c, client_ask_host, h, NULL);
 }
 
 /* Digits up to a blank or the end of the line; how many bytes they are. */
@@ -57,6 +59,10 @@ static void print_outcome(guard_outcome o, const uint8_t *data)
 
 static void save(void)
 {
+    if (host_sync(c.host)) {
+        perror("sync");
+        exit(2);
+    }
     guard_outcome o = guard_client_save(&c.layer, bytes, GUARD_IMAGE_LENGTH, digest);
     print_outcome(o, bytes);
     if (o.kind == GUARD_DONE)
@@ -79,6 +85,7 @@ static void obey(char letter, const char *rest)
     case 'f': start(); fputs("fresh", stdout); break;
     case 'l': load(rest); break;
     case 'k': points_left = strtoul(rest, NULL, 10); fputs("armed", stdout); break;
+    case 'e': faults_every = (unsigned)strtoul(rest, NULL, 10); fputs("armed", stdout); break;
     default: fputs("bad line", stdout);
     }
 }
@@ -89,6 +96,7 @@ int main(int n, char **words)
         return 2;
     tree = words[1];
     table = words[2];
+    durable_begin();
     start();
     while (fgets(line, sizeof line, stdin)) {
         line[strcspn(line, "\n")] = '\0';

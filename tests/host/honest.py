@@ -1,6 +1,9 @@
-"""Random lists of calls through the archive and the real host: every outcome is the model's, none is a stop, and the directory is the model's tree at the end.
+"""Random lists of calls through the archive and the real host: every outcome is the model's, none is a stop, and the
+directory is the model's tree at the end.
 
     python3 -m host.honest PROGRAM PLACE LISTS      from tests/; PROGRAM is drive.c's, PLACE a directory that may be filled
+
+In every other list the system calls fail for a moment now and then, or do a part of what they are asked.
 """
 
 import shutil
@@ -27,6 +30,8 @@ def run_list(program, place, seed):
     """How many calls were compared."""
     random = Random(seed)
     driver = Driver(program, place)
+    if seed % 2:
+        driver.send(f"e {random.randrange(3, 20)}")
     beside = Beside(driver)
     generator = honest_generator(random, beside)
     generator.start()

@@ -1,10 +1,15 @@
-"""The host killed at random, with and without a loss of what it had written; the client starts again from its last image.
+"""The host killed at random, and power lost with what was not synced; the client starts again from its last image.
 
     python3 -m host.killed PROGRAM PLACE LISTS      from tests/; PROGRAM is drive.c's, PLACE a directory that may be filled
 
-A list works through the archive and the real host, saves, works on and is killed: between two requests or within one, before or after a change of the
-disk, in the middle of a page. A new process loads the image, which must be done. Then every node is looked at and read, and the list goes on: each outcome is
-what the tree of the save gives, or a stop. After a stop the next look begins with a new load.
+A list works through the archive and the real host, saves, works on and is killed: between two requests or within one,
+before or after a change of the disk, in the middle of a page. A new process loads the image, which must be done. Then
+every node is looked at and read, and the list goes on: each outcome is what the tree of the save gives, or a stop.
+After a stop the next look begins with a new load.
+
+In a third of the lists the machine loses power: what was not synced is there or not, of the tree and of the host's
+table (lost.py). In a third a file is damaged. Unless one is, a node that no call has named since the save is served:
+no stop.
 """
 
 import shutil
@@ -13,20 +18,54 @@ from pathlib import Path
 from random import Random
 
 from model import calls
-from model.rules import DIRECTORY, MAX_COUNT, READ_RIGHT
+from model.rules import CHMOD, CREATE, DIRECTORY, MAX_COUNT, MKDIR, READ_RIGHT, REMOVE, RMDIR, TRUNCATE, WRITE, unsigned
 
-from .beside import Beside, Caught, Driver, Different, Killed
+from .beside import Beside, Caught, Driver, Different, Killed, durable
 from .honest import honest_generator
+from .lost import Disk
 
 BEFORE, AFTER = 25, 40  # calls before the save, and after the restart
 POINTS = 80  # the kill comes at one of so many moments
+
+
+KILLED, POWER_LOST, DAMAGED = range(3)
+
+
+class Noted(Beside):
+    """Which files and directories a call has changed, or would have, since the last save."""
+
+    changed = frozenset()
+
+    def send(self, event):
+        kind = event.data[0] if event.data else 0
+        if kind in (CREATE, MKDIR, CHMOD):
+            self.changed |= {event.data[2:]}
+        elif kind in (REMOVE, RMDIR):
+            self.changed |= {event.data[1:]}
+        elif kind in (WRITE, TRUNCATE):
+            self.changed |= {node_path(self.guard.nodes, unsigned(event.data[1:5]))}
+        return super().send(event)
+
+    def save(self):
+        super().save()
+        self.changed = frozenset()
+
+
+def node_path(nodes, id):
+    """None where no node has this id."""
+    found = {node.id: node for node in nodes}
+    node, path = found.get(id), b""
+    while node and node.parent:
+        node, path = found[node.parent], b"/" + node.name + path
+    return path or None
 
 
 class List:
     def __init__(self, program, place, seed):
         self.program, self.place = program, place
         self.random = Random(seed)
-        self.beside = Beside(Driver(program, place))
+        self.loss = seed % 3
+        self.beside = Noted(Driver(program, place, record=self.loss == POWER_LOST))
         self.generator = honest_generator(self.random, self.beside)
         self.stops = self.looks = 0
         self.within = False
@@ -36,9 +75,12 @@ class List:
         self.work(BEFORE)
         self.beside.save()
         self.work_until_killed()
-        if self.random.random() < 0.5:
-            self.lose_something()
+        if self.loss == DAMAGED:
+            self.damage()
+        if self.loss == POWER_LOST:
+            Disk(self.place, durable(self.place), self.random).lose()
         self.start_again(Driver(self.program, self.place))
+        self.changed = self.beside.changed
         for path, kind in self.random.sample(paths := self.paths(), len(paths)):
             self.look(path, kind)
         self.go_on()
@@ -57,8 +99,8 @@ class List:
             self.within = True
         self.beside.driver.kill()
 
-    def lose_something(self):
-        """A file of the disk loses its last bytes, or some in the middle, as after a power loss."""
+    def damage(self):
+        """A file of the disk loses its last bytes, or some in the middle."""
         files = sorted(path for path in (self.place / "tree").rglob("*") if path.is_file() and path.stat().st_size)
         if files:
             path = self.random.choice(files)
@@ -77,13 +119,17 @@ class List:
     def look(self, path, kind):
         """All that the guard says of a node, as in the tree of the save."""
         self.looks += 1
+        is_served = False  # but for its listing: a child may be new or gone
         try:
             self.beside.do(calls.stat(path))
+            if kind != DIRECTORY:
+                self.read(path)
+            is_served = True
             if kind == DIRECTORY:
                 self.beside.do(calls.readdir(path))
-            else:
-                self.read(path)
         except Caught:
+            if not is_served and self.loss != DAMAGED and path not in self.changed:
+                raise Different(f"{path} is as it was saved, and caught")
             self.stops += 1
             self.start_again(self.beside.driver)
 
@@ -106,7 +152,8 @@ def main():
     program, place, lists = sys.argv[1], Path(sys.argv[2]), int(sys.argv[3])
     looks = stops = caught = within = 0
     for seed in range(lists):
-        shutil.rmtree(place, ignore_errors=True)
+        for old in (place, durable(place)):
+            shutil.rmtree(old, ignore_errors=True)
         place.mkdir(parents=True)
         trial = List(program, place, seed)
         try:

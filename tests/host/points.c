@@ -1,14 +1,22 @@
 #define _GNU_SOURCE
 #include "points.h"
 
+#include <dirent.h>
+#include <errno.h>
 #include <fcntl.h>
 #include <signal.h>
 #include <stdarg.h>
 #include <stdio.h>
+#include <stdlib.h>
+#include <string.h>
 #include <sys/stat.h>
 #include <unistd.h>
 
+#include "durable.h"
+
 unsigned long points_left;
+unsigned faults_every;
+static unsigned calls;
 
 static void point(void)
 {
@@ -16,14 +24,48 @@ static void point(void)
         kill(getpid(), SIGKILL);
 }
 
+/* Whether this call fails now, and why: in turns, it is interrupted or the machine lacks memory. */
+static int fault(void)
+{
+    if (faults_every == 0 || ++calls % faults_every)
+        return 0;
+    errno = calls / faults_every % 2 ? EINTR : ENOMEM;
+    return 1;
+}
+
+/* Whether this call never goes well: the environment's FAILS names it. */
+static int fails(const char *call)
+{
+    const char *name = getenv("FAILS");
+    errno = EIO;
+    return name && !strcmp(name, call);
+}
+
+/* As much as one call moves: where faults come, every third one stops short. */
+static size_t part(size_t length) { return faults_every && length > 1 && ++calls % 3 == 0 ? length / 2 : length; }
+
 /* The linker's --wrap puts these in the place of the C library's. */
 int __real_openat(int directory, const char *path, int flags, ...);
 int __real_mkdirat(int directory, const char *path, mode_t mode);
 int __real_unlinkat(int directory, const char *path, int flags);
 int __real_ftruncate(int file, off_t size);
 int __real_rename(const char *from, const char *to);
-FILE *__real_fopen(const char *path, const char *how);
+int __real_mkdir(const char *path, mode_t mode);
+int __real_remove(const char *path);
+int __real_fsync(int file);
+int __real_syncfs(int file);
+int __real_fstatat(int directory, const char *path, struct stat *s, int flags);
+DIR *__real_fdopendir(int file);
+ssize_t __real_pread(int file, void *bytes, size_t length, off_t at);
 ssize_t __real_pwrite(int file, const void *bytes, size_t length, off_t at);
+
+#define BETWEEN_POINTS(call)                                                                        \
+    do {                                                                                            \
+        point();                                                                                    \
+        int status = call;                                                                          \
+        point();                                                                                    \
+        return status;                                                                              \
+    } while (0)
 
 int __wrap_openat(int directory, const char *path, int flags, ...)
 {
@@ -31,54 +73,66 @@ int __wrap_openat(int directory, const char *path, int flags, ...)
     va_start(rest, flags);
     mode_t mode = flags & O_CREAT ? va_arg(rest, mode_t) : 0;
     va_end(rest);
-    point();
-    int file = __real_openat(directory, path, flags, mode);
-    point();
-    return file;
+    if (fault())
+        return -1;
+    if (!(flags & O_CREAT)) /* changes nothing */
+        return __real_openat(directory, path, flags);
+    BETWEEN_POINTS(__real_openat(directory, path, flags, mode));
 }
 
-int __wrap_mkdirat(int directory, const char *path, mode_t mode)
-{
-    point();
-    int status = __real_mkdirat(directory, path, mode);
-    point();
-    return status;
-}
-
-int __wrap_unlinkat(int directory, const char *path, int flags)
-{
-    point();
-    int status = __real_unlinkat(directory, path, flags);
-    point();
-    return status;
-}
+int __wrap_mkdirat(int at, const char *path, mode_t mode) { BETWEEN_POINTS(__real_mkdirat(at, path, mode)); }
+int __wrap_unlinkat(int at, const char *path, int flags) { BETWEEN_POINTS(__real_unlinkat(at, path, flags)); }
+int __wrap_rename(const char *from, const char *to) { BETWEEN_POINTS(__real_rename(from, to)); }
+int __wrap_mkdir(const char *path, mode_t mode) { BETWEEN_POINTS(__real_mkdir(path, mode)); }
+int __wrap_remove(const char *path) { BETWEEN_POINTS(__real_remove(path)); }
 
 int __wrap_ftruncate(int file, off_t size)
 {
+    if (fault())
+        return -1;
+    BETWEEN_POINTS(__real_ftruncate(file, size));
+}
+
+int __wrap_fstatat(int directory, const char *path, struct stat *s, int flags)
+{
+    return fails("fstatat") ? -1 : __real_fstatat(directory, path, s, flags);
+}
+
+DIR *__wrap_fdopendir(int file) { return fails("fdopendir") || fault() ? NULL : __real_fdopendir(file); }
+
+/* What is synced is certain from then on. */
+int __wrap_fsync(int file)
+{
+    if (fails("fsync") || fault())
+        return -1;
     point();
-    int status = __real_ftruncate(file, size);
+    int status = __real_fsync(file);
+    durable_one(file);
     point();
     return status;
 }
 
-int __wrap_rename(const char *from, const char *to)
+int __wrap_syncfs(int file)
 {
+    if (fault())
+        return -1;
     point();
-    int status = __real_rename(from, to);
+    int status = __real_syncfs(file);
+    durable_all();
     point();
     return status;
 }
 
-FILE *__wrap_fopen(const char *path, const char *how)
+ssize_t __wrap_pread(int file, void *bytes, size_t length, off_t at)
 {
-    point();
-    FILE *f = __real_fopen(path, how);
-    point();
-    return f;
+    return fault() ? -1 : __real_pread(file, bytes, part(length), at);
 }
 
 ssize_t __wrap_pwrite(int file, const void *bytes, size_t length, off_t at)
 {
+    if (fault())
+        return -1;
+    length = part(length);
     point();
     if (points_left == 1)
         __real_pwrite(file, bytes, length / 2, at); /* the next point is the last: half a page is on the disk */

@@ -1,7 +1,10 @@
-/* Moments at which the program may be killed: before and after each system call by which the host changes the disk, and in the middle of a page. */
+/* Moments at which the program may be killed: before and after each system call by which the host changes the disk,
+ * and in the middle of a page. Beside them, system calls that fail for a moment or do only part of what they are
+ * asked. */
 #ifndef POINTS_H
 #define POINTS_H
 
 extern unsigned long points_left; /* the program is killed at this many points from now; 0: never */
+extern unsigned faults_every;     /* each such system call fails for a moment; 0: none */
 
 #endif

@@ -1,0 +1,26 @@
+"""What no run can show: attacks of the papers on what the guard does not have or does not promise."""
+
+ROWS = [  # source, the attack, why it is out of scope, what a builder does
+    ("004, 2.3 (snooping); 002, III (access)", "the host reads names, calls and pages",
+     "secrecy is absent", "encrypt what is written, in the client; names too, where they tell something"),
+    ("004, 2.3 (page faults); 000, 8; 001, 2; 002, III", "side channels, speculative execution",
+     "no rule speaks of time or of memory accesses", "what the machine offers"),
+    ("000, 2.3 (mmap, glibc), TP14, TP15", "mapped memory that overlaps or is not zero",
+     "no call maps memory; a reply is bytes with a length and never an address", "-"),
+    ("001, 3.1 (link)", "links that are files of their own",
+     "links are absent; a new file that is a link is caught, above", "-"),
+    ("000, 4 (time-stamps); 001, 6 (time)", "wrong times", "a node has no time", "a clock that can be trusted"),
+    ("000, 4 (sync); 001, 6 (a drive that does not persist)", "the host says that it has synced, and has not",
+     "a sync has no reply that could be judged; what was lost is caught when it is touched, above",
+     "a second host, or a copy of the files"),
+    ("001, 5 and 7 (threads, mutex, futex); 003 (COIN: concurrent calls)", "two threads in one guard",
+     "threads are absent: one event at a time", "a lock around the guard"),
+    ("002, III (key compromise)", "keys are stolen", "there is no key: digests need none", "-"),
+    ("002, V.B (second preimages)", "other bytes with the same SHA-256",
+     "the claim says so: or two byte strings with one digest are named (docs/THEOREM.md)", "-"),
+    ("002, VI; 004, 5.2", "the client's program or its memory is changed", "the guard's memory is the client's",
+     "an enclave, another machine, or a process of another user"),
+    ("own", "the host writes a reply, request or image while the guard has it",
+     "what is lent to an entry is its own while it runs (guard.h)",
+         "`guard_client.h` copies; tests/client shows a page changed in between"),
+]

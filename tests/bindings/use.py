@@ -1,0 +1,87 @@
+"""The same list through the Python binding as use.rs has through the Rust one: python3 use.py VERSION."""
+
+import sys
+import tempfile
+
+from conform.host import Host
+from guard import READ, WRITE, Files, Stopped, text, version
+
+
+class Lying:
+    """A host whose replies may be changed."""
+
+    def __init__(self):
+        self.host, self.lies = Host(tempfile.gettempdir()), False
+        self.host.start(b"")
+
+    def __call__(self, request):
+        reply = self.host.request(request)
+        return bytes([reply[0] ^ 1]) + reply[1:] if self.lies and request[0] == 6 else reply
+
+
+def show(name, act, words=lambda given: [given] if given is not None else []):
+    """A call and what it gives, in one line."""
+    try:
+        print(*[name, *words(act())])
+    except OSError as error:
+        print("refused", error.errno)
+    except Stopped as stop:
+        print("stopped", stop.reason, stop.request.hex())
+
+
+def sums(data):
+    return [len(data), sum(data)]
+
+
+def listing(entries):
+    parts = (id.to_bytes(4, "little") + bytes([kind, len(name)]) + name for name, id, kind in entries)
+    return [b"".join(parts).hex() or "-"]
+
+
+def first_life(files):
+    show("mkdir", lambda: files.mkdir("/d", 7))
+    show("create", lambda: files.create("/d/a", 6))
+    show("open", lambda: files.open("/d/a", READ | WRITE))
+    show("write", lambda: files.write(3, bytes(i % 251 for i in range(3000))))
+    show("seek", lambda: files.seek(3, 1000))
+    show("read", lambda: files.read(3, 4000), sums)
+    show("truncate", lambda: files.truncate(3, 1500))
+    show("stat", lambda: files.stat("/d/a"), lambda s: [f"{s[0].to_bytes(4, 'little').hex()}{s[1]:02x}", s[2], s[3]])
+    show("listing", lambda: files.readdir("/d"), listing)
+    show("open", lambda: files.open("/none", READ))
+    show("save", lambda: files.guard.save())
+    show("chmod", lambda: files.chmod("/d/a", 4))
+    show("close", lambda: files.close(3))
+    saved = []
+    show("save", lambda: saved.append(files.guard.save()) or len(saved[0][0]))
+    return saved[0]
+
+
+def second_life(files, lying, image, digest):
+    show("load", lambda: files.guard.load(image, bytes(32)))
+    show("load", lambda: files.guard.load(image, digest))
+    show("open", lambda: files.open("/d/a", READ))
+    show("read", lambda: files.read(3, 4096), sums)
+    show("write", lambda: files.write(3, b"x"))
+    show("close", lambda: files.close(3))
+    show("remove", lambda: files.remove("/d/a"))
+    show("rmdir", lambda: files.rmdir("/d"))
+    show("listing", lambda: files.readdir("/"), listing)
+    show("create", lambda: files.create("/b", 7))
+    show("open", lambda: files.open("/b", READ | WRITE))
+    show("write", lambda: files.write(4, b"hello"))
+    show("seek", lambda: files.seek(4, 0))
+    lying.lies = True
+    show("read", lambda: files.read(4, 5))
+    show("stat", lambda: files.stat("/"))
+
+
+def main():
+    lying = Lying()
+    image, digest = first_life(Files(lying))
+    second_life(Files(lying), lying, image, digest)
+    if (version(), text("stop", 5).split(":")[0]) != (sys.argv[1], "page"):
+        print("another version, or other words")
+
+
+main()
