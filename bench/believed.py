@@ -1,11 +1,12 @@
 #!/usr/bin/env python3
-"""What must be believed: every definition that the promises of the entries and the claim are made of, found by following names from the roots.
+"""What must be believed: every definition that the promises of the entries and the claim are made of, found by
+following names from the roots.
 
     bench/believed.py            the modules, and the names in each that are reached
     bench/believed.py check      ends with 1 where docs/BELIEVED.md does not list just these modules
 
-A definition is an item of crates/*/specs whose name the text of another one uses; laws are used by proofs alone and are not reached. Structs and enums that
-definitions name stand in src.
+A definition is an item of crates/*/specs whose name the text of another one uses; laws are used by proofs alone and are
+not reached. Structs and enums that definitions name stand in src.
 """
 
 import re
@@ -117,7 +118,8 @@ def believed():
     """By home, the lines of its items that are reached; the laws that a byte form carries are proofs."""
     all_modules, by_home = reached()
     return {
-        home: sum(len(all_modules[home].items[name].strip().splitlines()) for name in names) if home in all_modules else 0
+        home: sum(len(all_modules[home].items[name].strip().splitlines()) for name in names)
+        if home in all_modules else 0
         for home, names in by_home.items() if home != "lists/FormLaws"
     }
 

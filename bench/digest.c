@@ -1,6 +1,6 @@
-/* Times SHA-256 on 1,024 and 44,776 bytes: each round times every implementation once, one after the other, and the least
- * time of each is printed with its ratio to plain C at -O2. OpenSSL reads OPENSSL_ia32cap as it starts, so each of its two
- * settings runs in a process of its own that waits for its turn. */
+/* Times SHA-256 on 1,024 and 44,776 bytes: each round times every implementation once, one after the other, and the
+ * least time of each is printed with its ratio to plain C at -O2. OpenSSL reads OPENSSL_ia32cap as it starts, so each
+ * of its two settings runs in a process of its own that waits for its turn. */
 #define _GNU_SOURCE
 #include <fcntl.h>
 #include <stdio.h>
@@ -9,6 +9,7 @@
 #include <sys/wait.h>
 #include <time.h>
 #include <unistd.h>
+#include "../include/guard.h"
 #include "../include/guard_sha256.h"
 
 void plain_o2(const uint8_t *, size_t, uint8_t *);
@@ -19,10 +20,10 @@ unsigned char *SHA256(const unsigned char *, size_t, unsigned char *);
 static void openssl(const uint8_t *m, size_t n, uint8_t *out) { SHA256(m, n, out); }
 
 enum { ROUNDS = 60, LENGTHS = 2, KINDS = 6 };
-static const size_t lengths[LENGTHS] = {1024, 44776};
+static const size_t lengths[LENGTHS] = {GUARD_PAGE_LENGTH, GUARD_IMAGE_LENGTH};
 static const char *const names[KINDS] = {"guard_sha256", "plain C, gcc -O2", "plain C, gcc -O3", "best C, gcc -O3",
                                          "OpenSSL, no SHA instructions", "OpenSSL, SHA instructions"};
-static uint8_t message[44776];
+static uint8_t message[GUARD_IMAGE_LENGTH];
 
 static double once(void (*f)(const uint8_t *, size_t, uint8_t *), size_t n, uint8_t *out) {
     int times = (int)(2000000 / n);
@@ -37,7 +38,8 @@ static double once(void (*f)(const uint8_t *, size_t, uint8_t *), size_t n, uint
 struct answer { double ns; uint8_t digest[32]; };
 struct worker { int to, from; pid_t id; };
 
-/* A worker ends when its input does, so no other process may hold the writing end: every end closes at exec but the worker's own two, which dup2 made. */
+/* A worker ends when its input does, so no other process may hold the writing end: every end closes at exec but the
+ * worker's own two, which dup2 made. */
 static struct worker start(const char *cap) {
     int in[2], out[2];
     if (pipe2(in, O_CLOEXEC) || pipe2(out, O_CLOEXEC))

@@ -1,6 +1,6 @@
 /* Events measured: the archive's guard beside the one in plain C (events.h).
  *
- *     events count SIDE     under callgrind: each case and each point of the curves once, a dump of its counts after each
+ *     events count SIDE     under callgrind: each case and each point of the curves once, with a dump
  *     events least          the same for the least that any guard must do
  *     events time           for each case the median of the ratios of archive to plain, taken in turns
  *     events memory         the bytes of a guard, and the deepest stack below each entry over all cases */
@@ -44,7 +44,8 @@ static void small(void)
     open_file("/a", 2);
 }
 
-/* Nodes of 12-byte names: files of four pages in the root, one of eight among them, and behind them a path eight deep. */
+/* Nodes of 12-byte names: files of four pages in the root, one of eight among them, and behind them a path eight
+ * deep. */
 static void nodes(uint32_t count)
 {
     begin_image(count);
@@ -88,13 +89,15 @@ static void smallest(void)
 
 /* ---- what is handed in; 0 is what stands there when it is done */
 
+enum { POSITION_CALL = 5 + 8 }; /* the length of a seek or a truncation */
+
 static uint8_t handle_call[5 + DATA];
 static size_t handle_length;
 
 /* A call by handle with a number of some width. */
 static void by_handle(int kind, uint32_t handle, uint32_t number, size_t width)
 {
-    memset(handle_call, 0, 13);
+    memset(handle_call, 0, POSITION_CALL);
     handle_call[0] = (uint8_t)kind;
     memcpy(handle_call + 1, &handle, 4);
     memcpy(handle_call + 5, &number, 4);
@@ -105,16 +108,16 @@ static uint32_t file_handle, position, count;
 
 static void to_position(void)
 {
-    uint8_t seek[13] = {5};
+    uint8_t seek[POSITION_CALL] = {GUARD_SEEK};
     memcpy(seek + 1, &file_handle, 4);
     memcpy(seek + 5, &position, 4);
-    expect(call(seek, 13), DONE, position);
+    expect(call(seek, POSITION_CALL), DONE, position);
 }
 
-static void step_seek(void) { expect(call(handle_call, 13), DONE, 0); }
+static void step_seek(void) { expect(call(handle_call, POSITION_CALL), DONE, 0); }
 static void step_read(void) { expect(answered(call(handle_call, 9)), DONE, count); }
 static void step_write(void) { expect(answered(call(handle_call, 5 + count)), DONE, count); }
-static void step_truncate(void) { expect(answered(call(handle_call, 13)), DONE, 0); }
+static void step_truncate(void) { expect(answered(call(handle_call, POSITION_CALL)), DONE, 0); }
 
 static char path_call[2 + PATH];
 static size_t path_length;
@@ -185,41 +188,46 @@ static void step_load(void) { expect(load(), DONE, 0); }
 
 static void step_malformed(void) { expect(call("\1\7/a/../b", 9), REFUSED, 22); }
 static void step_absent(void) { expect(call("\x09/file-absent", 13), REFUSED, 2); }
-static void step_handle(void) { expect(call(handle_call, 13), REFUSED, 9); }
+static void step_handle(void) { expect(call(handle_call, POSITION_CALL), REFUSED, 9); }
 
 /* ---- the cases */
 
-struct least { size_t hashes, hashed, copied, looks; };
-struct row { const char *name; void (*table)(void), (*before)(void), (*step)(void); int kind; uint32_t position, count; struct least least; };
+enum { NO_CALL = 0, OTHER_HANDLE = -1 }; /* of a row that makes none, or one with a handle that is not open */
 
-/* `before` is not measured. The least: so many hashes of so many bytes, so many bytes copied once, so many nodes looked at. */
+struct least { size_t hashes, hashed, copied, looks; };
+struct row { const char *name; void (*table)(void), (*before)(void), (*step)(void); int kind; uint32_t position,
+    count; struct least least; };
+
+/* `before` is not measured. The least: so many hashes of so many bytes, so many bytes copied once, so many nodes looked
+ * at. */
 static const struct row rows[] = {
-    {"seek, two nodes", small, NULL, step_seek, 5, 0, 0, {0, 0, 0, 1}},
-    {"seek, 256 nodes", full_open, NULL, step_seek, 5, 0, 0, {0, 0, 0, 1}},
-    {"stat, shallow, 256 nodes", full, NULL, step_stat, 13, 1, 0, {0, 0, 24, 256}},
-    {"stat, eight deep, 256 nodes", full, NULL, step_stat, 13, DEEP, 0, {0, 0, 115, 256}},
-    {"create and remove, 256 nodes", one_less, NULL, step_create, 1, 0, 0, {0, 0, 42, 512}},
-    {"open and close, 256 nodes", full, NULL, step_open, 3, 0, 0, {0, 0, 15, 256}},
-    {"read 1", full_open, to_position, step_read, 6, 0, 1, {1, PAGE, 1, 1}},
-    {"read 1,024, aligned", full_open, to_position, step_read, 6, 1024, 1024, {1, PAGE, 1024, 1}},
-    {"read 1,024, not aligned", full_open, to_position, step_read, 6, 1000, 1024, {2, PAGE, 1024, 1}},
-    {"read 4,096, aligned", full_open, to_position, step_read, 6, 1024, 4096, {4, PAGE, 4096, 1}},
-    {"read 4,096, not aligned", full_open, to_position, step_read, 6, 1000, 4096, {5, PAGE, 4096, 1}},
-    {"write 1", full_open, to_position, step_write, 7, 0, 1, {2, PAGE, 1024, 1}},
-    {"write 1,024, aligned", full_open, to_position, step_write, 7, 1024, 1024, {1, PAGE, 1024, 1}},
-    {"write 1,024, not aligned", full_open, to_position, step_write, 7, 1000, 1024, {4, PAGE, 2048, 1}},
-    {"write 4,096, aligned", full_open, to_position, step_write, 7, 1024, 4096, {4, PAGE, 4096, 1}},
-    {"write 4,096, not aligned", full_open, to_position, step_write, 7, 1000, 4096, {7, PAGE, 5120, 1}},
-    {"truncate, on an edge", full_open, restore, step_truncate, 8, 3 * PAGE, 0, {0, 0, 0, 1}},
-    {"truncate, inside a page", full_open, restore, step_truncate, 8, 3 * PAGE + 100, 0, {2, PAGE, 1024, 1}},
-    {"readdir, 255 children", largest, NULL, step_readdir, 12, 0, 255, {0, 0, 9690, 256}},
-    {"save, 23 bytes", smallest, NULL, step_save, 0, 0, 0, {1, 23, 23, 1}},
-    {"save, 44,776 bytes", largest, NULL, step_save, 0, 0, 0, {1, IMAGE, IMAGE, 256}},
-    {"load, 23 bytes", smallest, NULL, step_load, 0, 0, 0, {1, 23, 23, 1}},
-    {"load, 44,776 bytes", largest, NULL, step_load, 0, 0, 0, {1, IMAGE, IMAGE, 256}},
-    {"refused 22, a path's form", small, NULL, step_malformed, 0, 0, 0, {0, 0, 0, 1}},
-    {"refused 2, absent, 256 nodes", full, NULL, step_absent, 0, 0, 0, {0, 0, 0, 256}},
-    {"refused 9, no such handle", full_open, NULL, step_handle, 9, 0, 0, {0, 0, 0, 1}},
+    {"seek, two nodes", small, NULL, step_seek, GUARD_SEEK, 0, 0, {0, 0, 0, 1}},
+    {"seek, 256 nodes", full_open, NULL, step_seek, GUARD_SEEK, 0, 0, {0, 0, 0, 1}},
+    {"stat, shallow, 256 nodes", full, NULL, step_stat, GUARD_STAT, 1, 0, {0, 0, 24, NODES}},
+    {"stat, eight deep, 256 nodes", full, NULL, step_stat, GUARD_STAT, DEEP, 0, {0, 0, 115, NODES}},
+    {"create and remove, 256 nodes", one_less, NULL, step_create, GUARD_CREATE, 0, 0, {0, 0, 42, 2 * NODES}},
+    {"open and close, 256 nodes", full, NULL, step_open, GUARD_OPEN, 0, 0, {0, 0, 15, NODES}},
+    {"read 1", full_open, to_position, step_read, GUARD_READ, 0, 1, {1, PAGE, 1, 1}},
+    {"read 1,024, aligned", full_open, to_position, step_read, GUARD_READ, PAGE, PAGE, {1, PAGE, PAGE, 1}},
+    {"read 1,024, not aligned", full_open, to_position, step_read, GUARD_READ, 1000, PAGE, {2, PAGE, PAGE, 1}},
+    {"read 4,096, aligned", full_open, to_position, step_read, GUARD_READ, PAGE, DATA, {4, PAGE, DATA, 1}},
+    {"read 4,096, not aligned", full_open, to_position, step_read, GUARD_READ, 1000, DATA, {5, PAGE, DATA, 1}},
+    {"write 1", full_open, to_position, step_write, GUARD_WRITE, 0, 1, {2, PAGE, PAGE, 1}},
+    {"write 1,024, aligned", full_open, to_position, step_write, GUARD_WRITE, PAGE, PAGE, {1, PAGE, PAGE, 1}},
+    {"write 1,024, not aligned", full_open, to_position, step_write, GUARD_WRITE, 1000, PAGE, {4, PAGE, 2 * PAGE, 1}},
+    {"write 4,096, aligned", full_open, to_position, step_write, GUARD_WRITE, PAGE, DATA, {4, PAGE, DATA, 1}},
+    {"write 4,096, not aligned", full_open, to_position, step_write, GUARD_WRITE, 1000, DATA, {7, PAGE, 5 * PAGE, 1}},
+    {"truncate, on an edge", full_open, restore, step_truncate, GUARD_TRUNCATE, 3 * PAGE, 0, {0, 0, 0, 1}},
+    {"truncate, inside a page", full_open, restore, step_truncate, GUARD_TRUNCATE, 3 * PAGE + 100, 0,
+        {2, PAGE, PAGE, 1}},
+    {"readdir, 255 children", largest, NULL, step_readdir, GUARD_READDIR, 0, NODES - 1, {0, 0, ANSWER, NODES}},
+    {"save, 23 bytes", smallest, NULL, step_save, NO_CALL, 0, 0, {1, 23, 23, 1}},
+    {"save, 44,776 bytes", largest, NULL, step_save, NO_CALL, 0, 0, {1, IMAGE, IMAGE, NODES}},
+    {"load, 23 bytes", smallest, NULL, step_load, NO_CALL, 0, 0, {1, 23, 23, 1}},
+    {"load, 44,776 bytes", largest, NULL, step_load, NO_CALL, 0, 0, {1, IMAGE, IMAGE, NODES}},
+    {"refused 22, a path's form", small, NULL, step_malformed, NO_CALL, 0, 0, {0, 0, 0, 1}},
+    {"refused 2, absent, 256 nodes", full, NULL, step_absent, NO_CALL, 0, 0, {0, 0, 0, NODES}},
+    {"refused 9, no such handle", full_open, NULL, step_handle, OTHER_HANDLE, 0, 0, {0, 0, 0, 1}},
 };
 enum { ROWS = sizeof rows / sizeof *rows };
 
@@ -241,17 +249,17 @@ static void make_call(const struct row *r)
     position = r->position;
     count = r->count;
     switch (r->kind) {
-    case 5: by_handle(5, file_handle, 0, 8); break;
-    case 6: by_handle(6, file_handle, count, 4); break;
-    case 7:
-        by_handle(7, file_handle, 0, 0);
+    case GUARD_SEEK: by_handle(GUARD_SEEK, file_handle, 0, 8); break;
+    case GUARD_READ: by_handle(GUARD_READ, file_handle, count, 4); break;
+    case GUARD_WRITE:
+        by_handle(GUARD_WRITE, file_handle, 0, 0);
         for (uint32_t i = 0; i < count; i++)
             handle_call[5 + i] = page[(position + i) % PAGE];
         break;
-    case 8: by_handle(8, file_handle, position, 8); break;
-    case 9: by_handle(5, 777, 0, 8); break;
-    case 12: list_children(count); break;
-    case 13:
+    case GUARD_TRUNCATE: by_handle(GUARD_TRUNCATE, file_handle, position, 8); break;
+    case OTHER_HANDLE: by_handle(GUARD_SEEK, 777, 0, 8); break;
+    case GUARD_READDIR: list_children(count); break;
+    case GUARD_STAT:
         deep_path(path, position);
         stat_of(path, position == 1 ? LAST : LAST + position, position == 1 ? 1 : 2, position == 1 ? 4 * PAGE : 0);
     }
@@ -333,13 +341,13 @@ static void read_all(void)
 /* A file of so many pages is read from end to end. */
 static void count_pages(void)
 {
-    for (uint32_t n = 1; n <= 64; n += n < 4 ? 1 : 4) {
+    for (uint32_t n = 1; n <= FILE_BYTES / PAGE; n += n < 4 ? 1 : 4) {
         begin_image(2);
         add_root();
         add_node(2, 1, 1, n * PAGE, "a");
         load_image();
         open_file("/a", 2);
-        by_handle(6, 2, DATA, 4);
+        by_handle(GUARD_READ, 2, DATA, 4);
         position = n * PAGE;
         count_point("pages", n, read_all);
     }
@@ -347,7 +355,7 @@ static void count_pages(void)
 
 static void count_children(void)
 {
-    for (uint32_t n = 1; n <= 255; n += n == 1 ? 14 : 16) {
+    for (uint32_t n = 1; n < NODES; n += n == 1 ? 14 : 16) {
         children(n);
         list_children(n);
         count_point("children", n, step_readdir);

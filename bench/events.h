@@ -1,4 +1,5 @@
-/* Two guards behind the same five functions, the archive's and the one in plain C, and the tables that they are measured on. */
+/* Two guards behind the same five functions, the archive's and the one in plain C, and the tables that they are
+ * measured on. */
 #ifndef EVENTS_H
 #define EVENTS_H
 

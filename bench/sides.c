@@ -5,7 +5,8 @@
 #include <string.h>
 #include "../include/guard_sha256.h"
 
-const char *const side_names[SIDES] = {"archive", "plain"}, *const entry_names[ENTRIES] = {"fresh", "call", "reply", "save", "load"};
+const char *const side_names[SIDES] = {"archive", "plain"},
+    *const entry_names[ENTRIES] = {"fresh", "call", "reply", "save", "load"};
 uint8_t answer[ANSWER], request[REQUEST], image[IMAGE], digest[DIGEST], page[PAGE];
 size_t image_length;
 int side;
@@ -80,7 +81,8 @@ void expect(outcome o, int32_t kind, uint64_t number)
 {
     if (o.kind == kind && o.number == number)
         return;
-    fprintf(stderr, "events: %s: %d %llu, not %d %llu\n", side_names[side], o.kind, (unsigned long long)o.number, kind, (unsigned long long)number);
+    fprintf(stderr, "events: %s: %d %llu, not %d %llu\n", side_names[side], o.kind, (unsigned long long)o.number, kind,
+        (unsigned long long)number);
     exit(1);
 }
 

@@ -1,6 +1,7 @@
 """What the guard costs, from the counts and times of bench/run: one table, the bars, and the curves as plots.
 
-    python3 table.py FOLDER PLOTS     FOLDER has callgrind's dumps (archive.*, plain.*, plain_hash.*, least.*), `times` and `memory`
+    python3 table.py FOLDER PLOTS     FOLDER has callgrind's dumps (archive.*, plain.*, plain_hash.*, least.*),
+                                      `times` and `memory`
 """
 
 import math
@@ -12,16 +13,33 @@ MEAN, MOST, HASHING, STACK = 1.10, 1.30, 1.05, 16_384
 HASH = "digest::sha256"  # in the archive
 
 # Rows that miss a bar, and why.
-PASSED_ON = "8 instructions more than in 1.0: the outcome is passed on through the place that stops, and the memory's front is lent"
+PASSED_ON = (
+    "8 instructions more than in 1.0: the outcome is passed on through the place that stops, and the memory's front"
+    " is lent"
+)
 EXPLAINED = {
     "seek, two nodes": PASSED_ON,
     "seek, 256 nodes": PASSED_ON,
-    "write 1,024, aligned": "not in every run: 1.02, 1.02, 1.02 and 1.07 in four of one build, at 1.02 of the instructions; the cause was not found",
-    "readdir, 255 children": "1.42 to 1.45 in three runs of this build, 1.14 in one of the build before, at 1.03 of the instructions in both; the cause was not found",
-    "save, 23 bytes": "not in every run: 1.15, 1.04 and 1.10 in three of one build, at 1.01 of the instructions; the cause was not found",
-    "load, 23 bytes": "not in every run: 1.03, 1.03 and 1.09 in three of one build, at 1.01 of the instructions; the cause was not found",
-    "truncate, on an edge": "the digests behind the file are moved 16 bytes at a time, where the C library's memmove has vectors of 32; and pages are summed"
-    " over the nodes, where plain C keeps in each node where its digests begin",
+    "write 1,024, aligned": (
+        "not in every run: 1.02, 1.02, 1.02 and 1.07 in four of one build, at 1.02 of the instructions; the"
+        " cause was not found"
+    ),
+    "readdir, 255 children": (
+        "1.42 to 1.45 in three runs of this build, 1.14 in one of the build before, at 1.03 of the"
+        " instructions in both; the cause was not found"
+    ),
+    "save, 23 bytes": (
+        "not in every run: 1.15, 1.04 and 1.10 in three of one build, at 1.01 of the instructions; the cause"
+        " was not found"
+    ),
+    "load, 23 bytes": (
+        "not in every run: 1.03, 1.03 and 1.09 in three of one build, at 1.01 of the instructions; the cause"
+        " was not found"
+    ),
+    "truncate, on an edge": (
+        "the digests behind the file are moved 16 bytes at a time, where the C library's memmove has vectors"
+        " of 32; and pages are summed over the nodes, where plain C keeps in each node where its digests begin"
+    ),
 }
 
 
@@ -61,7 +79,10 @@ def geometric_mean(values):
     return math.exp(sum(map(math.log, values)) / len(values))
 
 
-HEAD = f"{'':29} {'instructions':>12} {'plain C':>9} {'ratio':>6} {'C hash':>6} {'time':>6} {'bar':>5} {'hashing':>7} {'least':>6}"
+HEAD = (
+    f"{'':29} {'instructions':>12} {'plain C':>9} {'ratio':>6} {'C hash':>6} {'time':>6} {'bar':>5} {'hashing':>7}"
+    f" {'least':>6}"
+)
 
 
 def print_table(archive, plain, plain_hash, least, times):
@@ -69,7 +90,8 @@ def print_table(archive, plain, plain_hash, least, times):
     over, ratios = [], {}
     print(HEAD)
     for name in times:
-        (ours, hashed), (theirs, _), (c_hash, _), (fewest, _) = (side[name] for side in (archive, plain, plain_hash, least))
+        sides = archive, plain, plain_hash, least
+        (ours, hashed), (theirs, _), (c_hash, _), (fewest, _) = (side[name] for side in sides)
         row, bar = (ours / theirs, ours / c_hash, times[name]), bar_of(hashed / ours)
         ratios[name] = row
         mark = " *" if times[name] > bar else ""
@@ -113,7 +135,8 @@ def plot(title, series):
     most_y = max(y for points in series.values() for _, y in points)
     across, up = (WIDTH - LEFT - 20) / most_x, (HEIGHT - BOTTOM - TOP) / most_y
     out = [
-        f'<svg xmlns="http://www.w3.org/2000/svg" viewBox="0 0 {WIDTH} {HEIGHT}" font-family="sans-serif" font-size="11">',
+        f'<svg xmlns="http://www.w3.org/2000/svg" viewBox="0 0 {WIDTH} {HEIGHT}" font-family="sans-serif"'
+        ' font-size="11">',
         f'<rect width="{WIDTH}" height="{HEIGHT}" fill="white"/>',
         f'<text x="{LEFT}" y="16">{title}; instructions, archive (solid) and plain C (dashed)</text>',
         f'<path d="M{LEFT} {TOP}V{HEIGHT - BOTTOM}H{WIDTH - 20}" fill="none" stroke="black"/>',

@@ -1,8 +1,10 @@
-/* End to end: a client with the guard and the real host (examples/host) beside the same calls straight to the file system, taken in turns in one directory.
+/* End to end: a client with the guard and the real host (examples/host) beside the same calls straight to the file
+ * system, taken in turns in one directory.
  *
- *     whole DIRECTORY     for each load: the time as a ratio to the calls alone, the guard's share of it, and the share of the host's pages
+ *     whole DIRECTORY     for each load: the time as a ratio to the calls alone, the guard's share and the pages'
  *
- * The guard's share is what is not spent in the host; the pages' share what the host spends beyond the calls alone: pages of 1,024 bytes, a table of ids. */
+ * The guard's share is what is not spent in the host; the pages' share what the host spends beyond the calls alone:
+ * pages of 1,024 bytes, a table of ids. */
 #define _GNU_SOURCE
 #include <dirent.h>
 #include <fcntl.h>
@@ -39,7 +41,8 @@ static void must(int is_right, const char *what)
     exit(1);
 }
 
-static void done(guard_outcome o, uint64_t number) { must(o.kind == GUARD_DONE && o.number == number, "another outcome"); }
+static void done(guard_outcome o,
+    uint64_t number) { must(o.kind == GUARD_DONE && o.number == number, "another outcome"); }
 
 static size_t timed_host(void *h, const uint8_t *request, size_t length, uint8_t reply[HOST_REPLY_LENGTH])
 {
@@ -126,7 +129,8 @@ static void direct_listing(const int *order)
     must(count == FILES, "readdir");
 }
 
-static const struct load { const char *name; void (*guarded)(const int *), (*straight)(const int *); const int *order; } loads[] = {
+static const struct load { const char *name; void (*guarded)(const int *),
+    (*straight)(const int *); const int *order; } loads[] = {
     {"sequential reads of 4 KB", guarded_read, direct_read, NULL},
     {"random reads of 4 KB", guarded_read, direct_read, shuffled},
     {"sequential writes of 4 KB", guarded_write, direct_write, NULL},

@@ -5,7 +5,7 @@
  * back, until the call is done:
  *
  *     static guard g;
- *     static uint8_t answer[GUARD_ANSWER_LENGTH], request[GUARD_REQUEST_LENGTH], reply[GUARD_ANSWER_LENGTH];
+ *     static uint8_t answer[GUARD_ANSWER_LENGTH], request[GUARD_REQUEST_LENGTH], reply[GUARD_REPLY_LENGTH];
  *     guard_fresh(&g);
  *     guard_outcome o = guard_call(&g, call, n, answer, sizeof answer, request, sizeof request);
  *     while (o.kind == GUARD_ASK) {
@@ -45,15 +45,8 @@ extern "C" {
 #define GUARD_FUNCTION static inline
 #endif
 
-enum {
-    GUARD_MEMORY_LENGTH = 52672,
-    GUARD_ANSWER_LENGTH = 9690,  /* the least length of an answer buffer: the longest listing */
-    GUARD_REQUEST_LENGTH = 1037, /* the least length of a request buffer: a page to be stored */
-    GUARD_IMAGE_LENGTH = 44776,  /* the longest image */
-    GUARD_DIGEST_LENGTH = 32
-};
-
-/* Limits (2.7, 3). A path is "/", or components each after one "/"; a component has no byte 0 and is neither "." nor "..". */
+/* Limits (2.7, 3), and the lengths that follow from them. A path is "/", or components each after one "/"; a component
+ * has no byte 0 and is neither "." nor "..". */
 enum {
     GUARD_PAGE_LENGTH = 1024,
     GUARD_FILE_LENGTH = 65536,    /* the longest file */
@@ -63,7 +56,21 @@ enum {
     GUARD_NODES = 256,            /* files and directories, the root among them */
     GUARD_OPEN_FILES = 32,
     GUARD_PAGES = 1024,           /* pages of all files */
-    GUARD_DESCRIPTORS = 1024      /* a host's descriptors are 0 to 1,023 */
+    GUARD_DESCRIPTORS = 1024,     /* a host's descriptors are 0 to 1,023 */
+    GUARD_ID_LENGTH = 4,
+    GUARD_DIGEST_LENGTH = 32,
+
+    /* the least length of an answer buffer, 9,690: the longest listing, which has an id, two bytes and a name for each
+     * node but the root */
+    GUARD_ANSWER_LENGTH = (GUARD_NODES - 1) * (GUARD_ID_LENGTH + 2 + GUARD_NAME_LENGTH),
+    GUARD_REPLY_LENGTH = GUARD_ANSWER_LENGTH, /* the longest right reply: a listing */
+    /* the least length of a request buffer, 1,037: a store, which is its kind, three numbers and a page */
+    GUARD_REQUEST_LENGTH = 1 + 3 * 4 + GUARD_PAGE_LENGTH,
+    /* the longest image, 44,776: a count and the nodes, each two ids, seven bytes and a name, of which the root has
+     * none; a count and the digests */
+    GUARD_IMAGE_LENGTH = 4 + GUARD_NODES * (2 * GUARD_ID_LENGTH + 7) + (GUARD_NODES - 1) * GUARD_NAME_LENGTH
+        + 4 + GUARD_PAGES * GUARD_DIGEST_LENGTH,
+    GUARD_MEMORY_LENGTH = 52672
 };
 
 typedef struct guard { uint8_t memory[GUARD_MEMORY_LENGTH]; } guard;

@@ -23,7 +23,6 @@ extern "C" {
 
 enum {
     GUARD_CALL_LENGTH = 1 + 4 + GUARD_TRANSFER_LENGTH, /* the longest call: a write */
-    GUARD_REPLY_LENGTH = GUARD_ANSWER_LENGTH,          /* the longest right reply: a listing */
     GUARD_STAT_LENGTH = 10,
     GUARD_FILE_PAGES = GUARD_FILE_LENGTH / GUARD_PAGE_LENGTH,
     GUARD_ROOT = 1 /* the root's id */

@@ -15,7 +15,10 @@ static outcome done(uint64_t number, size_t length) { return (outcome){DONE, num
 static outcome ask(size_t length) { return (outcome){ASK, 0, length}; }
 static outcome refused(unsigned number) { return (outcome){REFUSED, number, 0}; }
 
-static uint32_t get4(const uint8_t *p) { return p[0] | (uint32_t)p[1] << 8 | (uint32_t)p[2] << 16 | (uint32_t)p[3] << 24; }
+static uint32_t get4(const uint8_t *p)
+{
+    return p[0] | (uint32_t)p[1] << 8 | (uint32_t)p[2] << 16 | (uint32_t)p[3] << 24;
+}
 static uint64_t get8(const uint8_t *p) { return get4(p) | (uint64_t)get4(p + 4) << 32; }
 
 static uint8_t *put4(uint8_t *p, uint32_t x)
@@ -44,7 +47,8 @@ static uint32_t find_child(const struct plain_guard *g, uint32_t parent, const u
     for (; i < g->nodes; i++) {
         const struct node *n = g->node + i;
         /* siblings' names often begin alike: the last byte tells most of them apart */
-        if (n->parent == parent && n->length == length && n->name[length - 1] == name[length - 1] && memcmp(n->name, name, length) == 0)
+        if (n->parent == parent && n->length == length && n->name[length - 1] == name[length - 1] &&
+            memcmp(n->name, name, length) == 0)
             break;
     }
     return i;
@@ -103,7 +107,8 @@ static unsigned path_fault(const uint8_t *path, size_t length)
         while (end < length && path[end] != '/' && path[end] != 0)
             end++;
         size_t n = end - at;
-        if (n == 0 || (end < length && path[end] == 0) || (path[at] == '.' && (n == 1 || (n == 2 && path[at + 1] == '.'))))
+        if (n == 0 || (end < length && path[end] == 0) ||
+            (path[at] == '.' && (n == 1 || (n == 2 && path[at + 1] == '.'))))
             return 22;
         is_long |= n > NAME;
         if (end == length)
@@ -113,7 +118,8 @@ static unsigned path_fault(const uint8_t *path, size_t length)
     return is_long ? 36 : 0;
 }
 
-/* Where a walk led: the last component, the directory that it is looked up in, and its node, or `nodes` where there is none. */
+/* Where a walk led: the last component, the directory that it is looked up in, and its node, or `nodes` where there is
+ * none. */
 struct way { unsigned fault; uint32_t parent, node; const uint8_t *name; size_t length; };
 
 static struct way walk(const struct plain_guard *g, const uint8_t *path, size_t length)
@@ -236,7 +242,8 @@ static outcome ask_fetch(struct plain_guard *g, unsigned call, uint32_t page, ui
 }
 
 /* A page goes out: of the one fetched, or of zeros where there is none, with `n` bytes of data from `from` on. */
-static outcome ask_store(struct plain_guard *g, unsigned call, uint32_t size, const uint8_t *fetched, uint32_t from, const uint8_t *data,
+static outcome ask_store(struct plain_guard *g, unsigned call, uint32_t size, const uint8_t *fetched, uint32_t from,
+    const uint8_t *data,
                          uint32_t n, uint8_t *request)
 {
     struct pending *p = &g->pending;
@@ -377,7 +384,8 @@ static outcome call_by_handle(struct plain_guard *g, const uint8_t *call, size_t
     }
 }
 
-outcome plain_call(struct plain_guard *g, const uint8_t *call, size_t n, uint8_t *answer, size_t a, uint8_t *request, size_t q)
+outcome plain_call(struct plain_guard *g, const uint8_t *call, size_t n, uint8_t *answer, size_t a, uint8_t *request,
+    size_t q)
 {
     (void)answer;
     if (!g->running)
@@ -458,7 +466,7 @@ static outcome opened(struct plain_guard *g, const uint8_t *reply, size_t n)
     if (n != 4)
         return stop(g, 1);
     uint32_t descriptor = get4(reply), handle = g->node[g->pending.node].id;
-    if (descriptor > 1023)
+    if (descriptor >= DESCRIPTORS)
         return stop(g, 4);
     for (uint32_t i = 0; i < g->opens; i++)
         if (g->open[i].descriptor == descriptor)
@@ -496,7 +504,8 @@ static int listed(const struct plain_guard *g, uint32_t directory, const uint8_t
         uint32_t id = get4(entry);
         k = k + 1 < g->nodes && g->node[k + 1].id == id ? k + 1 : find_id(g, id);
         const struct node *child = g->node + k;
-        if (k == g->nodes || seen[k] || child->parent != directory || child->kind != entry[4] || child->length != entry[5] ||
+        if (k == g->nodes || seen[k] || child->parent != directory || child->kind != entry[4] ||
+            child->length != entry[5] ||
             memcmp(child->name, entry + 6, entry[5]))
             return -1;
         seen[k] = 1;
@@ -573,7 +582,8 @@ static outcome fetched_cut(struct plain_guard *g, const uint8_t *reply, size_t n
 {
     uint32_t from = g->pending.end % PAGE;
     unsigned fault = page_fault(g, reply, n);
-    return fault ? stop(g, fault) : ask_store(g, CUT_STORE, g->node[g->pending.node].size, reply, from, zeros, PAGE - from, request);
+    return fault ? stop(g, fault)
+        : ask_store(g, CUT_STORE, g->node[g->pending.node].size, reply, from, zeros, PAGE - from, request);
 }
 
 static outcome stored_cut(struct plain_guard *g, const uint8_t *reply, size_t n, uint8_t *request)
@@ -595,7 +605,8 @@ static outcome cut(struct plain_guard *g, const uint8_t *reply, size_t n)
     return finish(g, 0, 0);
 }
 
-outcome plain_reply(struct plain_guard *g, const uint8_t *reply, size_t n, uint8_t *answer, size_t a, uint8_t *request, size_t q)
+outcome plain_reply(struct plain_guard *g, const uint8_t *reply, size_t n, uint8_t *answer, size_t a, uint8_t *request,
+    size_t q)
 {
     if (!g->running)
         return refused(5);
@@ -674,19 +685,23 @@ outcome plain_save(struct plain_guard *g, uint8_t *image, size_t n, uint8_t dige
     return done((uint64_t)(p - image), (size_t)(p - image));
 }
 
-/* The record at the front of n bytes as a node, with its name; the record's length, or 0 where the bytes end before that. */
+/* The record at the front of n bytes as a node, with its name; the record's length, or 0 where the bytes end before
+ * that. */
 static size_t read_record(const uint8_t *p, size_t n, struct node *k)
 {
     if (n < RECORD || n - RECORD < p[14])
         return 0;
-    *k = (struct node){.id = get4(p), .parent = get4(p + 4), .kind = p[8], .mode = p[9], .size = get4(p + 10), .length = p[14]};
+    *k = (struct node){
+        .id = get4(p), .parent = get4(p + 4), .kind = p[8], .mode = p[9], .size = get4(p + 10), .length = p[14],
+    };
     memcpy(k->name, p + RECORD, k->length <= NAME ? k->length : 0);
     return (size_t)RECORD + p[14];
 }
 
 static bool in_limits(const struct node *k)
 {
-    return k->id != 0 && k->mode <= 7 && ((k->kind == IS_FILE && k->size <= FILE_BYTES) || (k->kind == IS_DIRECTORY && k->size == 0));
+    return k->id != 0 && k->mode <= 7 &&
+        ((k->kind == IS_FILE && k->size <= FILE_BYTES) || (k->kind == IS_DIRECTORY && k->size == 0));
 }
 
 static bool is_name(const uint8_t *name, size_t n)
@@ -696,7 +711,7 @@ static bool is_name(const uint8_t *name, size_t n)
     return !memchr(name, 0, n) && !memchr(name, '/', n);
 }
 
-/* The length of the path of node i, or 256 where it may not stand behind those before it. */
+/* The length of the path of node i, or PATH + 1 where it may not stand behind those before it. */
 static uint32_t path_length(const struct node *node, uint32_t i, const uint8_t *lengths)
 {
     const struct node *k = node + i;
@@ -732,7 +747,8 @@ static size_t read_nodes(const uint8_t *image, size_t n, struct node *node, uint
             if (path > PATH)
                 return 0;
             lengths[i] = (uint8_t)path;
-        } else if (node->id != 1 || node->parent != 0 || node->kind != IS_DIRECTORY || node->length != 0 || !in_limits(node)) {
+        } else if (node->id != 1 || node->parent != 0 || node->kind != IS_DIRECTORY || node->length != 0 ||
+            !in_limits(node)) {
             return 0;
         }
         node[i].first = (uint16_t)*pages;

@@ -1,5 +1,6 @@
-/* The file guard by hand in plain C, without proofs: what the archive's speed is measured against (bench/run), and other software that the
- * stored lists of events are run on (replay.c). Its entries take and give what the archive's do.
+/* The file guard by hand in plain C, without proofs: what the archive's speed is measured against (bench/run), and
+ * other software that the stored lists of events are run on (replay.c). Its entries take and give what the archive's
+ * do.
  *
  * The page hash is HASH, a name given when guard.c is compiled: the archive's guard_sha256, or one in plain C. */
 #ifndef PLAIN_GUARD_H
@@ -7,8 +8,12 @@
 
 #include "../../include/guard.h"
 
-enum { NODES = 256, OPEN_FILES = 32, PAGES = 1024, PAGE = 1024, DIGEST = 32, FILE_BYTES = 65536, NAME = 32, PATH = 255, DATA = 4096 };
-enum { ANSWER = 9690, REQUEST = 1037, IMAGE = 44776 };
+enum {
+    NODES = GUARD_NODES, OPEN_FILES = GUARD_OPEN_FILES, PAGES = GUARD_PAGES, PAGE = GUARD_PAGE_LENGTH,
+    DESCRIPTORS = GUARD_DESCRIPTORS, DIGEST = GUARD_DIGEST_LENGTH, FILE_BYTES = GUARD_FILE_LENGTH,
+    NAME = GUARD_NAME_LENGTH, PATH = GUARD_PATH_LENGTH, DATA = GUARD_TRANSFER_LENGTH
+};
+enum { ANSWER = GUARD_ANSWER_LENGTH, REQUEST = GUARD_REQUEST_LENGTH, IMAGE = GUARD_IMAGE_LENGTH };
 enum { DONE = GUARD_DONE, ASK = GUARD_ASK, REFUSED = GUARD_REFUSED, STOPPED = GUARD_STOPPED };
 
 typedef guard_outcome outcome;
@@ -27,7 +32,8 @@ struct open_file {
 
 /* The call that waits for a reply. */
 struct pending {
-    uint8_t call, number, length, digests; /* number: mode or rights; length: of a new node's name; digests: how many are staged */
+    /* number: mode or rights; length: of a new node's name; digests: how many are staged */
+    uint8_t call, number, length, digests;
     uint16_t node, opened;
     uint32_t position, end, page, bytes; /* bytes: how many a read has gathered */
 };
@@ -44,8 +50,10 @@ struct plain_guard {
 };
 
 outcome plain_fresh(struct plain_guard *g);
-outcome plain_call(struct plain_guard *g, const uint8_t *call, size_t n, uint8_t *answer, size_t a, uint8_t *request, size_t q);
-outcome plain_reply(struct plain_guard *g, const uint8_t *reply, size_t n, uint8_t *answer, size_t a, uint8_t *request, size_t q);
+outcome plain_call(struct plain_guard *g, const uint8_t *call, size_t n, uint8_t *answer, size_t a, uint8_t *request,
+    size_t q);
+outcome plain_reply(struct plain_guard *g, const uint8_t *reply, size_t n, uint8_t *answer, size_t a, uint8_t *request,
+    size_t q);
 outcome plain_save(struct plain_guard *g, uint8_t *image, size_t n, uint8_t digest[DIGEST]);
 outcome plain_load(struct plain_guard *g, const uint8_t *image, size_t n, const uint8_t *digest, size_t d);
 

@@ -1,5 +1,6 @@
-/* Runs lists of events on the guard in plain C: the lines of `python3 -m model.transcripts` (tests/model/transcripts.py says what they are) from
- * standard input. Every answer must be the one that stands below its event, and what an answer does not name must be untouched. */
+/* Runs lists of events on the guard in plain C: the lines of `python3 -m model.transcripts` (tests/model/transcripts.py
+ * says what they are) from standard input. Every answer must be the one that stands below its event, and what an answer
+ * does not name must be untouched. */
 #define _GNU_SOURCE
 #include <stdio.h>
 #include <stdlib.h>
@@ -63,13 +64,15 @@ static void wipe(void)
     memset(digest, UNTOUCHED, sizeof digest);
 }
 
-static int hand_in(outcome (*entry)(struct plain_guard *, const uint8_t *, size_t, uint8_t *, size_t, uint8_t *, size_t), const char *field)
+static int hand_in(outcome (*entry)(struct plain_guard *, const uint8_t *, size_t, uint8_t *, size_t, uint8_t *,
+    size_t), const char *field)
 {
     size_t n;
     bytes_of(field, given, &n);
     outcome o = entry(&plain, given, n, answer, answer_length, request, request_length);
     print(o, o.kind == ASK ? request : answer);
-    return is_untouched(answer, o.kind == DONE ? o.length : 0, sizeof answer) && is_untouched(request, o.kind == ASK ? o.length : 0, sizeof request);
+    return is_untouched(answer, o.kind == DONE ? o.length : 0, sizeof answer) &&
+        is_untouched(request, o.kind == ASK ? o.length : 0, sizeof request);
 }
 
 static int save(const char *field)

@@ -185,7 +185,7 @@ static void second_life(stage *s)
     client *c = &s->client;
     start(s);
     row(s, client_open(c, "/cellar/note", 3), GUARD_DONE, 4, "open /cellar/note, read and write");
-    row(s, client_read(c, 4, 4096), GUARD_DONE, 33, "read up to 4,096 bytes");
+    row(s, client_read(c, 4, GUARD_TRANSFER_LENGTH), GUARD_DONE, 33, "read up to 4,096 bytes");
     show_text(s, 33);
     row(s, client_write(c, 4, "No: it is gone.\n", 16), GUARD_DONE, 16, "write on at the end");
     row(s, client_close(c, 4), GUARD_DONE, 0, "close");
@@ -197,7 +197,7 @@ static void second_life(stage *s)
 static void read_log(stage *s, int kind, uint64_t number)
 {
     row(s, client_open(&s->client, "/cellar/log", 3), GUARD_DONE, 3, "open /cellar/log, read and write");
-    row(s, client_read(&s->client, 3, 4096), kind, number, "read up to 4,096 bytes");
+    row(s, client_read(&s->client, 3, GUARD_TRANSFER_LENGTH), kind, number, "read up to 4,096 bytes");
 }
 
 static void byte_changed(stage *s)

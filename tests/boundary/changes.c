@@ -1,4 +1,5 @@
-/* Entries with one fault each, between the driver and the archive (ld --wrap): the driver must see every one. CHANGE names it. */
+/* Entries with one fault each, between the driver and the archive (ld --wrap): the driver must see every one. CHANGE
+ * names it. */
 #include "guard.h"
 
 #include <stdlib.h>
@@ -6,7 +7,8 @@
 
 guard_outcome __real_guard_entry_fresh(uint8_t *, size_t);
 guard_outcome __real_guard_entry_call(uint8_t *, size_t, const uint8_t *, size_t, uint8_t *, size_t, uint8_t *, size_t);
-guard_outcome __real_guard_entry_reply(uint8_t *, size_t, const uint8_t *, size_t, uint8_t *, size_t, uint8_t *, size_t);
+guard_outcome __real_guard_entry_reply(uint8_t *, size_t, const uint8_t *, size_t, uint8_t *, size_t, uint8_t *,
+    size_t);
 guard_outcome __real_guard_entry_save(uint8_t *, size_t, uint8_t *, size_t, uint8_t *);
 guard_outcome __real_guard_entry_load(uint8_t *, size_t, const uint8_t *, size_t, const uint8_t *, size_t);
 
@@ -28,7 +30,8 @@ static void look(const char *name, const volatile uint8_t *byte)
         (void)*byte;
 }
 
-/* What is done to the guard's memory, by any entry. Two guards get events in turns: the last one was the other's, the one before it this one's. */
+/* What is done to the guard's memory, by any entry. Two guards get events in turns: the last one was the other's, the
+ * one before it this one's. */
 static void to_memory(uint8_t *memory, size_t n)
 {
     static uint8_t *last, *one_before;
@@ -120,7 +123,8 @@ guard_outcome __wrap_guard_entry_fresh(uint8_t *memory, size_t n)
     return __real_guard_entry_fresh(memory, n);
 }
 
-guard_outcome __wrap_guard_entry_call(uint8_t *memory, size_t n, const uint8_t *call, size_t l, uint8_t *answer, size_t a, uint8_t *request, size_t q)
+guard_outcome __wrap_guard_entry_call(uint8_t *memory, size_t n, const uint8_t *call, size_t l, uint8_t *answer,
+    size_t a, uint8_t *request, size_t q)
 {
     if (refuses_longer(a, q))
         return short_buffer;
@@ -132,7 +136,8 @@ guard_outcome __wrap_guard_entry_call(uint8_t *memory, size_t n, const uint8_t *
     return shown(o, memory, n);
 }
 
-guard_outcome __wrap_guard_entry_reply(uint8_t *memory, size_t n, const uint8_t *reply, size_t l, uint8_t *answer, size_t a, uint8_t *request, size_t q)
+guard_outcome __wrap_guard_entry_reply(uint8_t *memory, size_t n, const uint8_t *reply, size_t l, uint8_t *answer,
+    size_t a, uint8_t *request, size_t q)
 {
     if (refuses_longer(a, q))
         return short_buffer;
@@ -166,7 +171,8 @@ guard_outcome __wrap_guard_entry_save(uint8_t *memory, size_t n, uint8_t *image,
     return o;
 }
 
-guard_outcome __wrap_guard_entry_load(uint8_t *memory, size_t n, const uint8_t *image, size_t l, const uint8_t *digest, size_t d)
+guard_outcome __wrap_guard_entry_load(uint8_t *memory, size_t n, const uint8_t *image, size_t l, const uint8_t *digest,
+    size_t d)
 {
     if (l)
         look("read behind the image", image + l);

@@ -2,9 +2,9 @@
 
     python3 -m boundary.compare [--first SEED] [--count LISTS] [--lengths] DRIVER
 
-Lists from fixed seeds, two side by side, or those that are named; with --lengths also what is handed in at every length. Each goes through the
-driver twice, everything that is lent at the low ends and at the high ends of its places. A pair of lists that differs is shortened and printed
-with the command that repeats it; the status is then 1.
+Lists from fixed seeds, two side by side, or those that are named; with --lengths also what is handed in at every
+length. Each goes through the driver twice, everything that is lent at the low ends and at the high ends of its places.
+A pair of lists that differs is shortened and printed with the command that repeats it; the status is then 1.
 """
 
 import argparse
@@ -107,7 +107,9 @@ def of(had, outcome, number):
 
 def check_all_came(had):
     """Every number and every reason, each with all events that it is for."""
-    lacking = [(event.__name__, number) for event in EVENTS for number in NUMBERS[event] if not had[event, Refused, number]]
+    lacking = [
+        (event.__name__, number) for event in EVENTS for number in NUMBERS[event] if not had[event, Refused, number]
+    ]
     lacking += [("stop", reason) for reason in STOPS if not had[Reply, Stopped, reason]]
     if lacking:
         sys.exit(f"boundary: these never came: {lacking}")

@@ -1,12 +1,14 @@
-/* Lists of events through the archive: every answer compared with the one that stands in the list, and every byte that no answer promises.
+/* Lists of events through the archive: every answer compared with the one that stands in the list, and every byte that
+ * no answer promises.
  *
  *     driver low|high < LISTS
  *
- * LISTS are lines of tests/model/transcripts.py, and more: `g N` says which of two guards gets what follows, `k` keeps it, `a` goes back to what
- * was kept, and `HH*N` within bytes is the byte HH in all N times.
+ * LISTS are lines of tests/model/transcripts.py, and more: `g N` says which of two guards gets what follows, `k` keeps
+ * it, `a` goes back to what was kept, and `HH*N` within bytes is the byte HH in all N times.
  *
- * - All that is lent lies between two pages that nobody may touch (places.h), at their low or at their high end; at every other eight events a few
- *   bytes behind the low one, since nothing needs an alignment. Bytes that are handed in cannot be written.
+ * - All that is lent lies between two pages that nobody may touch (places.h), at their low or at their high end; at
+ *   every other eight events a few bytes behind the low one, since nothing needs an alignment. Bytes that are handed in
+ *   cannot be written.
  * - Before each event the guard moves to another address, and what it leaves is overwritten.
  * - At the end of each list every entry is tried on the guard's memory cut short.
  *
@@ -56,7 +58,8 @@ static void differ(const char *format, ...)
 static void on_fault(int number, siginfo_t *info, void *context)
 {
     (void)context;
-    printf("driver: list %s, line %lu (%.100s): signal %d at %p\n", run->name, line_number, last_event, number, info->si_addr);
+    printf("driver: list %s, line %lu (%.100s): signal %d at %p\n", run->name, line_number, last_event, number,
+        info->si_addr);
     fflush(stdout);
     _exit(1);
 }
@@ -200,8 +203,10 @@ static guard_outcome enter(char letter)
 {
     struct place *m = &run->memory[0];
     switch (letter) {
-    case 'c': return guard_entry_call(m->at, m->length, input.at, input.length, answer.at, answer.length, request.at, request.length);
-    case 'r': return guard_entry_reply(m->at, m->length, input.at, input.length, answer.at, answer.length, request.at, request.length);
+    case 'c': return guard_entry_call(m->at, m->length, input.at, input.length, answer.at, answer.length, request.at,
+        request.length);
+    case 'r': return guard_entry_reply(m->at, m->length, input.at, input.length, answer.at, answer.length, request.at,
+        request.length);
     case 's': return guard_entry_save(m->at, m->length, image.at, image.length, digest.at);
     case 'l': return guard_entry_load(m->at, m->length, input.at, input.length, seal.at, seal.length);
     default: return guard_entry_fresh(m->at, m->length);

@@ -1,7 +1,8 @@
-"""Calls, replies and images of every length: empty, up to 1,100 bytes, and about each length that the specification names.
+"""Calls, replies and images of every length: empty, up to 1,100 bytes, and about each length that the specification
+names.
 
-What is handed in is of one byte, mostly 0 or 0xff, behind the first few. A list keeps a guard (`k`) in some state, and goes back to it (`a`)
-wherever the guard did not refuse.
+What is handed in is of one byte, mostly 0 or 0xff, behind the first few. A list keeps a guard (`k`) in some state, and
+goes back to it (`a`) wherever the guard did not refuse.
 """
 
 from functools import partial

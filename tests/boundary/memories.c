@@ -3,12 +3,14 @@
  *     memories low|high CASES
  *
  * zeros      never made fresh: everything is refused 5, and no byte changes
- * longer     than a guard: a session comes to the same as in the exact length, in longer buffers too, and the bytes behind the guard stay
- * written    by somebody else, in the middle of a session: whatever is handed in, an entry returns, its outcome fits the buffers, nothing outside
- *            of what is lent is touched, after a stop everything is refused 5, and once made fresh it is a guard like any other
+ * longer     than a guard: a session comes to the same as in the exact length, in longer buffers too, and the bytes
+ *            behind the guard stay
+ * written    by somebody else, in the middle of a session: whatever is handed in, an entry returns, its outcome fits
+ *            the buffers, nothing outside of what is lent is touched, after a stop everything is refused 5, and once
+ *            made fresh it is a guard like any other
  *
- * All that is lent lies against unreadable pages (places.h), at their low or high end. The session's host is the fuzzer's. Ends with status 1 at the
- * first difference. */
+ * All that is lent lies against unreadable pages (places.h), at their low or high end. The session's host is the
+ * fuzzer's. Ends with status 1 at the first difference. */
 #define _GNU_SOURCE
 #include "guard.h"
 #include "host.h"
@@ -53,7 +55,8 @@ static void differ(const char *format, ...)
     exit(1);
 }
 
-/* A read or write where none may be, or an entry that does not return. Nothing was in the library when the guard was, so printing is safe here. */
+/* A read or write where none may be, or an entry that does not return. Nothing was in the library when the guard was,
+ * so printing is safe here. */
 static void on_signal(int number)
 {
     printf("memories: %s, event %lu: %s\n", part, events, number == SIGPROF ? "does not return" : strsignal(number));
@@ -75,8 +78,10 @@ static guard_outcome enter(char letter)
 {
     const struct place *m = &memory;
     switch (letter) {
-    case CALL: return guard_entry_call(m->at, m->length, input.at, input.length, answer.at, answer.length, request.at, request.length);
-    case REPLY: return guard_entry_reply(m->at, m->length, input.at, input.length, answer.at, answer.length, request.at, request.length);
+    case CALL: return guard_entry_call(m->at, m->length, input.at, input.length, answer.at, answer.length, request.at,
+        request.length);
+    case REPLY: return guard_entry_reply(m->at, m->length, input.at, input.length, answer.at, answer.length, request.at,
+        request.length);
     case SAVE: return guard_entry_save(m->at, m->length, image.at, image.length, digest.at);
     case LOAD: return guard_entry_load(m->at, m->length, input.at, input.length, seal.at, seal.length);
     default: return guard_entry_fresh(m->at, m->length);
@@ -169,7 +174,7 @@ static void expect(const struct event *e, int kind)
 /* A call to its end; its number. */
 static uint64_t call(const uint8_t *bytes, size_t length)
 {
-    uint8_t reply[GUARD_ANSWER_LENGTH];
+    uint8_t reply[GUARD_REPLY_LENGTH];
     const struct event *e = record(CALL, bytes, length, NULL);
     while (e->outcome.kind == GUARD_ASK) {
         const struct event *asked = e;
@@ -232,7 +237,7 @@ static void run_session(void)
     at_handle(GUARD_SEEK, a, 1000, 8);
     at_handle(GUARD_WRITE, a, 1100, 0);
     at_handle(GUARD_SEEK, a, 1, 8);
-    at_handle(GUARD_READ, a, 4096, 4);
+    at_handle(GUARD_READ, a, GUARD_TRANSFER_LENGTH, 4);
     at_handle(GUARD_TRUNCATE, a, 1030, 8);
     at_path(GUARD_STAT, -1, "/d/a");
     at_path(GUARD_READDIR, -1, "/d");
@@ -275,7 +280,8 @@ static void nothing_changed(void)
 {
     if (!all_zero(memory.at, memory.length))
         differ("the memory is changed");
-    if (!place_untouched(&answer, 0) || !place_untouched(&request, 0) || !place_untouched(&image, 0) || !place_untouched(&digest, 0))
+    if (!place_untouched(&answer, 0) || !place_untouched(&request, 0) || !place_untouched(&image, 0) ||
+        !place_untouched(&digest, 0))
         differ("a buffer is touched");
 }
 
@@ -312,7 +318,8 @@ static void same(const struct event *e, guard_outcome o)
 {
     const guard_outcome *was = &e->outcome;
     if (o.kind != was->kind || o.number != was->number || o.length != was->length)
-        differ("an outcome of kind %d, number %llu and %zu bytes, not as in the exact length", o.kind, (unsigned long long)o.number, o.length);
+        differ("an outcome of kind %d, number %llu and %zu bytes, not as in the exact length", o.kind,
+            (unsigned long long)o.number, o.length);
     if (o.length && memcmp(bytes_of(e->letter, o.kind)->at, e->given, o.length))
         differ("other bytes than in the exact length");
     if (e->letter == SAVE && memcmp(digest.at, e->digest, sizeof e->digest))
@@ -392,7 +399,8 @@ static void overwrite(void)
         memory.at[at + i] = is_random ? (uint8_t)below(256) : edge;
 }
 
-/* Mostly what came next in the session, which fits the pending request; else anything of it, or that with one byte changed. */
+/* Mostly what came next in the session, which fits the pending request; else anything of it, or that with one byte
+ * changed. */
 static guard_outcome hand_in_some(size_t next)
 {
     const struct event *e = session + (next < count && below(4) ? next : below(count));
@@ -449,7 +457,8 @@ static void written(size_t cases)
         if (i % 8 == 0)
             begin_again();
     }
-    if (!outcomes[GUARD_DONE] || !outcomes[GUARD_ASK] || !outcomes[GUARD_REFUSED] || !outcomes[GUARD_STOPPED] || !after_stop)
+    if (!outcomes[GUARD_DONE] || !outcomes[GUARD_ASK] || !outcomes[GUARD_REFUSED] || !outcomes[GUARD_STOPPED] ||
+        !after_stop)
         differ("some kind of outcome never came");
 }
 
@@ -484,7 +493,8 @@ int main(int n, char **words)
     longer();
     part = "written";
     written(strtoul(words[2], NULL, 10));
-    printf("%lu events; in written memories %lu done, %lu asks, %lu refused, %lu stops, %lu after a stop\n", events, outcomes[GUARD_DONE],
+    printf("%lu events; in written memories %lu done, %lu asks, %lu refused, %lu stops, %lu after a stop\n", events,
+        outcomes[GUARD_DONE],
            outcomes[GUARD_ASK], outcomes[GUARD_REFUSED], outcomes[GUARD_STOPPED], after_stop);
     return 0;
 }

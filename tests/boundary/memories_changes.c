@@ -1,5 +1,5 @@
-/* Entries with one fault each at memories that are no guard's own, between memories.c and the archive (ld --wrap). CHANGE names it; its first word
- * is the part of memories.c that must see it. */
+/* Entries with one fault each at memories that are no guard's own, between memories.c and the archive (ld --wrap).
+ * CHANGE names it; its first word is the part of memories.c that must see it. */
 #include "guard.h"
 
 #include <stdlib.h>
@@ -7,7 +7,8 @@
 
 guard_outcome __real_guard_entry_fresh(uint8_t *, size_t);
 guard_outcome __real_guard_entry_call(uint8_t *, size_t, const uint8_t *, size_t, uint8_t *, size_t, uint8_t *, size_t);
-guard_outcome __real_guard_entry_reply(uint8_t *, size_t, const uint8_t *, size_t, uint8_t *, size_t, uint8_t *, size_t);
+guard_outcome __real_guard_entry_reply(uint8_t *, size_t, const uint8_t *, size_t, uint8_t *, size_t, uint8_t *,
+    size_t);
 guard_outcome __real_guard_entry_save(uint8_t *, size_t, uint8_t *, size_t, uint8_t *);
 guard_outcome __real_guard_entry_load(uint8_t *, size_t, const uint8_t *, size_t, const uint8_t *, size_t);
 
@@ -103,7 +104,8 @@ static void to_buffers(guard_outcome o, uint8_t *answer, size_t a, uint8_t *requ
         change("zeros: the request is written", request + q - 1);
     }
     if (is_longer && o.length)
-        change(o.kind == GUARD_DONE ? "longer: another answer" : "longer: another request", o.kind == GUARD_DONE ? answer : request);
+        change(o.kind == GUARD_DONE ? "longer: another answer" : "longer: another request", o.kind == GUARD_DONE
+            ? answer : request);
     if (a > GUARD_ANSWER_LENGTH)
         change("longer: behind the answer", answer + a - 1);
     if (q > GUARD_REQUEST_LENGTH)
@@ -148,7 +150,8 @@ guard_outcome __wrap_guard_entry_fresh(uint8_t *memory, size_t n)
     return end(memory, n, __real_guard_entry_fresh(memory, n));
 }
 
-guard_outcome __wrap_guard_entry_call(uint8_t *memory, size_t n, const uint8_t *call, size_t l, uint8_t *answer, size_t a, uint8_t *request, size_t q)
+guard_outcome __wrap_guard_entry_call(uint8_t *memory, size_t n, const uint8_t *call, size_t l, uint8_t *answer,
+    size_t a, uint8_t *request, size_t q)
 {
     begin(memory, n);
     if (refuses(n) || refuses_buffers(a, q))
@@ -159,7 +162,8 @@ guard_outcome __wrap_guard_entry_call(uint8_t *memory, size_t n, const uint8_t *
     return end(memory, n, to_event("zeros: another number for a call", o, call, l));
 }
 
-guard_outcome __wrap_guard_entry_reply(uint8_t *memory, size_t n, const uint8_t *reply, size_t l, uint8_t *answer, size_t a, uint8_t *request, size_t q)
+guard_outcome __wrap_guard_entry_reply(uint8_t *memory, size_t n, const uint8_t *reply, size_t l, uint8_t *answer,
+    size_t a, uint8_t *request, size_t q)
 {
     begin(memory, n);
     if (refuses(n) || refuses_buffers(a, q))
@@ -194,7 +198,8 @@ guard_outcome __wrap_guard_entry_save(uint8_t *memory, size_t n, uint8_t *image,
     return end(memory, n, to_event("zeros: another number for a save", o, NULL, 0));
 }
 
-guard_outcome __wrap_guard_entry_load(uint8_t *memory, size_t n, const uint8_t *image, size_t l, const uint8_t *digest, size_t d)
+guard_outcome __wrap_guard_entry_load(uint8_t *memory, size_t n, const uint8_t *image, size_t l, const uint8_t *digest,
+    size_t d)
 {
     begin(memory, n);
     if (refuses(n))

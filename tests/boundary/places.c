@@ -94,7 +94,8 @@ static size_t before(const struct place *p)
 int place_untouched(const struct place *p, size_t first)
 {
     size_t behind = before(p) + first;
-    return first <= p->length && !memcmp(p->start, pattern, before(p)) && !memcmp(p->start + behind, pattern + behind, p->room - behind);
+    return first <= p->length && !memcmp(p->start, pattern, before(p)) &&
+        !memcmp(p->start + behind, pattern + behind, p->room - behind);
 }
 
 void place_restore(struct place *p, size_t first)

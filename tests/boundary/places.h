@@ -1,7 +1,8 @@
-/* Places for what is lent to the guard: memory between two pages that nobody may touch, full of a pattern that is known.
+/* Places for what is lent to the guard: memory between two pages that nobody may touch, full of a pattern that is
+ * known.
  *
- * A thing lies at the low end of its place, or at the high end: a read or write before its first byte faults in the one, behind its last byte in
- * the other. Where nothing faults, the pattern tells whether a byte was written. */
+ * A thing lies at the low end of its place, or at the high end: a read or write before its first byte faults in the
+ * one, behind its last byte in the other. Where nothing faults, the pattern tells whether a byte was written. */
 #ifndef PLACES_H
 #define PLACES_H
 
@@ -19,7 +20,8 @@ struct place {
 /* From now on things lie at this end; the two ends have two patterns that differ in every byte. */
 void places_begin(int high);
 
-/* The other end, or the same, and at the low end so many bytes behind it: nothing that is lent needs an alignment. The pattern stays. */
+/* The other end, or the same, and at the low end so many bytes behind it: nothing that is lent needs an alignment. The
+ * pattern stays. */
 void places_turn(int high, size_t shift);
 
 /* A place with room for so many bytes, full of the pattern. */

@@ -1,5 +1,6 @@
-/* Each function of guard_client.h that builds or reads bytes, beside bytes written by hand from docs/SPECIFICATION.md (4.1, 5.1, 5.5), in a buffer
- * of each length up to one more than is needed; and the words. In C and C++. Ends with status 1 where something differs. */
+/* Each function of guard_client.h that builds or reads bytes, beside bytes written by hand from docs/SPECIFICATION.md
+ * (4.1, 5.1, 5.5), in a buffer of each length up to one more than is needed; and the words. In C and C++. Ends with
+ * status 1 where something differs. */
 #include <guard_client.h>
 #include <stdio.h>
 #include <string.h>
@@ -73,26 +74,35 @@ static void calls_by_handle(void)
     BUILDS("\4\1\2\3\4", guard_close_call(to, room, 0x04030201));
     BUILDS("\5\2\0\0\0\1\2\3\4\5\6\7\10", guard_seek_call(to, room, 2, UINT64_C(0x0807060504030201)));
     BUILDS("\6\2\0\0\0\0\0\0\0", guard_read_call(to, room, 2, 0));
-    BUILDS("\6\2\0\0\0\0\20\0\0", guard_read_call(to, room, 2, 4096));
+    BUILDS("\6\2\0\0\0\0\20\0\0", guard_read_call(to, room, 2, GUARD_TRANSFER_LENGTH));
     BUILDS("\7\2\0\0\0", guard_write_call(to, room, 2, NULL, 0));
     BUILDS("\7\2\0\0\0hello", guard_write_call(to, room, 2, "hello", 5));
-    BUILDS("\10\377\377\377\377\0\0\1\0\0\0\0\0", guard_truncate_call(to, room, 0xffffffff, 65536));
+    BUILDS("\10\377\377\377\377\0\0\1\0\0\0\0\0", guard_truncate_call(to, room, 0xffffffff, GUARD_FILE_LENGTH));
     NOTHING(guard_read_call(to, room, 2, 4097));
     NOTHING(guard_read_call(to, room, 2, SIZE_MAX));
+}
+
+/* The lengths that the requirements give as numbers. */
+static void lengths(void)
+{
+    check(GUARD_ANSWER_LENGTH == 9690 && GUARD_REQUEST_LENGTH == 1037 && GUARD_IMAGE_LENGTH == 44776, "lengths");
+    check(GUARD_TRANSFER_LENGTH == 4096 && GUARD_FILE_LENGTH == 65536 && GUARD_FILE_PAGES == 64, "a file's lengths");
 }
 
 /* The longest call, and one byte more. */
 static void longest_call(void)
 {
-    static uint8_t call[5 + 4097];
+    static uint8_t call[GUARD_CALL_LENGTH + 1];
     memset(call, 'w', sizeof call);
     memcpy(call, "\7\2\0\0\0", 5);
-    check(GUARD_CALL_LENGTH == 5 + 4096 && GUARD_CALL_LENGTH >= 2 + GUARD_PATH_LENGTH, "the longest call");
-    for (room = 4099; room <= 4102; room++) {
+    check(GUARD_CALL_LENGTH == 5 + GUARD_TRANSFER_LENGTH && GUARD_CALL_LENGTH >= 2 + GUARD_PATH_LENGTH,
+        "the longest call");
+    for (room = GUARD_CALL_LENGTH - 2; room <= GUARD_CALL_LENGTH + 1; room++) {
         memset(to, UNTOUCHED, sizeof to);
-        built(guard_write_call(to, room, 2, call + 5, 4096), call, 4101, "a write of 4,096");
+        built(guard_write_call(to, room, 2, call + 5, GUARD_TRANSFER_LENGTH), call, GUARD_CALL_LENGTH,
+            "a write of 4,096");
     }
-    NOTHING(guard_write_call(to, room, 2, call + 5, 4097));
+    NOTHING(guard_write_call(to, room, 2, call + 5, GUARD_TRANSFER_LENGTH + 1));
     NOTHING(guard_write_call(to, room, 2, call + 5, SIZE_MAX));
 }
 
@@ -103,10 +113,13 @@ static void stats(void)
     static const char bytes[] = "\3\0\0\0\1\6\304\11\0\0";
     guard_stat s = {0, 0, 0, 0};
     room = 0;
-    check(!guard_get_stat((const uint8_t *)bytes, 9, &s) && !guard_get_stat((const uint8_t *)bytes, 11, &s), "a stat's length");
-    check(guard_get_stat((const uint8_t *)bytes, 10, &s) && s.id == 3 && s.kind == GUARD_FILE && s.mode == 6 && s.size == 2500, "a stat");
+    check(!guard_get_stat((const uint8_t *)bytes, 9, &s) && !guard_get_stat((const uint8_t *)bytes, 11, &s),
+        "a stat's length");
+    check(guard_get_stat((const uint8_t *)bytes, 10, &s) && s.id == 3 && s.kind == GUARD_FILE && s.mode == 6 &&
+        s.size == 2500, "a stat");
     BUILDS(bytes, guard_stat_reply(to, room, &s));
-    check(guard_get_stat((const uint8_t *)"\1\2\3\4\2\0\5\6\7\10", 10, &s) && s.id == 0x04030201 && s.size == 0x08070605, "a stat's numbers");
+    check(guard_get_stat((const uint8_t *)"\1\2\3\4\2\0\5\6\7\10", 10, &s) && s.id == 0x04030201 &&
+        s.size == 0x08070605, "a stat's numbers");
 }
 
 static void listings(void)
@@ -120,17 +133,20 @@ static void listings(void)
         check(guard_dirent_reply(to, room, 10, &second) == (room < 17 ? 0U : 17U), "a second entry");
     check(memcmp(to, bytes, 17) == 0, "both entries");
     check(guard_dirent_reply(to, 5, 6, &second) == 0, "a listing longer than its buffer");
-    check(guard_get_dirent((const uint8_t *)bytes, 17, &at, &e) && at == 10 && e.id == 4 && e.kind == 1, "the first entry");
+    check(guard_get_dirent((const uint8_t *)bytes, 17, &at, &e) && at == 10 && e.id == 4 && e.kind == 1,
+        "the first entry");
     check(e.name_length == 4 && memcmp(e.name, "note", 4) == 0, "the first name");
     for (cut = 10; cut < 17; cut++)
         check(!guard_get_dirent((const uint8_t *)bytes, cut, &at, &e) && at == 10, "an entry that is cut short");
-    check(guard_get_dirent((const uint8_t *)bytes, 17, &at, &e) && at == 17 && e.id == 0x010203 && e.kind == 2, "the second entry");
+    check(guard_get_dirent((const uint8_t *)bytes, 17, &at, &e) && at == 17 && e.id == 0x010203 && e.kind == 2,
+        "the second entry");
     check(e.name_length == 1 && e.name[0] == 'b', "the second name");
     check(!guard_get_dirent((const uint8_t *)bytes, 17, &at, &e), "the end of a listing");
     first.name = name;
     first.name_length = 32;
     room = sizeof to;
-    check(guard_dirent_reply(to, room, 0, &first) == 38 && memcmp(to, "\4\0\0\0\1\40", 6) == 0 && memcmp(to + 6, name, 32) == 0, "a name of 32");
+    check(guard_dirent_reply(to, room, 0, &first) == 38 && memcmp(to, "\4\0\0\0\1\40", 6) == 0 &&
+        memcmp(to + 6, name, 32) == 0, "a name of 32");
     first.name_length = 33;
     NOTHING(guard_dirent_reply(to, room, 0, &first));
     first.name_length = 0;
@@ -145,26 +161,28 @@ static void replies(void)
     BUILDS("\2\0\0\0", guard_id_reply(to, room, 2));
     BUILDS("\377\376\375\374", guard_id_reply(to, room, 0xfcfdfeff));
     BUILDS("\0\0\0\0", guard_id_reply(to, room, 0));
-    BUILDS("\377\3\0\0", guard_descriptor_reply(to, room, 1023));
+    BUILDS("\377\3\0\0", guard_descriptor_reply(to, room, GUARD_DESCRIPTORS - 1));
     BUILDS("\0\0\0\0", guard_status_reply(to, room, 0));
     BUILDS("\0\4\0\0", guard_status_reply(to, room, GUARD_PAGE_LENGTH));
     BUILDS("\373\377\377\377", guard_status_reply(to, room, -5));
     memcpy(page, "hello", 5);
-    BUILDS_N(page, 1024, guard_page_reply(to, room, "hello", 5));
+    BUILDS_N(page, GUARD_PAGE_LENGTH, guard_page_reply(to, room, "hello", 5));
     memset(page, 'p', sizeof page);
-    BUILDS_N(page, 1024, guard_page_reply(to, room, page, 1024));
-    NOTHING(guard_page_reply(to, room, page, 1025));
+    BUILDS_N(page, GUARD_PAGE_LENGTH, guard_page_reply(to, room, page, GUARD_PAGE_LENGTH));
+    NOTHING(guard_page_reply(to, room, page, GUARD_PAGE_LENGTH + 1));
     memset(page, 0, sizeof page);
-    BUILDS_N(page, 1024, guard_page_reply(to, room, NULL, 0));
+    BUILDS_N(page, GUARD_PAGE_LENGTH, guard_page_reply(to, room, NULL, 0));
 }
 
 /* ---- requests */
 
-static int reads(guard_request *r, const char *bytes, size_t n) { return guard_get_request((const uint8_t *)bytes, n, r); }
+static int reads(guard_request *r, const char *bytes,
+    size_t n) { return guard_get_request((const uint8_t *)bytes, n, r); }
 
 static void path_requests(void)
 {
-    static const char with[] = {GUARD_CREATE, GUARD_MKDIR, GUARD_CHMOD, GUARD_OPEN}, without[] = {GUARD_REMOVE, GUARD_RMDIR, GUARD_READDIR, GUARD_STAT};
+    static const char with[] = {GUARD_CREATE, GUARD_MKDIR, GUARD_CHMOD, GUARD_OPEN},
+        without[] = {GUARD_REMOVE, GUARD_RMDIR, GUARD_READDIR, GUARD_STAT};
     char bytes[] = "\0\0/a/b", bare[] = "\0/a/b";
     guard_request r;
     room = 0;
@@ -172,35 +190,48 @@ static void path_requests(void)
         for (int mode = 0; mode < 256; mode++) {
             bytes[0] = with[i];
             bytes[1] = (char)mode;
-            check(reads(&r, bytes, 6) == (with[i] == GUARD_OPEN ? mode >= 1 && mode <= 3 : mode <= 7), "which modes and rights");
-            check(mode > 3 || mode == 0 || (r.kind == with[i] && r.mode == mode && r.path == bytes + 2 && r.path_length == 4), "mode and path");
+            check(reads(&r, bytes, 6) == (with[i] == GUARD_OPEN ? mode >= 1 && mode <= 3 : mode <= 7),
+                "which modes and rights");
+            check(mode > 3 || mode == 0 ||
+                (r.kind == with[i] && r.mode == mode && r.path == bytes + 2 && r.path_length == 4), "mode and path");
             check(!reads(&r, bytes, 1) && !reads(&r, bytes, 2), "a path that is missing");
         }
     for (size_t i = 0; i < sizeof without; i++) {
         bare[0] = without[i];
-        check(reads(&r, bare, 5) && r.kind == without[i] && r.mode == 0 && r.path == bare + 1 && r.path_length == 4, "a path");
+        check(reads(&r, bare, 5) && r.kind == without[i] && r.mode == 0 && r.path == bare + 1 && r.path_length == 4,
+            "a path");
         check(!r.bytes && r.descriptor == 0 && r.page == 0 && r.size == 0, "what there is no field for");
         check(!reads(&r, bare, 1), "a path that is missing");
     }
-    check(!reads(&r, "", 0) && !reads(&r, "\0/", 2) && !reads(&r, "\5\1\0\0\0", 5) && !reads(&r, "\16/", 2), "no request");
+    check(!reads(&r, "", 0) && !reads(&r, "\0/", 2) && !reads(&r, "\5\1\0\0\0", 5) && !reads(&r, "\16/", 2),
+        "no request");
 }
+
+enum { LAST_DESCRIPTOR = GUARD_DESCRIPTORS - 1, STORED_AT = GUARD_REQUEST_LENGTH - GUARD_PAGE_LENGTH };
 
 static void page_requests(void)
 {
-    static char store[1037 + 1] = "\7\377\3\0\0\77\0\0\0\0\0\1\0page";
+    static char store[GUARD_REQUEST_LENGTH + 1] = "\7\377\3\0\0\77\0\0\0\0\0\1\0page";
     guard_request r;
     room = 0;
-    check(reads(&r, "\4\7\0\0\0", 5) && r.kind == GUARD_CLOSE && r.descriptor == 7 && r.page == 0 && r.size == 0 && !r.bytes, "close");
+    check(reads(&r, "\4\7\0\0\0", 5) && r.kind == GUARD_CLOSE && r.descriptor == 7 && r.page == 0 && r.size == 0 &&
+        !r.bytes, "close");
     check(!reads(&r, "\4\7\0\0\0", 4) && !reads(&r, "\4\7\0\0\0\0", 6), "a close's length");
-    check(reads(&r, "\6\0\0\0\0\77\0\0\0", 9) && r.kind == GUARD_FETCH && r.descriptor == 0 && r.page == 63 && r.size == 0, "fetch");
+    check(reads(&r, "\6\0\0\0\0\77\0\0\0", 9) && r.kind == GUARD_FETCH && r.descriptor == 0 &&
+        r.page == GUARD_FILE_PAGES - 1 && r.size == 0, "fetch");
     check(!reads(&r, "\6\0\0\0\0\100\0\0\0", 9), "page 64");
     check(!reads(&r, "\6\0\0\0\0\77\0\0\0", 8) && !reads(&r, "\6\0\0\0\0\77\0\0\0\0", 10), "a fetch's length");
-    check(reads(&r, "\10\377\3\0\0\0\0\1\0", 9) && r.kind == GUARD_CUT && r.descriptor == 1023 && r.size == 65536 && r.page == 0, "cut");
+    check(reads(&r, "\10\377\3\0\0\0\0\1\0", 9) && r.kind == GUARD_CUT && r.descriptor == LAST_DESCRIPTOR, "cut");
+    check(r.size == GUARD_FILE_LENGTH && r.page == 0, "a cut's size");
     check(!reads(&r, "\10\377\3\0\0\1\0\1\0", 9), "size 65,537");
-    check(!reads(&r, "\10\0\4\0\0\0\0\0\0", 9) && !reads(&r, "\10\377\377\377\377\0\0\0\0", 9), "descriptors 1,024 and -1");
-    check(reads(&r, store, 1037) && r.kind == GUARD_STORE && r.descriptor == 1023 && r.page == 63 && r.size == 65536, "store");
-    check(r.bytes == (const uint8_t *)store + 13 && !r.path && r.path_length == 0, "a store's page");
-    check(!reads(&r, store, 1036) && !reads(&r, store, 1038) && !reads(&r, store, 13) && !reads(&r, store, 1), "a store's length");
+    check(!reads(&r, "\10\0\4\0\0\0\0\0\0", 9) && !reads(&r, "\10\377\377\377\377\0\0\0\0", 9),
+        "descriptors 1,024 and -1");
+    check(reads(&r, store, GUARD_REQUEST_LENGTH) && r.kind == GUARD_STORE && r.descriptor == LAST_DESCRIPTOR, "store");
+    check(r.page == GUARD_FILE_PAGES - 1 && r.size == GUARD_FILE_LENGTH, "a store's page and size");
+    check(r.bytes == (const uint8_t *)store + STORED_AT && !r.path && r.path_length == 0, "a store's page");
+    check(!reads(&r, store, GUARD_REQUEST_LENGTH - 1) && !reads(&r, store, GUARD_REQUEST_LENGTH + 1),
+        "a store's length");
+    check(!reads(&r, store, STORED_AT) && !reads(&r, store, 1), "a store without its page");
 }
 
 /* Paths, judged by this header and by the guard: stat refuses 22 or 36, or walks and finds nothing (2), or asks. */
@@ -218,8 +249,9 @@ static void path(const char *text, size_t n)
 
 static void paths(void)
 {
-    static const char *const texts[] = {"", "/", "//", "a", "/a", "/a/", "/a/b", "/a//b", "/.", "/..", "/...", "/.a", "/a.", "/./a", "/a/..", "/..a", "/a/.b/c"};
-    char longest[1 + 256 + 1];
+    static const char *const texts[] = {"", "/", "//", "a", "/a", "/a/", "/a/b", "/a//b", "/.", "/..", "/...", "/.a",
+        "/a.", "/./a", "/a/..", "/..a", "/a/.b/c"};
+    char longest[1 + GUARD_PATH_LENGTH + 1 + 1];
     for (size_t i = 0; i < sizeof texts / sizeof *texts; i++)
         path(texts[i], strlen(texts[i]));
     path("/a\0b", 4);
@@ -238,14 +270,18 @@ static void paths(void)
 /* ---- words */
 
 static const struct { unsigned number; const char *word; } numbers[] = {
-    {5, "stopped"}, {114, "busy"}, {61, "unasked"}, {34, "short"}, {22, "malformed"}, {36, "long"}, {20, "no folder"}, {13, "barred"}, {2, "absent"},
-    {17, "present"}, {21, "folder"}, {16, "in use"}, {39, "not empty"}, {24, "handles"}, {9, "handle"}, {27, "too big"}, {28, "full"}, {74, "seal"},
+    {5, "stopped"}, {114, "busy"}, {61, "unasked"}, {34, "short"}, {22, "malformed"}, {36, "long"}, {20, "no folder"},
+        {13, "barred"}, {2, "absent"},
+    {17, "present"}, {21, "folder"}, {16, "in use"}, {39, "not empty"}, {24, "handles"}, {9, "handle"}, {27, "too big"},
+        {28, "full"}, {74, "seal"},
     {84, "image"},
 };
 static const char *const reasons[] = {"", "length", "status", "id", "descriptor", "page", "stat", "listing"};
-static const char *const calls[] = {"no call", "create", "mkdir", "open", "close", "seek", "read", "write", "truncate", "remove", "rmdir", "chmod",
+static const char *const calls[] = {"no call", "create", "mkdir", "open", "close", "seek", "read", "write", "truncate",
+    "remove", "rmdir", "chmod",
                                     "readdir", "stat", "no call"};
-static const char *const requests[] = {"no request", "create", "mkdir", "open", "close", "no request", "fetch", "store", "cut", "remove", "rmdir", "chmod",
+static const char *const requests[] = {"no request", "create", "mkdir", "open", "close", "no request", "fetch", "store",
+    "cut", "remove", "rmdir", "chmod",
                                        "readdir", "stat", "no request"};
 static const char *const outcomes[] = {"done", "ask", "refused", "stopped", "no outcome"};
 
@@ -266,8 +302,9 @@ static void words(void)
     check(known == 19 && sizeof numbers / sizeof *numbers == 19, "19 numbers");
     for (unsigned n = 1; n <= 7; n++)
         check(begins(guard_stop_text(n), reasons[n]), reasons[n]);
-    check(!strcmp(guard_stop_text(0), "no reason of the guard") && !strcmp(guard_stop_text(8), guard_stop_text(0)), "seven reasons");
-    for (int n = 0; n <= 14; n++)
+    check(!strcmp(guard_stop_text(0), "no reason of the guard") && !strcmp(guard_stop_text(8), guard_stop_text(0)),
+        "seven reasons");
+    for (int n = 0; n <= GUARD_STAT + 1; n++)
         check(!strcmp(guard_call_name(n), calls[n]) && !strcmp(guard_request_name(n), requests[n]), calls[n]);
     for (int n = 0; n <= 4; n++)
         check(!strcmp(guard_outcome_name(n), outcomes[n]), outcomes[n]);
@@ -277,6 +314,7 @@ int main(void)
 {
     calls_by_path();
     calls_by_handle();
+    lengths();
     longest_call();
     stats();
     listings();

@@ -1,6 +1,7 @@
-/* The client layer of guard_client.h over a host that changes the shared memory while an entry runs. Everything comes back as it does over a host
- * that keeps still, or the change is caught. Then lengths at their limits, in buffers of exactly those lengths, and what is kept of a stop. With the
- * word "torn" the second of the two tests of changes alone. Linked with --wrap for the entries. Ends with status 1 where something differs. */
+/* The client layer of guard_client.h over a host that changes the shared memory while an entry runs. Everything comes
+ * back as it does over a host that keeps still, or the change is caught. Then lengths at their limits, in buffers of
+ * exactly those lengths, and what is kept of a stop. With the word "torn" the second of the two tests of changes alone.
+ * Linked with --wrap for the entries. Ends with status 1 where something differs. */
 #define _DEFAULT_SOURCE /* mmap's MAP_ANONYMOUS */
 #include <guard_client.h>
 #include <signal.h>
@@ -93,7 +94,8 @@ static size_t host(void)
     switch (r.kind) {
     case GUARD_CREATE: return guard_id_reply(reply, GUARD_REPLY_LENGTH, next_id++);
     case GUARD_OPEN: return guard_descriptor_reply(reply, GUARD_REPLY_LENGTH, next_descriptor++);
-    case GUARD_FETCH: return guard_page_reply(reply, GUARD_REPLY_LENGTH, pages[r.descriptor][r.page], GUARD_PAGE_LENGTH);
+    case GUARD_FETCH: return guard_page_reply(reply, GUARD_REPLY_LENGTH, pages[r.descriptor][r.page],
+        GUARD_PAGE_LENGTH);
     case GUARD_STORE:
         memcpy(pages[r.descriptor][r.page], r.bytes, GUARD_PAGE_LENGTH);
         return guard_status_reply(reply, GUARD_REPLY_LENGTH, GUARD_PAGE_LENGTH);
@@ -150,9 +152,10 @@ static void run(void)
     expect(carry(guard_open_call(call, sizeof call, name, GUARD_RIGHT_BOTH)), GUARD_DONE, 2, "open");
     expect(carry(guard_write_call(call, sizeof call, 2, bytes, sizeof bytes)), GUARD_DONE, 1500, "write");
     expect(carry(guard_seek_call(call, sizeof call, 2, 1000)), GUARD_DONE, 1000, "seek");
-    expect(carry(guard_write_call(call, sizeof call, 2, "over the edge of a page.", 24)), GUARD_DONE, 24, "write over the edge");
+    expect(carry(guard_write_call(call, sizeof call, 2, "over the edge of a page.", 24)), GUARD_DONE, 24,
+        "write over the edge");
     expect(carry(guard_seek_call(call, sizeof call, 2, 990)), GUARD_DONE, 990, "seek back");
-    expect(carry(guard_read_call(call, sizeof call, 2, 4096)), GUARD_DONE, 510, "read");
+    expect(carry(guard_read_call(call, sizeof call, 2, GUARD_TRANSFER_LENGTH)), GUARD_DONE, 510, "read");
     check(!memcmp(c.answer, "ttttttttttover the edge of a page.t", 35), "the bytes of a read");
     expect(carry(guard_close_call(call, sizeof call, 2)), GUARD_DONE, 0, "close");
     expect(carry(guard_readdir_call(call, sizeof call, "/")), GUARD_DONE, 1, "readdir");
@@ -178,8 +181,9 @@ static void meddled(void)
 
 /* ---- a host that changes the first bytes when those behind them are touched for the first time
  *
- * So the change falls between two looks of the guard at one page, image or request, where these are shared: what was hashed is not what is then
- * used. The bytes lie across the edge of a page of the machine, and what is behind the edge may not be touched until someone does. */
+ * So the change falls between two looks of the guard at one page, image or request, where these are shared: what was
+ * hashed is not what is then used. The bytes lie across the edge of a page of the machine, and what is behind the edge
+ * may not be touched until someone does. */
 
 static uint8_t *place, *torn; /* memory of the machine's pages, and where bytes begin in it */
 static size_t machine_page, first;
@@ -214,12 +218,14 @@ static void lay(size_t before)
 static int make_place(void)
 {
     machine_page = (size_t)sysconf(_SC_PAGESIZE);
-    place = (uint8_t *)mmap(NULL, machine_page + GUARD_IMAGE_LENGTH, PROT_READ | PROT_WRITE, MAP_PRIVATE | MAP_ANONYMOUS, -1, 0);
+    place = (uint8_t *)mmap(NULL, machine_page + GUARD_IMAGE_LENGTH, PROT_READ | PROT_WRITE,
+        MAP_PRIVATE | MAP_ANONYMOUS, -1, 0);
     lay(64);
     return place != MAP_FAILED && signal(SIGSEGV, touched) != SIG_ERR;
 }
 
-static const uint8_t text[1500] = "These are the first bytes of a page, and a host would have others believed in their place.";
+static const uint8_t text[1500] =
+    "These are the first bytes of a page, and a host would have others believed in their place.";
 
 /* A file of 1,500 bytes, open. */
 static void make_file(void)
@@ -282,7 +288,8 @@ static void tear(guard_outcome (*event)(int), const char *what)
     memcpy(kept_digest, digest, sizeof digest);
     guard_outcome o = event(1);
     check(!armed && still.kind == GUARD_DONE, "it was changed, and else it is done");
-    if ((o.kind == GUARD_STOPPED && o.number == GUARD_STOP_PAGE) || (o.kind == GUARD_REFUSED && o.number == GUARD_WRONG_DIGEST))
+    if ((o.kind == GUARD_STOPPED && o.number == GUARD_STOP_PAGE) ||
+        (o.kind == GUARD_REFUSED && o.number == GUARD_WRONG_DIGEST))
         return;
     expect(o, still.kind, still.number, what);
     check(!memcmp(&g, &kept, sizeof g) && !memcmp(digest, kept_digest, sizeof digest), what);
@@ -309,11 +316,15 @@ static void stops(void)
     check(c.request_length == 0 && c.reason == 0, "nothing pending");
     expect(guard_client_call(&c, call, guard_open_call(call, sizeof call, "/a", 1), NULL, 0), GUARD_ASK, 0, "open");
     check(c.request_length == 4 && !memcmp(c.request, "\3\1/a", 4), "the pending request is kept");
-    expect(guard_client_call(&c, call, guard_stat_call(call, sizeof call, "/"), NULL, 0), GUARD_REFUSED, GUARD_PENDING, "a call while it is pending");
+    expect(guard_client_call(&c, call, guard_stat_call(call, sizeof call, "/"), NULL, 0), GUARD_REFUSED, GUARD_PENDING,
+        "a call while it is pending");
     check(c.request_length == 4 && c.reason == 0, "a refusal leaves it pending");
-    expect(guard_client_reply(&c, reply, guard_descriptor_reply(reply, 4, -1), NULL, 0), GUARD_STOPPED, GUARD_STOP_DESCRIPTOR, "a stop");
-    expect(guard_client_call(&c, call, guard_stat_call(call, sizeof call, "/"), NULL, 0), GUARD_REFUSED, GUARD_STOPPED_FOR_GOOD, "after a stop");
-    check(c.reason == GUARD_STOP_DESCRIPTOR && c.request_length == 4 && !memcmp(c.request, "\3\1/a", 4), "the reason and the request are kept");
+    expect(guard_client_reply(&c, reply, guard_descriptor_reply(reply, 4, -1), NULL, 0), GUARD_STOPPED,
+        GUARD_STOP_DESCRIPTOR, "a stop");
+    expect(guard_client_call(&c, call, guard_stat_call(call, sizeof call, "/"), NULL, 0), GUARD_REFUSED,
+        GUARD_STOPPED_FOR_GOOD, "after a stop");
+    check(c.reason == GUARD_STOP_DESCRIPTOR && c.request_length == 4 && !memcmp(c.request, "\3\1/a", 4),
+        "the reason and the request are kept");
     start();
     check(c.reason == 0 && c.request_length == 0, "a fresh client");
 }
@@ -324,16 +335,19 @@ static void short_request(void)
 {
     start();
     size_t n = guard_create_call(call, sizeof call, "/a", 7);
-    expect(guard_client_call(&c, call, n, request, GUARD_REQUEST_LENGTH - 1), GUARD_REFUSED, GUARD_SHORT_BUFFER, "a short request buffer");
+    expect(guard_client_call(&c, call, n, request, GUARD_REQUEST_LENGTH - 1), GUARD_REFUSED, GUARD_SHORT_BUFFER,
+        "a short request buffer");
     expect(guard_client_call(&c, call, n, request, GUARD_REQUEST_LENGTH), GUARD_ASK, 0, "one that is long enough");
-    expect(guard_client_reply(&c, reply, guard_id_reply(reply, 4, 2), request, 0), GUARD_REFUSED, GUARD_SHORT_BUFFER, "a short one with a reply");
+    expect(guard_client_reply(&c, reply, guard_id_reply(reply, 4, 2), request, 0), GUARD_REFUSED, GUARD_SHORT_BUFFER,
+        "a short one with a reply");
     expect(guard_client_reply(&c, reply, 4, request, SIZE_MAX), GUARD_DONE, 2, "the same reply again");
 }
 
 /* Claims of a status reply: its 4 bytes, one less, one more, and far more than there are. */
 static void claims(void)
 {
-    static const struct { size_t claimed; uint64_t reason; } rows[] = {{0, 1}, {3, 1}, {5, 1}, {GUARD_REPLY_LENGTH, 1}, {GUARD_REPLY_LENGTH + 1, 1}, {SIZE_MAX, 1}};
+    static const struct { size_t claimed; uint64_t reason; } rows[] = {{0, 1}, {3, 1}, {5, 1}, {GUARD_REPLY_LENGTH, 1},
+        {GUARD_REPLY_LENGTH + 1, 1}, {SIZE_MAX, 1}};
     for (size_t i = 0; i < sizeof rows / sizeof *rows; i++) {
         start();
         guard_client_call(&c, call, guard_chmod_call(call, sizeof call, "/", 7), NULL, 0);
@@ -358,7 +372,8 @@ static void fill(void)
         memset(bytes, (int)i, sizeof bytes);
         for (int k = 0; k < GUARD_FILE_LENGTH / GUARD_TRANSFER_LENGTH; k++) {
             recorded = 0;
-            expect(carry(guard_write_call(call, sizeof call, 2 + i, bytes, sizeof bytes)), GUARD_DONE, sizeof bytes, "write of 4,096");
+            expect(carry(guard_write_call(call, sizeof call, 2 + i, bytes, sizeof bytes)), GUARD_DONE, sizeof bytes,
+                "write of 4,096");
         }
         expect(carry(guard_close_call(call, sizeof call, 2 + i)), GUARD_DONE, 0, "close");
     }
@@ -371,10 +386,10 @@ static void longest_listing(void)
     guard_dirent e;
     size_t at = 0, n = guard_readdir_call(call, sizeof call, "/");
     unsigned entries = 0;
-    expect(carry(n), GUARD_DONE, 255, "the longest listing");
+    expect(carry(n), GUARD_DONE, GUARD_NODES - 1, "the longest listing");
     while (guard_get_dirent(c.answer, GUARD_REPLY_LENGTH, &at, &e))
-        entries += e.id == 2 + entries && e.kind == GUARD_FILE && e.name_length == 32;
-    check(entries == 255 && at == GUARD_REPLY_LENGTH, "its entries");
+        entries += e.id == 2 + entries && e.kind == GUARD_FILE && e.name_length == GUARD_NAME_LENGTH;
+    check(entries == GUARD_NODES - 1 && at == GUARD_REPLY_LENGTH, "its entries");
     guard_client_call(&c, call, n, NULL, 0);
     expect(replied(GUARD_REPLY_LENGTH + 1), GUARD_STOPPED, GUARD_STOP_LISTING, "one byte more");
 }
@@ -384,17 +399,23 @@ static void longest_image(void)
     uint8_t kept[GUARD_DIGEST_LENGTH];
     memset(digest, 0, sizeof digest);
     memset(image, 0, GUARD_IMAGE_LENGTH);
-    expect(guard_client_save(&c, image, GUARD_IMAGE_LENGTH - 1, digest), GUARD_REFUSED, GUARD_SHORT_BUFFER, "a short image buffer");
+    expect(guard_client_save(&c, image, GUARD_IMAGE_LENGTH - 1, digest), GUARD_REFUSED, GUARD_SHORT_BUFFER,
+        "a short image buffer");
     check(digest[0] == 0 && image[0] == 0 && image[4] == 0, "a refused save writes nothing");
     expect(guard_client_save(&c, image, SIZE_MAX, digest), GUARD_DONE, GUARD_IMAGE_LENGTH, "the longest image");
     memcpy(kept, digest, sizeof kept);
-    expect(guard_client_load(&c, image, GUARD_IMAGE_LENGTH + 1, digest, 32), GUARD_REFUSED, GUARD_WRONG_DIGEST, "one byte more");
-    expect(guard_client_load(&c, image, SIZE_MAX, digest, 32), GUARD_REFUSED, GUARD_WRONG_DIGEST, "far more than there are");
-    expect(guard_client_load(&c, image, GUARD_IMAGE_LENGTH - 1, digest, 32), GUARD_REFUSED, GUARD_WRONG_DIGEST, "one byte less");
-    expect(guard_client_load(&c, image, GUARD_IMAGE_LENGTH, digest, 31), GUARD_REFUSED, GUARD_WRONG_DIGEST, "a digest of 31 bytes");
+    expect(guard_client_load(&c, image, GUARD_IMAGE_LENGTH + 1, digest, 32), GUARD_REFUSED, GUARD_WRONG_DIGEST,
+        "one byte more");
+    expect(guard_client_load(&c, image, SIZE_MAX, digest, 32), GUARD_REFUSED, GUARD_WRONG_DIGEST,
+        "far more than there are");
+    expect(guard_client_load(&c, image, GUARD_IMAGE_LENGTH - 1, digest, 32), GUARD_REFUSED, GUARD_WRONG_DIGEST,
+        "one byte less");
+    expect(guard_client_load(&c, image, GUARD_IMAGE_LENGTH, digest, 31), GUARD_REFUSED, GUARD_WRONG_DIGEST,
+        "a digest of 31 bytes");
     expect(guard_client_load(&c, NULL, 0, digest, 32), GUARD_REFUSED, GUARD_WRONG_DIGEST, "no image");
     image[GUARD_IMAGE_LENGTH - 1] ^= 1;
-    expect(guard_client_load(&c, image, GUARD_IMAGE_LENGTH, digest, 32), GUARD_REFUSED, GUARD_WRONG_DIGEST, "a changed byte");
+    expect(guard_client_load(&c, image, GUARD_IMAGE_LENGTH, digest, 32), GUARD_REFUSED, GUARD_WRONG_DIGEST,
+        "a changed byte");
     image[GUARD_IMAGE_LENGTH - 1] ^= 1;
     start();
     listed = GUARD_NODES - 1;

@@ -34,7 +34,9 @@ class Fault:
 
     def looks(self):
         """What a shorter list must come to as well."""
-        return (self.what.request[0], self.what.reason) if isinstance(self.what, Wrong) else str(self.what).split(":")[0]
+        if isinstance(self.what, Wrong):
+            return self.what.request[0], self.what.reason
+        return str(self.what).split(":")[0]
 
 
 def tried(program, work):
@@ -77,8 +79,8 @@ class Trial:
             return Fault(what, [])
 
     def shortest(self, fault):
-        """The shortest list that was found; in one process for all attempts, or, where that shows something else, in one for each.
-        A kill that does not matter is plain power loss."""
+        """The shortest list that was found; in one process for all attempts, or, where that shows something else, in
+        one for each. A kill that does not matter is plain power loss."""
         for in_one in (True, False):
             until = time.monotonic() + SHORTENING
             things = self.shortened(fault, in_one, until)
@@ -146,7 +148,8 @@ def show(head, text):
 
 def options():
     parser = argparse.ArgumentParser(prog="./run conform")
-    parser.add_argument("--first", type=int, default=TURNS * SystemRandom().randrange(1 << 24), help="the first list's seed")
+    anew = TURNS * SystemRandom().randrange(1 << 24)
+    parser.add_argument("--first", type=int, default=anew, help="the first list's seed")
     parser.add_argument("--count", type=int, default=2 * TURNS, help="how many lists")
     parser.add_argument("--patience", type=float, default=10, help="how many seconds a reply may take")
     parser.add_argument("command", nargs=argparse.REMAINDER, metavar="-- PROGRAM")

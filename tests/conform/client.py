@@ -1,8 +1,8 @@
 """An honest client of a program, with the model's tree beside it: the tree makes the requests and judges each reply.
 
-Ids and descriptors are the program's choice and taken over into the model. What is done is kept as a list of things that
-can be done again, in whole or in part: a call by handle is kept with the file's path, since the next time the program may
-choose another id.
+Ids and descriptors are the program's choice and taken over into the model. What is done is kept as a list of things
+that can be done again, in whole or in part: a call by handle is kept with the file's path, since the next time the
+program may choose another id.
 """
 
 import time
@@ -39,7 +39,9 @@ class Saved:
 
 @dataclass(frozen=True)
 class Restart:
-    """Power loss at one of the moments of RESTARTS, so long after the last frame; within a request of a call, the call and which."""
+    """Power loss at one of the moments of RESTARTS, so long after the last frame; within a request of a call, the call
+    and which.
+    """
 
     how: str
     delay: float = 0

@@ -1,4 +1,6 @@
-"""What a run has met: calls, requests, page edges, restarts, limits. A run that passes says so, and says what it has not met."""
+"""What a run has met: calls, requests, page edges, restarts, limits. A run that passes says so, and says what it has
+not met.
+"""
 
 from collections import Counter
 
@@ -29,7 +31,8 @@ WANTED = {
     "limits": [
         f"{MAX_NODES} nodes", f"{MAX_OPEN} open files", f"{MAX_PAGES:,} pages", f"a file of {MAX_SIZE:,} bytes",
         f"a name of {MAX_NAME}", f"a path of {MAX_PATH}", f"a read of {MAX_COUNT:,}", f"a write of {MAX_COUNT:,}",
-        f"a listing of {MAX_NODES - 1}", "a listing of none", "names of any bytes", "a file without read and write bits open",
+        f"a listing of {MAX_NODES - 1}", "a listing of none", "names of any bytes",
+        "a file without read and write bits open",
     ],
 }
 

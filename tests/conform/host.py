@@ -10,6 +10,8 @@ import sys
 
 PAGE = 1024
 FILE, DIRECTORY = 1, 2
+CREATE, MKDIR, OPEN, CLOSE, _, FETCH, STORE, CUT, REMOVE, RMDIR, CHMOD, READDIR, STAT = range(1, 14)
+REQUEST, SYNC, START = 1, 2, 3
 
 
 def number(data):
@@ -56,7 +58,9 @@ class Host:
         return b""
 
     def request(self, request):
-        """What cannot be done is not answered as done: the status -2 is no right reply to anything that may fail here."""
+        """What cannot be done is not answered as done: the status -2 is no right reply to anything that may fail
+        here.
+        """
         try:
             return REQUESTS[request[0]](self, request[1:])
         except KeyError:
@@ -124,10 +128,10 @@ def entry(name, node):
 
 
 REQUESTS = {
-    1: Host.create, 2: Host.mkdir, 3: Host.open, 4: Host.close, 6: Host.fetch, 7: Host.store, 8: Host.cut,
-    9: Host.remove, 10: Host.remove, 11: Host.chmod, 12: Host.readdir, 13: Host.stat,
+    CREATE: Host.create, MKDIR: Host.mkdir, OPEN: Host.open, CLOSE: Host.close, FETCH: Host.fetch, STORE: Host.store,
+    CUT: Host.cut, REMOVE: Host.remove, RMDIR: Host.remove, CHMOD: Host.chmod, READDIR: Host.readdir, STAT: Host.stat,
 }
-FRAMES = {1: Host.request, 2: Host.sync, 3: Host.start}
+FRAMES = {REQUEST: Host.request, SYNC: Host.sync, START: Host.start}
 
 
 def main():

@@ -1,7 +1,7 @@
 """Lists from a seed: the model's generator as an honest client, with saves and restarts in between.
 
-Which tree a list starts in and which restart comes first goes by the seed's place among TURNS, so that so many seeds on end
-meet them all. Small trees come first: a fault that they show is told in a few calls.
+Which tree a list starts in and which restart comes first goes by the seed's place among TURNS, so that so many seeds on
+end meet them all. Small trees come first: a fault that they show is told in a few calls.
 """
 
 from random import Random
@@ -59,7 +59,9 @@ class List:
             self.tour()
 
     def tour(self):
-        """What is rare elsewhere: each page edge, a file that nobody may open again, a path as long as can be, a name of any bytes."""
+        """What is rare elsewhere: each page edge, a file that nobody may open again, a path as long as can be, a name
+        of any bytes.
+        """
         do, handle = self.client.do, self.client.do(calls.create(7, b"/a")).number
         do(calls.open_(3, b"/a"))
         do(calls.chmod(0, b"/a"))
@@ -102,7 +104,9 @@ class List:
         return [self.client.path_of(node) for node in self.client.guard.nodes]
 
     def look(self, paths, unlock=False):
-        """All that a host knows of these nodes: what it says of them, their children, every byte; unlocked, whatever their modes."""
+        """All that a host knows of these nodes: what it says of them, their children, every byte; unlocked, whatever
+        their modes.
+        """
         for path in paths:
             self.client.do(calls.stat(path))
             if unlock:

@@ -35,7 +35,8 @@ class Program:
     def run(self):
         """A new process over what is there; in a group of its own, so that a kill reaches what it has started too."""
         self.process = subprocess.Popen(
-            [*self.command, self.place], stdin=subprocess.PIPE, stdout=subprocess.PIPE, bufsize=0, start_new_session=True
+            [*self.command, self.place], stdin=subprocess.PIPE, stdout=subprocess.PIPE, bufsize=0,
+            start_new_session=True,
         )
         self.came = self.frame = b""
 

@@ -1,11 +1,15 @@
-"""Calls, requests and replies in words, and the paragraphs of docs/SPECIFICATION.md that they go by, in its own words."""
+"""Calls, requests and replies in words, and the paragraphs of docs/SPECIFICATION.md that they go by, in its own
+words.
+"""
 
 import re
 from itertools import groupby
 from pathlib import Path
 
 from model import rules
-from model.rules import CHMOD, CREATE, DIRECTORY, ID, MKDIR, OPEN, PAGE, READ, READDIR, SEEK, STAT, TRUNCATE, WRITE, signed, unsigned
+from model.rules import (
+    CHMOD, CREATE, DIRECTORY, ID, MKDIR, OPEN, PAGE, READ, READDIR, SEEK, STAT, TRUNCATE, WRITE, signed, unsigned,
+)
 
 from .client import Do, Restart
 from .covered import NAMES, REQUESTS
@@ -39,7 +43,9 @@ def call_words(do):
         return f"{name} {shown(do.file)}{FIELDS.get(kind, lambda fields: '')(fields)}"
     if kind == OPEN:
         return f"open {shown(fields[1:])} for {RIGHTS[fields[0]]}"
-    return f"{name} {shown(fields[1:])} with mode {fields[0]}" if kind in (CREATE, MKDIR, CHMOD) else f"{name} {shown(fields)}"
+    if kind in (CREATE, MKDIR, CHMOD):
+        return f"{name} {shown(fields[1:])} with mode {fields[0]}"
+    return f"{name} {shown(fields)}"
 
 
 FIELDS = {
@@ -125,7 +131,8 @@ def statuses(wrong):
 
 def ids(wrong):
     id = unsigned(wrong.reply)
-    return "an id that is not 0 and that no node has", f"{id}" + (f", which {shown(path_of(wrong.nodes, id))} has" if id else "")
+    holder = f", which {shown(path_of(wrong.nodes, id))} has" if id else ""
+    return "an id that is not 0 and that no node has", f"{id}{holder}"
 
 
 def descriptors(wrong):

@@ -1,14 +1,20 @@
 /* Writes one file for each length into the folder given, of deterministic content, and prints each file's digest by
- * guard_sha256 as sha256sum prints it. The message stands at a different alignment each time, and a byte on either side of
- * the digest must keep its value. */
+ * guard_sha256 as sha256sum prints it. The message stands at a different alignment each time, and a byte on either side
+ * of the digest must keep its value. */
 #include <stdio.h>
 #include <stdlib.h>
+#include "../../include/guard.h"
 #include "../../include/guard_sha256.h"
 
-static const size_t longer[] = {1023, 1024, 1025, 9690, 44776, 47114, 1000000};
+enum { LARGEST = 1000000 };
+
+static const size_t longer[] = {
+    GUARD_PAGE_LENGTH - 1, GUARD_PAGE_LENGTH, GUARD_PAGE_LENGTH + 1, GUARD_ANSWER_LENGTH, GUARD_IMAGE_LENGTH, 47114,
+        LARGEST,
+};
 enum { SHORT = 301, LONG = sizeof longer / sizeof *longer };
 
-static uint8_t buffer[1000000 + 8];
+static uint8_t buffer[LARGEST + 8];
 
 static void fill(uint8_t *m, size_t n) {
     uint64_t x = 0x9e3779b97f4a7c15u ^ n;

@@ -1,7 +1,9 @@
-/* Records of bytes (records.h) through the archive, each outcome held against what the specification says of every outcome, whatever was handed in.
+/* Records of bytes (records.h) through the archive, each outcome held against what the specification says of every
+ * outcome, whatever was handed in.
  *
- * The archive has no coverage of its own: what came back to what is counted for libFuzzer in `seen`. All that is lent lies against unreadable
- * pages (tests/boundary/places.h), at the low or the high end by the input's first byte, or near the low one. */
+ * The archive has no coverage of its own: what came back to what is counted for libFuzzer in `seen`. All that is lent
+ * lies against unreadable pages (tests/boundary/places.h), at the low or the high end by the input's first byte, or
+ * near the low one. */
 #include "guard.h"
 #include "host.h"
 #include "places.h"
@@ -50,8 +52,10 @@ static int same(const uint8_t *a, const uint8_t *b, size_t n)
 static guard_outcome enter(enum what what)
 {
     switch (what) {
-    case CALL: return guard_entry_call(memory.at, memory.length, input.at, input.length, answer.at, answer.length, request.at, request.length);
-    case REPLY: return guard_entry_reply(memory.at, memory.length, input.at, input.length, answer.at, answer.length, request.at, request.length);
+    case CALL: return guard_entry_call(memory.at, memory.length, input.at, input.length, answer.at, answer.length,
+        request.at, request.length);
+    case REPLY: return guard_entry_reply(memory.at, memory.length, input.at, input.length, answer.at, answer.length,
+        request.at, request.length);
     case SAVE: return guard_entry_save(memory.at, memory.length, image.at, image.length, digest.at);
     default: return guard_entry_load(memory.at, memory.length, input.at, input.length, seal.at, seal.length);
     }
@@ -69,7 +73,8 @@ static size_t bits(uint64_t n)
 static void count(enum what what, guard_outcome o)
 {
     size_t kind = what == CALL ? (input.length ? input.at[0] % 16 : 15) : known.pending ? known.asked[0] : 0;
-    size_t number = o.kind == GUARD_REFUSED || o.kind == GUARD_STOPPED ? o.number : bits(o.number) + 16 * bits(o.length);
+    size_t number = o.kind == GUARD_REFUSED || o.kind == GUARD_STOPPED ? o.number
+        : bits(o.number) + 16 * bits(o.length);
     seen[(((what * 16 + kind) * 4 + (size_t)o.kind) * 251 + number * 7) % sizeof seen]++;
     seen[(known.open_files * 61 + bits(known.call_length) * 13 + kind) % sizeof seen]++;
 }
@@ -156,9 +161,11 @@ static uint64_t field(const uint8_t *at, size_t bytes)
 /* A request has its kind's length, or is the call itself; it stands from now on. */
 static void check_request(guard_outcome o)
 {
-    static const size_t lengths[16] = {[4] = 5, [6] = 9, [7] = 1037, [8] = 9};
+    static const size_t lengths[GUARD_STAT + 1] = {
+        [GUARD_CLOSE] = 5, [GUARD_FETCH] = 9, [GUARD_STORE] = GUARD_REQUEST_LENGTH, [GUARD_CUT] = 9,
+    };
     const uint8_t *q = request.at;
-    MUST(o.number == 0 && o.length > 0 && q[0] >= 1 && q[0] <= 13 && q[0] != 5);
+    MUST(o.number == 0 && o.length > 0 && q[0] >= GUARD_CREATE && q[0] <= GUARD_STAT && q[0] != GUARD_SEEK);
     if (lengths[q[0]])
         MUST(o.length == lengths[q[0]] && field(q + 1, 4) < GUARD_DESCRIPTORS);
     else
@@ -177,7 +184,8 @@ static void check_done(guard_outcome o)
     case GUARD_CLOSE: MUST(o.number == 0 && o.length == 0 && known.open_files-- > 0); break;
     case GUARD_READ: MUST(o.number == o.length && o.length > 0 && o.length <= field(known.call + 5, 4)); break;
     case GUARD_WRITE: MUST(o.number == known.call_length - 5 && o.length == 0); break;
-    case GUARD_READDIR: MUST(o.number < GUARD_NODES && o.length == input.length && same(answer.at, input.at, o.length)); break;
+    case GUARD_READDIR: MUST(o.number < GUARD_NODES && o.length == input.length &&
+        same(answer.at, input.at, o.length)); break;
     case GUARD_STAT: MUST(o.number == field(input.at + 6, 4) && o.length == 10 && same(answer.at, input.at, 10)); break;
     default: MUST(o.number == 0 && o.length == 0);
     }
@@ -199,7 +207,8 @@ static void on_call(void)
     if (o.kind == GUARD_ASK)
         check_request(o);
     else /* seek, or nothing to read, write or cut */
-        MUST(known.call[0] >= GUARD_SEEK && known.call[0] <= GUARD_TRUNCATE && o.length == 0 && o.number <= GUARD_FILE_LENGTH);
+        MUST(known.call[0] >= GUARD_SEEK && known.call[0] <= GUARD_TRUNCATE && o.length == 0 &&
+            o.number <= GUARD_FILE_LENGTH);
 }
 
 /* A reply that was taken is the host's own but for what a host may choose. */
@@ -217,7 +226,7 @@ static void check_taken(const uint8_t *own, size_t n)
 
 static void on_reply(int is_true)
 {
-    static uint8_t own[GUARD_ANSWER_LENGTH];
+    static uint8_t own[GUARD_REPLY_LENGTH];
     unsigned first = first_number(REPLY);
     guard_outcome o = hand_in(REPLY);
     MUST(first ? o.kind == GUARD_REFUSED && o.number == first : o.kind != GUARD_REFUSED);
@@ -322,7 +331,7 @@ static void load_bytes(struct record r)
 
 static void true_reply(void)
 {
-    static uint8_t reply[GUARD_ANSWER_LENGTH];
+    static uint8_t reply[GUARD_REPLY_LENGTH];
     size_t n = known.pending ? host_reply(known.asked, known.asked_length, reply) : 0;
     place_input(&input, reply, n);
     on_reply(1);

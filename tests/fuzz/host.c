@@ -3,7 +3,9 @@
 
 #include <string.h>
 
-enum { KEPT = 1024, NO_DESCRIPTOR = GUARD_DESCRIPTORS };
+/* where the page stands in a store, and how long a node without its name is in an image */
+enum { STORED_AT = GUARD_REQUEST_LENGTH - GUARD_PAGE_LENGTH, RECORD = 2 * GUARD_ID_LENGTH + 7 };
+enum { KEPT = GUARD_PAGES, NO_DESCRIPTOR = GUARD_DESCRIPTORS };
 
 struct node {
     uint8_t path[GUARD_PATH_LENGTH];
@@ -19,7 +21,8 @@ struct tree {
 };
 
 static struct tree tree, saved;
-static struct { uint32_t id, number; uint8_t page[GUARD_PAGE_LENGTH]; } pages[KEPT]; /* every page that was stored, the latest last */
+/* every page that was stored, the latest last */
+static struct { uint32_t id, number; uint8_t page[GUARD_PAGE_LENGTH]; } pages[KEPT];
 static uint32_t next_id;
 
 static uint32_t field(const uint8_t *at)
@@ -170,7 +173,7 @@ static void store(struct node *n, const uint8_t *request)
     }
     pages[tree.stored].id = n->id;
     pages[tree.stored].number = field(request + 5);
-    memcpy(pages[tree.stored].page, request + 13, GUARD_PAGE_LENGTH);
+    memcpy(pages[tree.stored].page, request + STORED_AT, GUARD_PAGE_LENGTH);
     tree.stored++;
 }
 
@@ -207,13 +210,13 @@ void host_loaded_image(const uint8_t *image)
     host_begin();
     tree.is_sure = 0;
     tree.nodes[0].mode = image[13];
-    for (image += 4 + 15; --left > 0; image += 15 + image[14]) {
+    for (image += 4 + RECORD; --left > 0; image += RECORD + image[RECORD - 1]) {
         uint8_t path[GUARD_PATH_LENGTH + 1];
         const struct node *parent = by_id(field(image + 4));
         memcpy(path, parent->path, parent->length);
         path[parent->length] = '/';
-        memcpy(path + parent->length + 1, image + 15, image[14]);
-        add(field(image), image[8], image[9], path, parent->length + 1 + image[14])->size = field(image + 10);
+        memcpy(path + parent->length + 1, image + RECORD, image[RECORD - 1]);
+        add(field(image), image[8], image[9], path, parent->length + 1 + image[RECORD - 1])->size = field(image + 10);
     }
 }
 

@@ -1,5 +1,5 @@
-/* An honest host for the fuzzer. It keeps a plain tree: what it was asked for, as the guard took the replies. Its own replies are then right, and
- * the guard may not stop at one. */
+/* An honest host for the fuzzer. It keeps a plain tree: what it was asked for, as the guard took the replies. Its own
+ * replies are then right, and the guard may not stop at one. */
 #ifndef HOST_H
 #define HOST_H
 

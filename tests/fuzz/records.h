@@ -1,5 +1,5 @@
-/* The fuzzer's input: a byte that says where things lie, then records. A record is one byte that says what is handed in, a length (2, little-endian) and
- * so many bytes, fewer at the end. */
+/* The fuzzer's input: a byte that says where things lie, then records. A record is one byte that says what is handed
+ * in, a length (2, little-endian) and so many bytes, fewer at the end. */
 #ifndef RECORDS_H
 #define RECORDS_H
 

@@ -1,7 +1,7 @@
 """The fuzzer's first inputs, from the model's lists: python3 -m fuzz.seeds DIRECTORY
 
-Each list twice: with its own replies, and with those that the fuzzer's host works out. The guard moves now and then. The form is
-that of records.h.
+Each list twice: with its own replies, and with those that the fuzzer's host works out. The guard moves now and then.
+The form is that of records.h.
 """
 
 import sys

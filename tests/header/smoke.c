@@ -1,11 +1,13 @@
-/* Every function of guard.h once, in C and in C++: a file made, written, saved, and loaded by a second guard that stands at an odd address. */
+/* Every function of guard.h once, in C and in C++: a file made, written, saved, and loaded by a second guard that
+ * stands at an odd address. */
 #include <guard.h>
 #include <stdio.h>
 #include <string.h>
 
 static guard first;
 static struct { char odd; guard second; } beside;
-static uint8_t answer[GUARD_ANSWER_LENGTH], request[GUARD_REQUEST_LENGTH], image[GUARD_IMAGE_LENGTH], digest[GUARD_DIGEST_LENGTH];
+static uint8_t answer[GUARD_ANSWER_LENGTH], request[GUARD_REQUEST_LENGTH], image[GUARD_IMAGE_LENGTH],
+    digest[GUARD_DIGEST_LENGTH];
 static int step;
 
 static void expect(guard_outcome o, int kind, uint64_t number, size_t length)
@@ -13,7 +15,8 @@ static void expect(guard_outcome o, int kind, uint64_t number, size_t length)
     step++;
     if (o.kind == kind && o.number == number && o.length == length)
         return;
-    printf("header: step %d: %d %lu %lu, not %d %lu %lu\n", step, o.kind, (unsigned long)o.number, (unsigned long)o.length, kind,
+    printf("header: step %d: %d %lu %lu, not %d %lu %lu\n", step, o.kind, (unsigned long)o.number,
+        (unsigned long)o.length, kind,
            (unsigned long)number, (unsigned long)length);
     step = -1000;
 }
@@ -43,8 +46,10 @@ static void make_file(guard *g)
 
 static void refusals(guard *g)
 {
-    expect(guard_call(g, NULL, 0, answer, sizeof answer - 1, request, sizeof request), GUARD_REFUSED, GUARD_SHORT_BUFFER, 0);
-    expect(guard_call(g, NULL, 0, answer, sizeof answer, request, sizeof request - 1), GUARD_REFUSED, GUARD_SHORT_BUFFER, 0);
+    expect(guard_call(g, NULL, 0, answer, sizeof answer - 1, request, sizeof request), GUARD_REFUSED,
+        GUARD_SHORT_BUFFER, 0);
+    expect(guard_call(g, NULL, 0, answer, sizeof answer, request, sizeof request - 1), GUARD_REFUSED,
+        GUARD_SHORT_BUFFER, 0);
     expect(guard_entry_fresh(g->memory, GUARD_MEMORY_LENGTH - 1), GUARD_REFUSED, GUARD_SHORT_BUFFER, 0);
     expect(guard_call(g, NULL, 0, answer, sizeof answer, request, sizeof request), GUARD_REFUSED, GUARD_MALFORMED, 0);
     expect(guard_call(g, NULL, 0, NULL, 0, request, sizeof request), GUARD_REFUSED, GUARD_SHORT_BUFFER, 0);

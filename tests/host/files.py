@@ -1,4 +1,6 @@
-"""The thirteen calls by one set of names: behind the guard, and on the machine. An error is an OSError with its number, on both sides."""
+"""The thirteen calls by one set of names: behind the guard, and on the machine. An error is an OSError with its number,
+on both sides.
+"""
 
 import os
 

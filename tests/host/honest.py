@@ -1,7 +1,7 @@
 """Random lists of calls through the archive and the real host: every outcome is the model's, none is a stop, and the
 directory is the model's tree at the end.
 
-    python3 -m host.honest PROGRAM PLACE LISTS      from tests/; PROGRAM is drive.c's, PLACE a directory that may be filled
+    python3 -m host.honest PROGRAM PLACE LISTS      from tests/; PROGRAM is drive.c's, PLACE a directory to fill
 
 In every other list the system calls fail for a moment now and then, or do a part of what they are asked.
 """

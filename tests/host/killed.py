@@ -1,6 +1,6 @@
 """The host killed at random, and power lost with what was not synced; the client starts again from its last image.
 
-    python3 -m host.killed PROGRAM PLACE LISTS      from tests/; PROGRAM is drive.c's, PLACE a directory that may be filled
+    python3 -m host.killed PROGRAM PLACE LISTS      from tests/; PROGRAM is drive.c's, PLACE a directory to fill
 
 A list works through the archive and the real host, saves, works on and is killed: between two requests or within one,
 before or after a change of the disk, in the middle of a page. A new process loads the image, which must be done. Then
@@ -161,9 +161,11 @@ def main():
         except Exception:
             print(f"killed: seed {seed}")
             raise
-        looks, stops, caught, within = looks + trial.looks, stops + trial.stops, caught + (trial.stops > 0), within + trial.within
+        looks, stops = looks + trial.looks, stops + trial.stops
+        caught, within = caught + (trial.stops > 0), within + trial.within
     if not (0 < caught < lists and 0 < within < lists):
-        raise Different(f"{caught} of {lists} lists saw a stop, {within} were killed within a request: nothing is shown by this")
+        seen = f"{caught} of {lists} lists saw a stop, {within} were killed within a request"
+        raise Different(f"{seen}: nothing is shown by this")
     print(
         f"host: killed in {lists} lists, within a request in {within}; each load done, {looks} nodes looked at, "
         f"{stops} stops in {caught} lists, nothing wrong served"

@@ -1,9 +1,10 @@
-"""POSIX beside the guard: the same calls behind the guard and on the machine, as an unprivileged user whose root directory holds the same tree.
+"""POSIX beside the guard: the same calls behind the guard and on the machine, as an unprivileged user whose root
+directory holds the same tree.
 
-    python3 -m host.posix PROGRAM PLACE      from tests/, as root; PROGRAM is drive.c's, PLACE a directory that may be filled
+    python3 -m host.posix PROGRAM PLACE      from tests/, as root; PROGRAM is drive.c's, PLACE a directory to fill
 
-Each call is tried on each kind of path, and a list of trials on open files. The errors must be the same but for the rows of the two tables below, each with the rule
-that makes it; and what stands there must differ just so.
+Each call is tried on each kind of path, and a list of trials on open files. The errors must be the same but for the
+rows of the two tables below, each with the rule that makes it; and what stands there must differ just so.
 """
 
 import os
@@ -13,12 +14,13 @@ import sys
 from functools import partial
 from pathlib import Path
 
+from model.rules import MAX_COUNT as TRANSFER, MAX_OPEN as OPEN_FILES, MAX_SIZE as FILE_SIZE
+
 from .beside import Different, Driver
 from .files import BOTH, READ, WRITE, Guarded, Plain, Planned
 from .house import PATHS, build
 
 NOBODY = 65534
-OPEN_FILES, FILE_SIZE, TRANSFER = 32, 65_536, 4096
 
 # ---- calls by path
 
@@ -35,8 +37,8 @@ CALLS = {
     "stat": lambda files, path: files.stat(path),
 }
 
-# Where the guard says another number: a kind of path, the guard's number, the machine's for each call, and the rule. `read`, `write` and `both` are opens with these
-# rights; 0 is no error, `=` the same error.
+# Where the guard says another number: a kind of path, the guard's number, the machine's for each call, and the rule.
+# `read`, `write` and `both` are opens with these rights; 0 is no error, `=` the same error.
 BY_PATH = """
 kind                | guard | create mkdir read write both remove rmdir chmod readdir stat | rule
 33                  | 36    | 0      0     2    2     2    2      2     2     2       2    | a component has 32 bytes at most
@@ -153,7 +155,8 @@ remove, open             | 16    | 0       | a file that is open is not removed
 """
 
 
-# ---- the two sides: the error of each act, or 0, on the tree of house.py, which is built anew after an act that may have changed it
+# ---- the two sides: the error of each act, or 0, on the tree of house.py, which is built anew after an act that may
+# have changed it
 
 
 def errors(acts, renew, files):

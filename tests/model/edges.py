@@ -6,7 +6,9 @@ Every page is of zeros, so that a host can hold the tree of any sound one.
 from dataclasses import replace
 
 from .image import write_image
-from .rules import DIRECTORY, FILE, MAX_SIZE, PAGE, Node, pages_of, put, root
+from .rules import (
+    DIRECTORY, FILE, MAX_NAME, MAX_NODES, MAX_PAGES, MAX_PATH, MAX_SIZE, PAGE, Node, pages_of, put, root,
+)
 from .tree import digest
 
 ZEROS = digest(bytes(PAGE))
@@ -42,19 +44,19 @@ def deep(path_length):
     """Directories with names of 32 bytes down to a path of this length."""
     nodes, left = [root()], path_length
     while left:
-        name = b"n" * min(32, left - 1)
+        name = b"n" * min(MAX_NAME, left - 1)
         nodes.append(Node(nodes[-1].id + 1, nodes[-1].id, DIRECTORY, 7, 0, name))
         left -= 1 + len(name)
     return nodes
 
 
-FULL = [MAX_SIZE] * 16  # 1,024 pages
+FULL = [MAX_SIZE] * (MAX_PAGES // pages_of(MAX_SIZE))  # 16 files of 64 pages
 
 
 def crowd(*sizes):
     """256 nodes, every name of 32 bytes, the first files with these sizes: with 1,024 pages the longest image."""
-    sizes += (0,) * (255 - len(sizes))
-    return [root(), *(Node(i, 1, FILE, 7, size, b"%032d" % i) for i, size in enumerate(sizes, start=2))]
+    sizes += (0,) * (MAX_NODES - 1 - len(sizes))
+    return [root(), *(Node(i, 1, FILE, 7, size, b"%0*d" % (MAX_NAME, i)) for i, size in enumerate(sizes, start=2))]
 
 
 # rule: (sound, broken alone)
@@ -79,15 +81,15 @@ EDGES = {
     "a directory's size is 0": (image(sample(kind=DIRECTORY, size=0)), image(sample(kind=DIRECTORY))),
     "a file's size": (image(sample(size=MAX_SIZE)), image(sample(size=MAX_SIZE + 1))),
     "a name has a byte": (image(sample(name=b" ")), image(sample(name=b""))),
-    "a name has 32 bytes": (image(sample(name=b"n" * 32)), image(sample(name=b"n" * 33))),
+    "a name has 32 bytes": (image(sample(name=b"n" * MAX_NAME)), image(sample(name=b"n" * (MAX_NAME + 1)))),
     "a name isn't .": (image(sample(name=b"...")), image(sample(name=b"."))),
     "a name isn't ..": (image(sample(name=b"..a")), image(sample(name=b".."))),
     "no slash in a name": (image(sample(name=b"a.b")), image(sample(name=b"a/b"))),
     "no 0 in a name": (image(sample(name=b"a\1b")), image(sample(name=b"a\0b"))),
     "sibling names differ": (image(sample(name=b"g")), image(sample(name=b"e"))),
-    "a path has 255 bytes": (image(deep(255)), image(deep(256))),
+    "a path has 255 bytes": (image(deep(MAX_PATH)), image(deep(MAX_PATH + 1))),
     "a node": (image([root()]), put(0, 4) + put(0, 4)),
-    "256 nodes": (image(files(*[0] * 255)), image(files(*[0] * 256))),
+    "256 nodes": (image(files(*[0] * (MAX_NODES - 1))), image(files(*[0] * MAX_NODES))),
     "1,024 pages": (image(files(*FULL)), image(files(*FULL, 1))),
     "no digest too few": (image(files(1)), write_image(files(1), [])),
     "no digest too many": (image(files(1)), write_image(files(1), [ZEROS] * 2)),

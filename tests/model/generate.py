@@ -16,8 +16,9 @@ from .lies import WRONG
 from .longer import longer_steps
 from .recording import Recording
 from .rules import (
-    ANSWER, CHMOD, CLOSE, CREATE, DIRECTORY, FILE, MAX_COUNT, MAX_NAME, MAX_NODES, MAX_OPEN, MAX_PATH, MAX_SIZE,
-    MKDIR, OPEN, PAGE, READ, READDIR, READ_RIGHT, REMOVE, REQUEST, RMDIR, SEEK, STAT, TRUNCATE, WRITE, WRITE_RIGHT,
+    ANSWER, CHMOD, CLOSE, CREATE, DIRECTORY, FILE, MAX_COUNT, MAX_MODE, MAX_NAME, MAX_NODES, MAX_OPEN, MAX_PATH,
+    MAX_SIZE, MKDIR, OPEN, PAGE, READ, READDIR, READ_RIGHT, REMOVE, REQUEST, RMDIR, SEEK, STAT, TRUNCATE, WRITE,
+    WRITE_RIGHT,
 )
 from .tree import digest
 
@@ -190,8 +191,8 @@ class Generator:
 
     def damaged(self, data):
         """A call with one fault; some are still right, and some have two."""
-        other_kind = bytes([self.pick(0, 14, 255, *MAKERS)]) + data[1:]
-        other_mode = data[:1] + bytes([self.pick(0, 4, 8, 255)]) + data[2:]
+        other_kind = bytes([self.pick(0, STAT + 1, 255, *MAKERS)]) + data[1:]
+        other_mode = data[:1] + bytes([self.pick(0, 4, MAX_MODE + 1, 255)]) + data[2:]
         long = data + b"n" * (MAX_NAME + 1)
         return self.pick(
             b"", other_kind, other_mode, other_mode, data[:-1], data[:2] + data[3:], data + b"\0", data + b"/",

@@ -8,10 +8,11 @@ a stop ends the request, so 5 meets 61 and no 114; the root is a directory, so 1
 from . import calls
 from .edges import EDGES, FULL, crowd, files, image
 from .events import Call, Load, Reply, Save
-from .rules import ANSWER, MAX_SIZE, PAGE, REQUEST, put
+from .image import LONGEST
+from .rules import ANSWER, MAX_COUNT, MAX_NAME, MAX_NODES, MAX_OPEN, MAX_PATH, MAX_SIZE, PAGE, REQUEST, put
 from .script import load_of
 
-LONG = b"n" * 33
+LONG = b"n" * (MAX_NAME + 1)
 STATUS_0 = Reply(put(0, 4))
 ROOT_IMAGE = image(files())
 
@@ -61,15 +62,15 @@ def n34_longer(s):
         s.expect("refused 22", Call(b"", *lengths))
         s.expect("refused 61", Reply(b"", *lengths))
         s.expect("ask 0c2f", Call(calls.readdir(b"/"), *lengths))
-        s.expect(f"done 255 {s.truth.hex()}", Reply(s.truth, *lengths))
+        s.expect(f"done {MAX_NODES - 1} {s.truth.hex()}", Reply(s.truth, *lengths))
         s.do(calls.open_(3, b"/%032d" % 2))
         s.expect("done 1", Call(calls.seek(2, 1), *lengths))
         s.expect("ask", Call(calls.write(2, b"x"), *lengths))
         s.expect("ask", Reply(s.truth, *lengths))
         s.expect("done 1", Reply(s.truth, *lengths))
         s.do(calls.close(2))
-    s.expect("refused 34", Save(44_775))
-    s.expect("done 44776", Save(44_777))
+    s.expect("refused 34", Save(LONGEST - 1))
+    s.expect(f"done {LONGEST}", Save(LONGEST + 1))
     s.expect("ask", Call(calls.chmod(7, b"/"), 2 * ANSWER, 2 * REQUEST))
     s.expect("stopped 1", Reply(b"", 2 * ANSWER, 2 * REQUEST))
     s.expect("refused 5", Call(b"", 2 * ANSWER, 2 * REQUEST))
@@ -84,16 +85,18 @@ def n22_malformed_fields(s):
         calls.open_(0, b"/f"), calls.open_(4, b"/f"), calls.open_(255, b"/f"),
         calls.close(handle)[:-1], calls.close(handle) + b"\0",
         calls.seek(handle, 0)[:-1], calls.seek(handle, 0) + b"\0",
-        calls.read(handle, 0)[:-1], calls.read(handle, 0) + b"\0", calls.read(handle, 4097), calls.read(99, 4097),
-        calls.write(handle, b"")[:-1], calls.write(handle, bytes(4097)), calls.write(99, bytes(4097)),
+        calls.read(handle, 0)[:-1], calls.read(handle, 0) + b"\0", calls.read(handle, MAX_COUNT + 1),
+        calls.read(99, MAX_COUNT + 1),
+        calls.write(handle, b"")[:-1], calls.write(handle, bytes(MAX_COUNT + 1)),
+        calls.write(99, bytes(MAX_COUNT + 1)),
         calls.truncate(handle, 0)[:-1], calls.truncate(handle, 0) + b"\0",
     ):
         s.expect("refused 22", wrong)
-    for right in (calls.read(handle, 4096), calls.write(handle, b""), calls.seek(handle, 0)):
+    for right in (calls.read(handle, MAX_COUNT), calls.write(handle, b""), calls.seek(handle, 0)):
         s.expect("done 0", right)
     for right in (calls.create(7, b"/a"), calls.mkdir(0, b"/b"), calls.chmod(7, b"/f"), calls.open_(3, b"/f")):
         s.expect_end("done", right)
-    s.expect_end("done 4096", calls.write(handle, bytes(4096)))
+    s.expect_end(f"done {MAX_COUNT}", calls.write(handle, bytes(MAX_COUNT)))
 
 
 def n22_malformed_paths(s):
@@ -227,8 +230,8 @@ def n39_not_empty(s):
 
 
 def n24_handles(s):
-    s.load(files(*[0] * 33))
-    for node in s.guard.nodes[1:33]:
+    s.load(files(*[0] * (MAX_OPEN + 1)))
+    for node in s.guard.nodes[1 : MAX_OPEN + 1]:
         s.expect_end(f"done {node.id}", calls.open_(1, b"/" + node.name))
     s.expect("refused 24", calls.open_(1, b"/34"))
     s.do(calls.close(2))
@@ -285,7 +288,7 @@ def n28_full_of_pages(s):
         s.do(calls.open_(2, b"/%d" % handle))
     s.do(calls.seek(17, MAX_SIZE - PAGE))
     s.expect("refused 28", calls.write(18, bytes(PAGE + 1)))
-    s.expect_end("done 1024", calls.write(18, bytes(PAGE)))
+    s.expect_end(f"done {PAGE}", calls.write(18, bytes(PAGE)))
     s.expect("refused 28", calls.write(18, b"x"))
     s.expect("refused 28", calls.write(17, b"x"))
     s.do(calls.seek(17, MAX_SIZE - PAGE - 1))
@@ -353,7 +356,7 @@ def both_34_and_a_stop(s):
 def both_22_and_36(s):
     for call in (
         calls.create(8, b"/" + LONG), calls.open_(0, b"/" + LONG), calls.stat(LONG), calls.stat(b"/" + LONG + b"/"),
-        calls.stat(b"/../" + LONG), calls.stat(b"/" + LONG + b"\0"), calls.stat(b"/" * 256),
+        calls.stat(b"/../" + LONG), calls.stat(b"/" + LONG + b"\0"), calls.stat(b"/" * (MAX_PATH + 1)),
         calls.stat(b"/a" * 127 + b"//"),
     ):
         s.expect("refused 22", call)
@@ -389,7 +392,7 @@ def both_17_and_13(s):
 
 
 def both_13_and_28(s):
-    s.load(files(*[0] * 255))
+    s.load(files(*[0] * (MAX_NODES - 1)))
     s.do(calls.chmod(5, b"/"))
     s.expect("refused 13", calls.create(7, b"/a"))
     s.expect("refused 17", calls.create(7, b"/2"))
@@ -408,7 +411,7 @@ def both_13_and_16_at_open(s):
 
 
 def both_16_and_24(s):
-    s.load(files(*[0] * 32))
+    s.load(files(*[0] * MAX_OPEN))
     for node in s.guard.nodes[1:]:
         s.do(calls.open_(1, b"/" + node.name))
     s.expect("refused 16", calls.open_(1, b"/2"))

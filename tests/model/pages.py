@@ -4,28 +4,31 @@ which sizes, and what is left afterwards (SPECIFICATION 5)."""
 from . import calls
 from .edges import FULL, crowd
 from .events import Load, Reply, Save
-from .rules import ANSWER, PAGE, put
+from .image import LONGEST
+from .rules import ANSWER, MAX_COUNT, MAX_DESCRIPTOR, MAX_NODES, PAGE, READ, TRUNCATE, WRITE, put
 
 A, B, C = (bytes([byte]) * PAGE for byte in b"ABC")
 STORED = put(PAGE, 4)
 DONE = put(0, 4)
+DESCRIPTOR = 7
 
 
 def fetch(page):
-    return "ask " + (b"\6" + put(7, 4) + put(page, 4)).hex()
+    return "ask " + (bytes([READ]) + put(DESCRIPTOR, 4) + put(page, 4)).hex()
 
 
 def store(page, size, data):
-    return "ask " + (b"\7" + put(7, 4) + put(page, 4) + put(size, 4) + data.ljust(PAGE, b"\0")).hex()
+    fields = put(DESCRIPTOR, 4) + put(page, 4) + put(size, 4)
+    return "ask " + (bytes([WRITE]) + fields + data.ljust(PAGE, b"\0")).hex()
 
 
 def cut(size):
-    return "ask " + (b"\x08" + put(7, 4) + put(size, 4)).hex()
+    return "ask " + (bytes([TRUNCATE]) + put(DESCRIPTOR, 4) + put(size, 4)).hex()
 
 
 def opened(s, data=b""):
     """The file /a with id 2 and descriptor 7, filled and with its cursor at 0."""
-    s.host.new_descriptor = lambda: 7
+    s.host.new_descriptor = lambda: DESCRIPTOR
     s.expect_end("done 2", calls.create(7, b"/a"))
     s.expect_end("done 2", calls.open_(3, b"/a"))
     s.do(calls.write(2, data))
@@ -58,7 +61,7 @@ def write_over_all_but_the_last(s):
 def write_over_pages(s):
     """The first page is kept in part, the second overwritten, the third kept in part: fetched are the outer two."""
     opened(s, A + B + C[:10])
-    s.expect("done 1023", calls.seek(2, PAGE - 1))
+    s.expect(f"done {PAGE - 1}", calls.seek(2, PAGE - 1))
     s.expect(fetch(0), calls.write(2, b"x" * (PAGE + 2)))
     s.expect(store(0, 2 * PAGE + 10, A[:-1] + b"x"), Reply(A))
     s.expect(store(1, 2 * PAGE + 10, b"x" * PAGE), Reply(STORED))
@@ -90,17 +93,17 @@ def write_through_a_write_only_handle(s):
 
 def read_five_pages(s):
     opened(s, A + B + C + A)
-    s.expect("done 4096", calls.seek(2, 4 * PAGE))
+    s.expect(f"done {4 * PAGE}", calls.seek(2, 4 * PAGE))
     s.expect(store(4, 4 * PAGE + 2, b"xy"), calls.write(2, b"xy"))
     s.expect("done 2", Reply(STORED))
     s.expect("done 1", calls.seek(2, 1))
-    s.expect(fetch(0), calls.read(2, 4096))
+    s.expect(fetch(0), calls.read(2, MAX_COUNT))
     for page, data in enumerate((A, B, C, A), start=1):
         s.expect(fetch(page), Reply(data))
-    s.expect(f"done 4096 {(A[1:] + B + C + A).hex()}78", Reply(b"xy".ljust(PAGE, b"\0")))
-    s.expect(fetch(4), calls.read(2, 4096))
+    s.expect(f"done {MAX_COUNT} {(A[1:] + B + C + A).hex()}78", Reply(b"xy".ljust(PAGE, b"\0")))
+    s.expect(fetch(4), calls.read(2, MAX_COUNT))
     s.expect("done 1 79", Reply(b"xy".ljust(PAGE, b"\0")))
-    s.expect("done 0", calls.read(2, 4096))
+    s.expect("done 0", calls.read(2, MAX_COUNT))
 
 
 def truncate_inside_a_page(s):
@@ -112,7 +115,7 @@ def truncate_inside_a_page(s):
     s.expect("done 0", Reply(DONE))
     s.expect("done 0", calls.read(2, 100))
     s.expect("refused 22", calls.seek(2, PAGE + 2))
-    s.expect("done 1024", calls.seek(2, PAGE))
+    s.expect(f"done {PAGE}", calls.seek(2, PAGE))
     s.expect(fetch(1), calls.read(2, 100))
     s.expect("done 1 42", Reply(b"B".ljust(PAGE, b"\0")))
 
@@ -155,13 +158,13 @@ def descriptors(s):
     """Every descriptor from 0 to 1,023 is good, also that of a closed file."""
     for name in (b"/a", b"/b"):
         s.do(calls.create(7, name))
-    for name, handle, descriptor in ((b"/a", 2, 1023), (b"/b", 3, 0)):
+    for name, handle, descriptor in ((b"/a", 2, MAX_DESCRIPTOR), (b"/b", 3, 0)):
         s.host.new_descriptor = lambda: descriptor
         s.expect_end(f"done {handle}", calls.open_(1, name))
     s.expect("ask 04ff030000", calls.close(2))
     s.expect("done 0", Reply(DONE))
     s.expect("ask", calls.open_(1, b"/a"))
-    s.expect("done 2", Reply(put(1023, 4)))
+    s.expect("done 2", Reply(put(MAX_DESCRIPTOR, 4)))
 
 
 def listings(s):
@@ -178,7 +181,7 @@ def longest_listing(s):
     s.load(crowd())
     s.expect("ask", calls.readdir(b"/"))
     assert len(s.truth) == ANSWER
-    s.expect("done 255", Reply(s.truth))
+    s.expect(f"done {MAX_NODES - 1}", Reply(s.truth))
 
 
 def rights_outlive_chmod(s):
@@ -201,16 +204,16 @@ def saves_and_loads(s):
     second = s.send(Save(1000))
     for saved, data, mode in ((first, A, 7), (second, b"y" + A[1:], 4)):
         s.expect("done 0", Load(saved.data, saved.digest))
-        s.expect_end(f"done 1025 {put(handle, 4).hex()}010{mode}01040000", calls.stat(b"/a"))
+        s.expect_end(f"done {PAGE + 1} {put(handle, 4).hex()}010{mode}{put(PAGE + 1, 4).hex()}", calls.stat(b"/a"))
         s.do(calls.open_(1, b"/a"))
-        s.expect_end(f"done 1024 {data.hex()}", calls.read(handle, PAGE))
+        s.expect_end(f"done {PAGE} {data.hex()}", calls.read(handle, PAGE))
         s.do(calls.close(handle))
 
 
 def longest_image(s):
     s.load(crowd(*FULL))
-    s.expect("refused 34", Save(44_775))
-    s.expect("done 44776", Save(44_776))
+    s.expect("refused 34", Save(LONGEST - 1))
+    s.expect(f"done {LONGEST}", Save(LONGEST))
 
 
 PAGES = [

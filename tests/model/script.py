@@ -32,7 +32,9 @@ class Script(Recording):
         self.shown = {}
 
     def expect(self, answer, event, shown=None):
-        """Sends an event, or a call's bytes, and holds the outcome against an answer's first words; a trial shows it in words."""
+        """Sends an event, or a call's bytes, and holds the outcome against an answer's first words; a trial shows it in
+        words.
+        """
         self.check(answer, self.send(Call(event) if isinstance(event, bytes) else event), event)
         self.show(shown)
 

@@ -1,4 +1,6 @@
-"""The claim (SPECIFICATION 10) on samples: the guard answers as the reference tree does, and never stops under an honest host."""
+"""The claim (SPECIFICATION 10) on samples: the guard answers as the reference tree does, and never stops under an
+honest host.
+"""
 
 import unittest
 from random import Random

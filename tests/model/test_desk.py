@@ -6,6 +6,7 @@ import unittest
 from unittest import mock
 
 from . import desk
+from .desk import MAX_BYTES
 from .trials import DESK_INPUT, DESK_OUTPUT
 
 
@@ -31,15 +32,15 @@ class Desk(unittest.TestCase):
         for line in (
             b"", b"c", b"r", b"x", b" ", b"c0d2f", b"c  0d2f", b" c 0d2f", b"c 0d2f ", b"c 0d2", b"c 0D2F", b"C 0d2f",
             b"c\t0d2f", b"c 0d2f\r", b"c 0d2f\0", b"\0", b"c 0g", b"c 0d 2f", b"\xff\xfe", b"s 23",
-            b"c " + b"00" * 9691, b"c " + b"0" * 19381, b"c " + b"0" * 100_000,
+            b"c " + b"00" * (MAX_BYTES + 1), b"c " + b"0" * (2 * MAX_BYTES + 1), b"c " + b"0" * 100_000,
         ):
             with self.subTest(line[:20]):
                 self.assertEqual(desk.answers([line]), ["bad line"])
 
     def test_good_lines(self):
         for line, answer in (
-            (b"c ", "refused 22"), (b"r ", "refused 61"), (b"c 0d2f", "ask 0d2f"), (b"c " + b"00" * 9690, "refused 22"),
-            (b"r " + b"00" * 9690, "refused 61"),
+            (b"c ", "refused 22"), (b"r ", "refused 61"), (b"c 0d2f", "ask 0d2f"),
+            (b"c " + b"00" * MAX_BYTES, "refused 22"), (b"r " + b"00" * MAX_BYTES, "refused 61"),
         ):
             self.assertEqual(desk.answers([line]), [answer])
 

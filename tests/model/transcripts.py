@@ -1,6 +1,6 @@
 """Lists of events with their answers as a file, for a program that replays them.
 
-    python3 -m model.transcripts > FILE          the same file each time: every script, every dishonest reply, fixed seeds
+    python3 -m model.transcripts > FILE          the same each time: every script, every dishonest reply, fixed seeds
     python3 -m model.transcripts trials > FILE   the trials (SPECIFICATION 11.1) alone, each with its words
 
 One line is one thing; its first character says which. Fields stand one blank apart, numbers are decimal, bytes are

@@ -10,8 +10,8 @@ So a reply to a fetch is judged on actual bytes in the tree and on digests in th
 is of a save must give both the same outcomes and the same tables; to be held beside a real guard, other lists need the
 guard.
 
-Each call is a coroutine: its refusals in their order (SPECIFICATION 7), then its requests, each answered by a reply, then the
-change of the tables. The pending call is the coroutine, and how far it has come is where it stands.
+Each call is a coroutine: its refusals in their order (SPECIFICATION 7), then its requests, each answered by a reply,
+then the change of the tables. The pending call is the coroutine, and how far it has come is where it stands.
 """
 
 from dataclasses import dataclass, replace

@@ -2,7 +2,7 @@
 
 from . import calls
 from .events import Reply
-from .rules import PAGE, put
+from .rules import MAX_COUNT, MAX_DESCRIPTOR, MAX_NAME, MAX_NODES, MAX_OPEN, MAX_SIZE, PAGE, put
 
 DESK_INPUT = b"""\
 c 01072f61
@@ -37,8 +37,8 @@ def create_paths(s):
 
 
 def names(s):
-    s.expect("refused 36", calls.create(7, b"/" + b"n" * 33), "a name of 33")
-    s.expect_end("done", calls.create(7, b"/" + b"n" * 32), "a name of 32")
+    s.expect("refused 36", calls.create(7, b"/" + b"n" * (MAX_NAME + 1)), "a name of 33")
+    s.expect_end("done", calls.create(7, b"/" + b"n" * MAX_NAME), "a name of 32")
 
 
 def seek_to_the_size(s):
@@ -48,14 +48,14 @@ def seek_to_the_size(s):
 
 
 def read_counts(s):
-    handle = s.file(b"/a", bytes(4097))
+    handle = s.file(b"/a", bytes(MAX_COUNT + 1))
     s.expect("done 0", calls.seek(handle, 0))
-    s.expect("refused 22", calls.read(handle, 4097), "read of 4,097")
-    s.expect_end("done 4096", calls.read(handle, 4096), "read of 4,096")
+    s.expect("refused 22", calls.read(handle, MAX_COUNT + 1), "read of 4,097")
+    s.expect_end(f"done {MAX_COUNT}", calls.read(handle, MAX_COUNT), "read of 4,096")
 
 
 def largest_file(s):
-    handle = s.file(b"/a", bytes(65_535))
+    handle = s.file(b"/a", bytes(MAX_SIZE - 1))
     s.expect_end("done 1", calls.write(handle, b"x"), "write of the byte at 65,535")
     s.expect("refused 27", calls.write(handle, b"x"), "write of the next byte")
 
@@ -68,13 +68,13 @@ def create_answered_1(s):
 def descriptor_1023(s):
     s.do(calls.create(7, b"/a"))
     s.expect("ask", calls.open_(1, b"/a"))
-    s.expect("done", Reply(put(1023, 4)), "open answered with descriptor 1,023")
+    s.expect("done", Reply(put(MAX_DESCRIPTOR, 4)), "open answered with descriptor 1,023")
 
 
 def descriptor_1024(s):
     s.do(calls.create(7, b"/a"))
     s.expect("ask", calls.open_(1, b"/a"))
-    s.expect("stopped 4", Reply(put(1024, 4)), "open answered with descriptor 1,024")
+    s.expect("stopped 4", Reply(put(MAX_DESCRIPTOR + 1, 4)), "open answered with descriptor 1,024")
 
 
 def two_children(s):
@@ -107,20 +107,20 @@ def page_of_1023(s):
 
 
 def opens(s):
-    for i in range(33):
+    for i in range(MAX_OPEN + 1):
         s.do(calls.create(7, b"/%d" % i))
-    for i in range(32):
+    for i in range(MAX_OPEN):
         s.expect_end("done", calls.open_(1, b"/%d" % i))
     s.show("32nd open")
-    s.expect("refused 24", calls.open_(1, b"/32"), "33rd open")
+    s.expect("refused 24", calls.open_(1, b"/%d" % MAX_OPEN), "33rd open")
 
 
 def nodes(s):
-    for i in range(255):
+    for i in range(MAX_NODES - 1):
         s.expect_end("done", calls.create(7, b"/%d" % i))
     s.show("256th node")
-    s.expect("refused 28", calls.create(7, b"/255"), "257th node, a file")
-    s.expect("refused 28", calls.mkdir(7, b"/255"), "257th node, a directory")
+    s.expect("refused 28", calls.create(7, b"/%d" % (MAX_NODES - 1)), "257th node, a file")
+    s.expect("refused 28", calls.mkdir(7, b"/%d" % (MAX_NODES - 1)), "257th node, a directory")
 
 
 TRIALS = [

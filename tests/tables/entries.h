@@ -1,9 +1,15 @@
-/* The functions that are compared: ours_ are the entries of entries.rt.in, plain_ straightforward C. A slice is a pointer and a length. */
+/* The functions that are compared: ours_ are the entries of entries.rt.in, plain_ straightforward C. A slice is a
+ * pointer and a length. */
 #include <stdbool.h>
 #include <stddef.h>
 #include <stdint.h>
+#include "../../include/guard.h"
 
-enum { SIZE = 52672, NODES_AT = 256, WIDTH = 56, NODES = 256, DIGESTS_AT = 15552 };
+/* the memory: a header of 32 numbers, rows of nodes and of open files, page digests */
+enum {
+    SIZE = GUARD_MEMORY_LENGTH, NODES = GUARD_NODES, DIGEST = GUARD_DIGEST_LENGTH, WIDTH = 56, OPEN_WIDTH = 30,
+    NODES_AT = 32 * 8, DIGESTS_AT = NODES_AT + NODES * WIDTH + GUARD_OPEN_FILES * OPEN_WIDTH
+};
 
 size_t ours_find(const uint8_t *m, size_t length, size_t n, uint64_t parent, const uint8_t *name, size_t name_length);
 size_t plain_find(const uint8_t *m, size_t length, size_t n, uint64_t parent, const uint8_t *name, size_t name_length);

@@ -1,4 +1,5 @@
-/* paths compare: both codes on the same paths and nodes must answer the same. paths ours|plain short|long: one call of each function, to be counted. */
+/* paths compare: both codes on the same paths and nodes must answer the same. paths ours|plain short|long: one call of
+ * each function, to be counted. */
 #include <stdio.h>
 #include <string.h>
 #include "entries.h"
@@ -59,14 +60,22 @@ static uint64_t random_number(void)
     return state;
 }
 
-static int compare(void)
+/* where the walk's numbers are counted: behind every place */
+enum { NUMBER_AT = 1000, NOT_DIRECTORY = NUMBER_AT + 20, BARRED = NUMBER_AT + 13, ABSENT = NUMBER_AT + 2 };
+
+static long walks, forms, by_form[40], by_walk[NUMBER_AT + 100];
+
+static int same_rights(void)
 {
-    uint8_t path[600];
-    long walks = 0, forms = 0, by_form[40] = {0}, by_walk[1100] = {0};
     for (unsigned mode = 0; mode < 8; mode++)
         for (unsigned rights = 1; rights < 4; rights++)
             if (ours_covers((uint8_t)mode, (uint8_t)rights) != (plain_covers(mode, rights) == 1))
-                return printf("covers differs at %u %u\n", mode, rights), 1;
+                return printf("covers differs at %u %u\n", mode, rights), 0;
+    return 1;
+}
+
+static int same_forms(uint8_t *path)
+{
     for (int t = 0; t < 200000; t++) {
         static const char bytes[] = "//..aab\0";
         size_t n = random_number() % (t % 4 == 0 ? 600 : 12);
@@ -76,28 +85,45 @@ static int compare(void)
             path[0] = '/';
         uint64_t a = ours_form(path, n), b = plain_form(path, n);
         if (a != b)
-            return printf("form differs: %lu %lu\n", (unsigned long)a, (unsigned long)b), 1;
+            return printf("form differs: %lu %lu\n", (unsigned long)a, (unsigned long)b), 0;
         forms++;
         by_form[a]++;
     }
+    return 1;
+}
+
+static int same_walks(uint8_t *path)
+{
     for (int t = 0; t < 20000; t++) {
         size_t n = full(random_number() % 4 == 0 ? 1 : 4 + (int)(random_number() % 26), path);
         int nodes = 1 + (int)(random_number() % NODES);
         if (random_number() % 2)
             nodes = NODES;
-        memory[NODES_AT + (NODES - DEEP + random_number() % DEEP) * WIDTH + 16 + random_number() % 2] = (uint8_t)(random_number() % 8);
+        memory[NODES_AT + (NODES - DEEP + random_number() % DEEP) * WIDTH + 16 + random_number() % 2] =
+            (uint8_t)(random_number() % 8);
         if (random_number() % 2)
             n = random_number() % (n + 1);
-        uint64_t a = ours_walk(memory, SIZE, (size_t)nodes, path, n), b = plain_walk(memory, SIZE, (size_t)nodes, path, n);
+        uint64_t a = ours_walk(memory, SIZE, (size_t)nodes, path, n);
+        uint64_t b = plain_walk(memory, SIZE, (size_t)nodes, path, n);
         if (a != b)
-            return printf("walk differs: %lu %lu\n", (unsigned long)a, (unsigned long)b), 1;
+            return printf("walk differs: %lu %lu\n", (unsigned long)a, (unsigned long)b), 0;
         walks++;
         by_walk[a]++;
     }
-    if (!by_form[0] || !by_form[22] || !by_form[36] || !by_walk[0] || !by_walk[NODES - 1] || !by_walk[1020] || !by_walk[1013] || !by_walk[1002])
+    return 1;
+}
+
+static int compare(void)
+{
+    uint8_t path[600];
+    if (!same_rights() || !same_forms(path) || !same_walks(path))
+        return 1;
+    if (!by_form[0] || !by_form[22] || !by_form[36] || !by_walk[0] || !by_walk[NODES - 1] || !by_walk[NOT_DIRECTORY] ||
+        !by_walk[BARRED] || !by_walk[ABSENT])
         return printf("an answer never came up\n"), 2;
-    printf("paths: the same as C on %ld forms (22 %ld, 36 %ld) and %ld walks (20 %ld, 13 %ld, 2 %ld), and on the whole table of rights\n", forms, by_form[22], by_form[36],
-        walks, by_walk[1020], by_walk[1013], by_walk[1002]);
+    printf("paths: the same as C on %ld forms (22 %ld, 36 %ld)", forms, by_form[22], by_form[36]);
+    printf(" and %ld walks (20 %ld, 13 %ld, 2 %ld)", walks, by_walk[NOT_DIRECTORY], by_walk[BARRED], by_walk[ABSENT]);
+    printf(", and on the whole table of rights\n");
     return 0;
 }
 

@@ -46,7 +46,7 @@ uint64_t plain_walk(const uint8_t *m, size_t length, size_t n, const uint8_t *pa
 uint64_t plain_form(const uint8_t *path, size_t length)
 {
     size_t at = 1;
-    int is_long = length > 255;
+    int is_long = length > GUARD_PATH_LENGTH;
     if (length == 0 || path[0] != '/')
         return 22;
     if (length == 1)
@@ -60,7 +60,7 @@ uint64_t plain_form(const uint8_t *path, size_t length)
             return 22;
         if (n == 0 || (n == 1 && path[at] == '.') || (n == 2 && path[at] == '.' && path[at + 1] == '.'))
             return 22;
-        if (n > 32)
+        if (n > GUARD_NAME_LENGTH)
             is_long = 1;
         if (end == length)
             return is_long ? 36 : 0;

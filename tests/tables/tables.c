@@ -5,9 +5,10 @@
 #include <string.h>
 #include "entries.h"
 
-static uint8_t m[SIZE], row[WIDTH], name[32], digest[32], image[44776];
+static uint8_t m[SIZE], row[WIDTH], name[GUARD_NAME_LENGTH], digest[DIGEST], image[GUARD_IMAGE_LENGTH];
 
-/* 256 nodes of one parent, with names that differ in one byte, `from_end` before their end; the first has one page, the others three or four */
+/* 256 nodes of one parent, with names that differ in one byte, `from_end` before their end; the first has one page, the
+ * others three or four */
 static void fill(size_t name_len, size_t from_end)
 {
     memset(name, 'a', sizeof name);
@@ -32,21 +33,22 @@ static void fill(size_t name_len, size_t from_end)
 /* the root and 255 files in it, names of 32 bytes, 1,024 pages: the longest image */
 static size_t longest(void)
 {
-    fill(32, 1);
+    fill(GUARD_NAME_LENGTH, 1);
     for (int i = 0; i < NODES; i++) {
         uint8_t *r = m + NODES_AT + WIDTH * i;
         r[1] = (i + 1) >> 8;
         r[8] = i != 0;
         r[16] = i == 0 ? 2 : 1;
-        r[18 + 1] = i == 0 ? 0 : i == 255 ? 32 : 16;
-        r[22] = i == 0 ? 0 : 32;
+        r[18 + 1] = i == 0 ? 0 : i == NODES - 1 ? 32 : 16;
+        r[22] = i == 0 ? 0 : GUARD_NAME_LENGTH;
         r[23 + 30] = i == '/' ? 'b' : 'a';
         r[23 + 31] = i == '/' ? 'b' : i;
     }
     return setup_image(m, NODES, image);
 }
 
-static const char *const cases[] = {"find1", "find7", "find28", "middle28", "add", "remove", "digest", "image", "sound", "load"};
+static const char *const cases[] = {"find1", "find7", "find28", "middle28", "add", "remove", "digest", "image", "sound",
+    "load"};
 enum { CASES = sizeof cases / sizeof *cases };
 
 /* one case on tables of its own making: what the function answers */
@@ -66,7 +68,8 @@ static size_t run(int ours, const char *op)
             return ours ? ours_load(image, n, m, SIZE) : plain_load(image, n, m, SIZE);
         }
         memset(image, 0, sizeof image);
-        return ours ? ours_write_image(m, SIZE, NODES, image, sizeof image) : plain_write_image(m, SIZE, NODES, image, sizeof image);
+        return ours ? ours_write_image(m, SIZE, NODES, image, sizeof image)
+            : plain_write_image(m, SIZE, NODES, image, sizeof image);
     }
     size_t l = strcmp(op, "find1") == 0 ? 1 : strcmp(op, "find7") == 0 ? 7 : 28;
     fill(l, strcmp(op, "middle28") == 0 ? 11 : 1);
@@ -75,7 +78,7 @@ static size_t run(int ours, const char *op)
     else if (strcmp(op, "remove") == 0)
         ours ? ours_remove(m, SIZE, NODES, 0) : plain_remove(m, SIZE, NODES, 0);
     else if (strcmp(op, "digest") == 0)
-        ours ? ours_put_digest(m, SIZE, 1023, digest) : plain_put_digest(m, SIZE, 1023, digest);
+        ours ? ours_put_digest(m, SIZE, GUARD_PAGES - 1, digest) : plain_put_digest(m, SIZE, GUARD_PAGES - 1, digest);
     else
         return ours ? ours_find(m, SIZE, NODES, 1, name, l) : plain_find(m, SIZE, NODES, 1, name, l);
     return 0;

@@ -7,10 +7,10 @@ struct node {
     uint8_t kind, mode;
     uint32_t size;
     uint8_t length;
-    uint8_t name[33];
+    uint8_t name[GUARD_NAME_LENGTH + 1];
 } __attribute__((packed));
 
-static uint32_t pages(uint32_t size) { return (size + 1023) / 1024; }
+static uint32_t pages(uint32_t size) { return (size + GUARD_PAGE_LENGTH - 1) / GUARD_PAGE_LENGTH; }
 
 size_t plain_find(const uint8_t *m, size_t len, size_t n, uint64_t parent, const uint8_t *name, size_t name_len)
 {
@@ -35,13 +35,13 @@ void plain_remove(uint8_t *m, size_t len, size_t n, size_t k)
     for (size_t i = 0; i < n; i++)
         total += pages(nodes[i].size);
     size_t next = first + pages(nodes[k].size);
-    memmove(m + DIGESTS_AT + 32 * first, m + DIGESTS_AT + 32 * next, 32 * (total - next));
+    memmove(m + DIGESTS_AT + DIGEST * first, m + DIGESTS_AT + DIGEST * next, DIGEST * (total - next));
     memmove(nodes + k, nodes + k + 1, (n - (k + 1)) * sizeof(struct node));
 }
 
 void plain_put_digest(uint8_t *m, size_t len, size_t k, const uint8_t *x)
 {
-    memcpy(m + DIGESTS_AT + 32 * k, x, 32);
+    memcpy(m + DIGESTS_AT + DIGEST * k, x, DIGEST);
 }
 
 static __attribute__((noinline)) size_t write_image(const uint8_t *m, size_t n, uint8_t *out)
@@ -68,7 +68,8 @@ static __attribute__((noinline)) size_t write_image(const uint8_t *m, size_t n, 
     return p - out + 4 + 32 * (size_t)total;
 }
 
-size_t plain_write_image(const uint8_t *m, size_t len, size_t n, uint8_t *out, size_t out_len) { return write_image(m, n, out); }
+size_t plain_write_image(const uint8_t *m, size_t len, size_t n, uint8_t *out,
+    size_t out_len) { return write_image(m, n, out); }
 
 /* the same under another name, for setting up: what is counted is found by its name */
 size_t setup_image(const uint8_t *m, size_t n, uint8_t *out) { return write_image(m, n, out); }
@@ -80,54 +81,67 @@ static uint32_t get32(const uint8_t *p)
     return x;
 }
 
+/* what a record says of itself: id, kind, mode and size, its name's form; of the root's all but its mode is given */
+static int is_record(const uint8_t *r, int is_root)
+{
+    uint32_t id = get32(r), parent = get32(r + 4), size = get32(r + 10);
+    const uint8_t *name = r + 15;
+    size_t l = r[14];
+    if (id == 0 || r[9] > 7 || (r[8] == 1 ? size > GUARD_FILE_LENGTH : r[8] != 2 || size != 0))
+        return 0;
+    if (is_root)
+        return id == 1 && r[8] == 2 && parent == 0 && l == 0;
+    if (l < 1 || l > GUARD_NAME_LENGTH || memchr(name, 0, l) || memchr(name, '/', l))
+        return 0;
+    return name[0] != '.' || !(l == 1 || (l == 2 && name[1] == '.'));
+}
+
+/* the place of record i's directory before it; i where there is none, or where its id or its name there stands twice */
+static size_t place_of_parent(const uint8_t *const *at, size_t i)
+{
+    const uint8_t *r = at[i];
+    uint32_t id = get32(r), parent = get32(r + 4);
+    size_t j = i;
+    for (size_t k = 0; k < i; k++) {
+        if (get32(at[k]) == id)
+            return i;
+        if (get32(at[k]) == parent)
+            j = k;
+        if (get32(at[k] + 4) == parent && at[k][14] == r[14] && memcmp(at[k] + 15, r + 15, r[14]) == 0)
+            return i;
+    }
+    return j < i && at[j][8] == 2 ? j : i;
+}
+
 /* every soundness rule; 0 where one fails */
 int plain_is_sound(const uint8_t *s, size_t length)
 {
-    const uint8_t *at[256];
-    uint16_t path[256];
+    const uint8_t *at[NODES];
+    uint16_t path[NODES];
     size_t total = 0, p = 4;
     if (length < 4)
         return 0;
     size_t n = get32(s);
-    if (n < 1 || n > 256)
+    if (n < 1 || n > NODES)
         return 0;
     for (size_t i = 0; i < n; i++) {
         if (length - p < 15 || length - p - 15 < s[p + 14])
             return 0;
-        const uint8_t *r = s + p, *name = r + 15;
-        size_t l = r[14];
-        at[i] = r;
-        p += 15 + l;
-        uint32_t id = get32(r), parent = get32(r + 4), size = get32(r + 10);
-        if (id == 0 || r[9] > 7 || (r[8] == 1 ? size > 65536 : r[8] != 2 || size != 0))
+        at[i] = s + p;
+        p += 15 + at[i][14];
+        if (!is_record(at[i], i == 0))
             return 0;
-        total += pages(size);
-        if (i == 0) {
-            if (id != 1 || r[8] != 2 || parent != 0 || l != 0)
-                return 0;
-            path[0] = 0;
-            continue;
-        }
-        if (l < 1 || l > 32 || memchr(name, 0, l) || memchr(name, '/', l) || (name[0] == '.' && (l == 1 || (l == 2 && name[1] == '.'))))
+        total += pages(get32(at[i] + 10));
+        size_t j = place_of_parent(at, i);
+        if (i > 0 && j == i)
             return 0;
-        size_t j = i;
-        for (size_t k = 0; k < i; k++) {
-            if (get32(at[k]) == id)
-                return 0;
-            if (get32(at[k]) == parent)
-                j = k;
-            if (get32(at[k] + 4) == parent && at[k][14] == l && memcmp(at[k] + 15, name, l) == 0)
-                return 0;
-        }
-        if (j == i || at[j][8] != 2)
-            return 0;
-        path[i] = path[j] + 1 + l;
-        if (path[i] > 255)
+        path[i] = i == 0 ? 0 : path[j] + 1 + at[i][14];
+        if (path[i] > GUARD_PATH_LENGTH)
             return 0;
     }
-    if (length - p < 4 || total > 1024 || get32(s + p) != total)
+    if (length - p < 4 || total > GUARD_PAGES || get32(s + p) != total)
         return 0;
-    return length - p - 4 == total * 32;
+    return length - p - 4 == total * DIGEST;
 }
 
 size_t plain_load(const uint8_t *s, size_t length, uint8_t *m, size_t len)
@@ -137,7 +151,7 @@ size_t plain_load(const uint8_t *s, size_t length, uint8_t *m, size_t len)
     for (size_t i = 0; i < n; i++) {
         const uint8_t *r = s + p;
         struct node *w = nodes + i;
-        memset(w, 0, 56);
+        memset(w, 0, WIDTH);
         w->id = get32(r);
         w->parent = get32(r + 4);
         w->kind = r[8];
@@ -148,6 +162,6 @@ size_t plain_load(const uint8_t *s, size_t length, uint8_t *m, size_t len)
         total += pages(w->size);
         p += 15 + r[14];
     }
-    memcpy(m + DIGESTS_AT, s + p + 4, 32 * total);
+    memcpy(m + DIGESTS_AT, s + p + 4, DIGEST * total);
     return n;
 }

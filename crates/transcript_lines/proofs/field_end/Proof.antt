@@ -1,9 +1,9 @@
--- `transcripts::field_end` meets its contract. Assumes nothing.
+-- `transcript_lines::field_end` meets its contract. Assumes nothing.
 use Prim.Native.Nat.{_-_, _≤_}
 use lib.ListN.{length}
 use borrow.Author.Needs.{needs}
-use Rattle.transcripts.proofs.field_end.Statement.{statement}
-use Rattle.transcripts.proofs.field_end.Tie as tie
+use Rattle.transcript_lines.proofs.field_end.Statement.{statement}
+use Rattle.transcript_lines.proofs.field_end.Tie as tie
 
 abbrev Inv-loop : tie.InvT-loop
 Inv-loop text i₀ i = i ≤ length text

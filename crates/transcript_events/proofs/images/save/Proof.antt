@@ -1,10 +1,10 @@
--- `transcripts::save` is safe. Assumes nothing.
+-- `transcript_events::images::save` is safe. Assumes nothing.
 use native.Mathlib.Omega.{arith}
 use mathlib.Core.Path.{sym}
 use lib.Seq.{length-take-le}
 use borrow.Author.Needs.{needs}
-use Rattle.transcripts.proofs.save.Statement.{statement}
-use Rattle.transcripts.proofs.save.Tie as tie
+use Rattle.transcript_events.proofs.images.save.Statement.{statement}
+use Rattle.transcript_events.proofs.images.save.Tie as tie
 
 slice-aggregate-on-save : tie.Need-slice-aggregate-on-save
 slice-aggregate-on-save c =

@@ -1,0 +1,17 @@
+"""The lengths and limits that the requirements give as numbers: elsewhere they have names, and follow from one
+another.
+"""
+
+import unittest
+
+from . import image, rules
+
+
+class Limits(unittest.TestCase):
+    def test_limits(self):
+        self.assertEqual((rules.MAX_NODES, rules.MAX_OPEN, rules.MAX_PAGES, rules.PAGE), (256, 32, 1024, 1024))
+        self.assertEqual((rules.MAX_SIZE, rules.MAX_PATH, rules.MAX_NAME, rules.MAX_COUNT), (65_536, 255, 32, 4096))
+        self.assertEqual((rules.MAX_MODE, rules.MAX_DESCRIPTOR, rules.STAT), (7, 1023, 13))
+
+    def test_lengths(self):
+        self.assertEqual((rules.ANSWER, rules.REQUEST, image.LONGEST), (9690, 1037, 44_776))
