@@ -161,13 +161,19 @@ static void step_open(void)
 static uint8_t listing[ANSWER];
 static size_t listing_length, listed;
 
-static void list_children(uint32_t n)
+static void list_children(uint32_t n, int shuffled)
 {
-    uint8_t *p = listing;
+    uint8_t order[NODES] = {0}, *p = listing;
+    uint32_t seed = 1;
     listed = n;
-    for (uint32_t k = 1; k <= n; k++) {
-        const char *name = name_of(CHILD, k);
-        uint32_t id = k + 1;
+    for (uint32_t i = 0; i < n; i++) {
+        uint32_t j = shuffled ? (seed = seed * 1103515245 + 12345) / 65536 % (i + 1) : i;
+        order[i] = order[j];
+        order[j] = (uint8_t)(i + 1);
+    }
+    for (uint32_t i = 0; i < n; i++) {
+        const char *name = name_of(CHILD, order[i]);
+        uint32_t id = order[i] + 1u;
         memcpy(p, &id, 4);
         p[4] = 1;
         p[5] = 32;
@@ -221,6 +227,7 @@ static const struct row rows[] = {
     {"truncate, inside a page", full_open, restore, step_truncate, GUARD_TRUNCATE, 3 * PAGE + 100, 0,
         {2, PAGE, PAGE, 1}},
     {"readdir, 255 children", largest, NULL, step_readdir, GUARD_READDIR, 0, NODES - 1, {0, 0, ANSWER, NODES}},
+    {"readdir, 255 shuffled", largest, NULL, step_readdir, GUARD_READDIR, 1, NODES - 1, {0, 0, ANSWER, NODES}},
     {"save, 23 bytes", smallest, NULL, step_save, NO_CALL, 0, 0, {1, 23, 23, 1}},
     {"save, 44,776 bytes", largest, NULL, step_save, NO_CALL, 0, 0, {1, IMAGE, IMAGE, NODES}},
     {"load, 23 bytes", smallest, NULL, step_load, NO_CALL, 0, 0, {1, 23, 23, 1}},
@@ -258,7 +265,7 @@ static void make_call(const struct row *r)
         break;
     case GUARD_TRUNCATE: by_handle(GUARD_TRUNCATE, file_handle, position, 8); break;
     case OTHER_HANDLE: by_handle(GUARD_SEEK, 777, 0, 8); break;
-    case GUARD_READDIR: list_children(count); break;
+    case GUARD_READDIR: list_children(count, position); break;
     case GUARD_STAT:
         deep_path(path, position);
         stat_of(path, position == 1 ? LAST : LAST + position, position == 1 ? 1 : 2, position == 1 ? 4 * PAGE : 0);
@@ -357,7 +364,7 @@ static void count_children(void)
 {
     for (uint32_t n = 1; n < NODES; n += n == 1 ? 14 : 16) {
         children(n);
-        list_children(n);
+        list_children(n, 0);
         count_point("children", n, step_readdir);
     }
 }

@@ -10,6 +10,7 @@ from pathlib import Path
 
 # bars, on the time
 MEAN, MOST, HASHING, STACK = 1.10, 1.30, 1.05, 16_384
+SHUFFLED = 1.5  # a listing in no order, in instructions of the same in order
 HASH = "digest::sha256"  # in the archive
 
 # Rows that miss a bar, and why.
@@ -110,6 +111,12 @@ def print_means(text, ratios):
     return means
 
 
+def print_shuffled(archive):
+    ratio = archive["readdir, 255 shuffled"][0] / archive["readdir, 255 children"][0]
+    print(f"a listing in no order: {ratio:.2f} of the instructions of one in order, at most {SHUFFLED:.2f}")
+    return ["a listing in no order"] * (ratio > SHUFFLED)
+
+
 def print_memory(rows):
     """The guard's bytes and the deepest stack; the entries above the bar."""
     sizes = {(side, what): int(size) for side, what, size in rows}
@@ -181,6 +188,7 @@ def main():
     archive, plain, plain_hash, least = (dumps(folder, side) for side in ("archive", "plain", "plain_hash", "least"))
     times = {name: float(ratio) for name, ratio in fields(folder / "times")}
     over = print_table(archive, plain, plain_hash, least, times)
+    over += print_shuffled(archive)
     over += print_memory(fields(folder / "memory"))
     print_curves(archive, plain, plots)
     print_reasons(over)

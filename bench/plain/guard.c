@@ -41,17 +41,24 @@ static uint32_t find_id(const struct plain_guard *g, uint32_t id)
     return i;
 }
 
-static uint32_t find_child(const struct plain_guard *g, uint32_t parent, const uint8_t *name, size_t length)
+static bool is_child(const struct node *n, uint32_t parent, const uint8_t *name, size_t length)
 {
-    uint32_t i = 0;
-    for (; i < g->nodes; i++) {
-        const struct node *n = g->node + i;
-        /* siblings' names often begin alike: the last byte tells most of them apart */
-        if (n->parent == parent && n->length == length && n->name[length - 1] == name[length - 1] &&
-            memcmp(n->name, name, length) == 0)
-            break;
-    }
-    return i;
+    /* siblings' names often begin alike: the last byte tells most of them apart */
+    return n->parent == parent && n->length == length && n->name[length - 1] == name[length - 1] &&
+        memcmp(n->name, name, length) == 0;
+}
+
+/* A child stands soon behind its directory, as a rule: the search begins there and goes round. */
+static uint32_t find_child(const struct plain_guard *g, uint32_t directory, const uint8_t *name, size_t length)
+{
+    uint32_t parent = g->node[directory].id;
+    for (uint32_t i = directory + 1; i < g->nodes; i++)
+        if (is_child(g->node + i, parent, name, length))
+            return i;
+    for (uint32_t i = 0; i <= directory; i++)
+        if (is_child(g->node + i, parent, name, length))
+            return i;
+    return g->nodes;
 }
 
 static bool has_child(const struct plain_guard *g, uint32_t parent)
@@ -136,7 +143,7 @@ static struct way walk(const struct plain_guard *g, const uint8_t *path, size_t 
             return (struct way){.fault = 13};
         while (end < length && path[end] != '/')
             end++;
-        w = (struct way){0, w.node, find_child(g, d->id, path + at, end - at), path + at, end - at};
+        w = (struct way){0, w.node, find_child(g, w.node, path + at, end - at), path + at, end - at};
         at = end + 1;
     }
     return w;
@@ -491,10 +498,43 @@ static outcome told(struct plain_guard *g, const uint8_t *reply, size_t n)
     return finish(g, 0, 0);
 }
 
+/* Places by id: for each hash the last place with it, for each place the one before it with the same hash; and how far they are made. */
+struct places { uint8_t last[NODES], before[NODES], step; };
+
+static uint8_t hash_of(uint32_t id) { return (uint8_t)(id * 2654435769u >> 24); }
+
+static void list_places(const struct plain_guard *g, struct places *p)
+{
+    for (uint32_t k = 0; k < g->nodes; k++) {
+        uint8_t *last = p->last + hash_of(g->node[k].id);
+        p->before[k] = *last;
+        *last = (uint8_t)k;
+    }
+    p->step = 2;
+}
+
+static uint32_t find_listed(const struct plain_guard *g, uint32_t id, struct places *p)
+{
+    if (p->step == 0) {
+        p->step = 1; /* one id alone is searched */
+        return find_id(g, id);
+    }
+    if (p->step == 1)
+        list_places(g, p);
+    uint32_t k = p->last[hash_of(id)];
+    while (g->node[k].id != id) {
+        if (k <= p->before[k])
+            return g->nodes;
+        k = p->before[k];
+    }
+    return k;
+}
+
 /* The children that a listing names, or -1 where it is not each child once. */
 static int listed(const struct plain_guard *g, uint32_t directory, const uint8_t *reply, size_t n)
 {
     uint8_t seen[NODES] = {0};
+    struct places places = {0};
     int count = 0, children = 0;
     uint32_t k = NODES; /* behind the last entry's node stands the next one's, where they are listed in their order */
     for (size_t at = 0; at < n; count++) {
@@ -502,7 +542,7 @@ static int listed(const struct plain_guard *g, uint32_t directory, const uint8_t
         if (n - at < 6 || n - at - 6 < entry[5])
             return -1;
         uint32_t id = get4(entry);
-        k = k + 1 < g->nodes && g->node[k + 1].id == id ? k + 1 : find_id(g, id);
+        k = k + 1 < g->nodes && g->node[k + 1].id == id ? k + 1 : find_listed(g, id, &places);
         const struct node *child = g->node + k;
         if (k == g->nodes || seen[k] || child->parent != directory || child->kind != entry[4] ||
             child->length != entry[5] ||

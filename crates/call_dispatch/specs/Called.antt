@@ -1,4 +1,6 @@
 -- A call's bytes on the machine's state: refused 22 where they are no call, else what the call that they mean comes to.
+--   called, calledWith    what the machine makes of what was read, and of the bytes
+--   Calls                 outcome, memory and request buffer are those
 -- Assumes nothing.
 use mathlib.Core.List.{List, _∷_}
 use mathlib.Core.Option.{Option}

@@ -1,4 +1,7 @@
 -- Which call of the rules a parsed call and the bytes mean, and the ranges of its numbers.
+--   madeBy kind number    the call of a kind by path
+--   meant                 the call that a parsed call is
+--   NumberFits, Ranges    what its numbers may be
 -- Assumes nothing.
 use mathlib.Core.List.{List}
 use mathlib.Core.Option.{Option, some, none}

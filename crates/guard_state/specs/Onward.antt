@@ -1,4 +1,6 @@
 -- The header's numbers of a change of a file's bytes: as it begins, and as it goes on from page to page.
+--   writeNumbers, shrinkNumbers    as a write, as a truncation begins
+--   goesOn call page               as it waits for something else
 -- Assumes nothing.
 use mathlib.Core.Bool.{false}
 use Prim.Native.Nat.{ℕ}

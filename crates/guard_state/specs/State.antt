@@ -1,5 +1,11 @@
 -- The guard's memory as the machine's state: the header's numbers, the rows in use of each table, and the pending call.
--- Total: each number of the header is read within its limit. Assumes nothing.
+-- Total: each number of the header is read within its limit.
+--   numbersOf, numbersIn m    the header's numbers, each within its limit
+--   HasRoot m                 there is a node
+--   pendingIn, gatheredIn     the pending call and what it has gathered, by the header's numbers and the staged bytes
+--   stateOf c m               the machine's state that a memory holds
+--   clearedHead, readingHead  the header when nothing is pending, and of a read that waits
+-- Assumes nothing.
 use mathlib.Core.Bool.{Bool}
 use mathlib.Core.List.{List, [], _∷_}
 use Prim.Native.Nat.{ℕ, _+_, _/_, _%_, _<_}

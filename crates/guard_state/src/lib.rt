@@ -324,12 +324,13 @@ pub fn wait_sent(m: &mut [u8], call: u64, page: usize, digest: [u8; limits::DIGE
 
 // ---- a call ends
 
-// The call is done and the tables are as they were.
+// The call is done and the tables are as they were. The call's other numbers mean nothing without it.
 pub fn finish(m: &mut [u8])
     requires { ⌜ IsMemory m ⌝ }
     ensures { λ _. ⌜ Turns m (λ c s. ends c s (s .skeleton .tables) (s .contents)) ⌝ }
 {
-    clear(m);
+    memory::put_head(m, header::RUNNING, 1);
+    memory::put_head(m, header::CALL, calls::IDLE);
 }
 
 // The call is done, over tables that now have these counts.

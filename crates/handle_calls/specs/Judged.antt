@@ -1,5 +1,8 @@
 -- What a call by handle is judged to be: the first of the call's numbers that holds, else the places of the open file
 -- and of its node.
+--   handledFor t h c            the call's first number, or the places of the open file and of its node
+--   Judgement                   the same of the tables in a memory
+--   lacksRight, endChecked      what is asked of an open file: a right; a position within its file
 -- Assumes nothing.
 use mathlib.Core.Path.{_≡_}
 use mathlib.Core.Bool.{Bool, true, _||_, not}

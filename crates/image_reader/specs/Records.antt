@@ -1,4 +1,6 @@
 -- An image's records by their places in its bytes: what the form's `get` finds one after another, found from a place.
+--   recordAt, recordEnd, nodesFrom, endFrom    records from a place on
+--   imageNodes, imageDigests, formed           what an image holds, and whether it has the form
 -- Assumes nothing.
 use Prim.Native.Nat.{ℕ, zero, suc, _+_, _*_}
 use mathlib.Core.Bool.{Bool, true, false, _&&_, _||_, not}

@@ -1,4 +1,6 @@
 -- The nodes and digests that go into an image, and how long a record is.
+--   nodesIn, imageIn             what goes into an image
+--   frontLength, recordLength    how long a record is before its name, and as a whole
 -- Assumes nothing.
 use Prim.Native.Nat.{ℕ, _+_, _*_}
 use mathlib.Core.List.{List, _++_}

@@ -1,4 +1,7 @@
 -- A listing's entries by their places in the reply, and the children that no entry has named yet.
+--   entryAt, entryEnd, endWithin    the entry at a place of a reply, and the place behind it
+--   namesChild, entryPlace          whether it is the child that it names, and that child's place
+--   unseen, marks                   the children that no entry has named yet
 -- Assumes nothing.
 use Prim.Native.Nat.{ℕ, suc, _+_}
 use mathlib.Core.Bool.{Bool, _&&_}

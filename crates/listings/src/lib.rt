@@ -94,12 +94,19 @@ fn entry_place(
     at: usize,
     end: usize,
     next: usize,
+    places: &mut [u8; tables::PLACES],
 ) -> usize
     requires { ⌜ (n ≤ NODES) × IsMemory m × (end ≡ entryEnd ID-BYTES (now reply) at) × (end ≤ length (now reply)) ⌝ }
     ensures { λ r. ⌜ (soundNodes ID-BYTES (nodesOf n m) ≡ true
         → r ≡ entryPlace (nodesOf n m) id (entryAt ID-BYTES (now (reply .entry)) at)) ⌝ }
 {
-    let k = tables::find_node(m, n, numbers::number_at(reply, at, Guard::ID_BYTES), next);
+    let k = tables::find_listed(
+        m,
+        n,
+        numbers::number_at(reply, at, Guard::ID_BYTES),
+        next,
+        places,
+    );
     if n <= k {
         return n;
     }
@@ -115,13 +122,15 @@ fn entry_place(
 
 // A listing of the children of the node with this id: 7 unless each has one entry. Ids differ among sound nodes, so
 // each entry has one place.
-// `next` is the place behind the last entry's: children that stand together, listed in their order, need one search.
+// `next` is the place behind the last entry's: children that stand together, listed in their order, need no table of
+// places.
 fn judge_listing(m: &[u8], n: usize, id: u64, reply: &[u8]) -> u8
     requires { ⌜ (n ≤ NODES) × IsMemory m ⌝ }
     ensures { λ r. ⌜ (soundNodes ID-BYTES (nodesOf n m) ≡ true → (k o : ℕ) → nodeAt (nodesOf n m) k .id ≡ id
         → r ≡ reasonFor (tablesIn n o (was m)) (now (reply .entry)) (asked (listing k))) ⌝ }
 {
     let mut seen = [0u8; Guard::NODES];
+    let mut places = [0u8; tables::PLACES];
     let mut count = 0;
     let mut at = 0;
     let mut next = 0;
@@ -130,7 +139,7 @@ fn judge_listing(m: &[u8], n: usize, id: u64, reply: &[u8]) -> u8
         if end == 0 {
             return 7;
         }
-        let k = entry_place(m, n, id, reply, at, end, next);
+        let k = entry_place(m, n, id, reply, at, end, next, &mut places);
         if n <= k {
             return 7;
         }

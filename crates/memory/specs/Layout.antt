@@ -1,4 +1,8 @@
 -- The guard's memory as tables: the areas in which its bytes are laid out, and what stands in each.
+--   Mem, memOf m                     what stands in a memory: header, nodes, open files, digests, staging area
+--   memorySize                       the least length of the slice that is the guard
+--   headNumbers, openRows, …         how many numbers and rows the areas have; nodesAt, opensAt, … where they begin
+--   withHead, withNodes, …           the same memory with another header, other nodes, …
 -- Assumes nothing.
 use Prim.Native.Nat.{ℕ, _+_, _*_}
 use mathlib.Core.List.{List, [], _∷_}

@@ -1,4 +1,7 @@
 -- A row of bytes as a record: where each field of a node and of an open file stands.
+--   nodeOf, openOf      a row of bytes as a node, as an open file
+--   nodeRow, openRow    the row of one, of nodeWidth and openWidth bytes
+--   hintAt              the byte of an open file's row that says where its node stood
 -- Assumes nothing.
 use Prim.Native.Nat.{ℕ, _+_, _-_, _%_}
 use mathlib.Core.List.{List, [], _∷_, _++_}

@@ -1,4 +1,9 @@
 -- What an event leaves: the outcome, the memory and the buffer that it writes are those of the machine's result.
+--   settled c r s     the state once a stop has been carried out
+--   Sends             outcome, memory and request buffer are those of a result; the answer buffer is not touched
+--   Fills             the same with the answer buffer in place of the request buffer
+--   Leaves            the same with both
+--   Asks m q p x r    a call waits as p, and its request x goes out
 -- Assumes nothing.
 use mathlib.Core.Path.{_≡_}
 use mathlib.Core.List.{List}

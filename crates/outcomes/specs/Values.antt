@@ -1,5 +1,7 @@
 -- The four outcomes (SPECIFICATION 6.4): number and values of each, and the machine's answer that an outcome and the
 -- caller's buffers are.
+--   kindOf, valueOf, lengthOf    of an outcome, as C sees it
+--   answerIn, bytesIn            the machine's answer that outcome and buffers are, and how many bytes it has
 -- Assumes nothing.
 use mathlib.Core.List.{List}
 use Prim.Native.Nat.{ℕ}

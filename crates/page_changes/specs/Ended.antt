@@ -1,4 +1,5 @@
 -- The end of a change: what the tables must be able to take, and that the machine's change is then done.
+--   Ended              the numbers with which a change ends
 -- Assumes nothing.
 use mathlib.Core.Path.{_≡_}
 use mathlib.Core.List.{List}

@@ -1,4 +1,5 @@
 -- A change that is pending and has sent its pages before i; and that it can end when it has sent them all.
+--   Sending c m q i    the change q is pending in m and has sent its pages before i
 -- Assumes nothing.
 use mathlib.Core.Path.{_≡_}
 use mathlib.Core.List.{List}

@@ -1,5 +1,8 @@
 -- What a call by path is judged to be (SPECIFICATION 7.4 to 7.7): 22 where its bytes are no path, else the first of
--- the call's own numbers that holds, else the places that the call needs. Assumes nothing.
+-- the call's own numbers that holds, else the places that the call needs.
+--   judged                        22, else the first of the call's checks, else what it needs
+--   nodeFor, wayFor, placeFor     it needs a node; a node and its directory; a directory and a new name
+-- Assumes nothing.
 use mathlib.Core.List.{List}
 use mathlib.Core.Option.{some, none}
 use Prim.Native.Nat.{ℕ, _-_}

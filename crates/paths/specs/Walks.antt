@@ -1,6 +1,10 @@
 -- What a walk answers: a node's place, or the number that stopped it; for a call that makes or takes away a name, the
 -- place of the
--- directory that holds the last component. Assumes nothing.
+-- directory that holds the last component.
+--   walked            the place of the node at the end of a path, or the number that stops
+--   placed            the place of the directory of the last component, and where that begins
+--   childStep         one step from a directory
+-- Assumes nothing.
 use mathlib.Core.List.{List, [], _∷_}
 use Prim.Native.Nat.{ℕ, _-_}
 use lib.ListN.{length}

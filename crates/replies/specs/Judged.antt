@@ -1,4 +1,7 @@
 -- What a reply is judged to be: the first of its stop reasons that holds, else 0.
+--   reasonFor t r p     the stop reason of the reply r to what is pending, or 0
+--   statusOf            the same of a status
+--   pageReason          the same of a page, by the digest that is kept of it
 -- Assumes nothing.
 use Prim.Native.Nat.{ℕ}
 use mathlib.Core.Bool.{Bool, false, not}

@@ -1,5 +1,7 @@
 -- A save and a load as the machine takes them once the guard is known to be running and idle: the numbers that are
 -- left, or what is done.
+--   savedInto, Saves     what the machine makes of a save, and that code has done it
+--   loadedFrom, Loads    the same of a load
 -- Assumes nothing.
 use mathlib.Core.Path.{_≡_}
 use mathlib.Core.Bool.{not}

@@ -1,4 +1,10 @@
 -- The rows in use of the memory's tables, and their changes.
+--   View, viewOf n o m        the first n nodes with their digests, the first o open files
+--   tablesIn n o m            the tables alone
+--   stagedDigests             new digests in the staging area
+--   withNode, withoutNode, withOpen, withoutOpen, modeAt, cursorAt, withChange    changes of a view
+--   Changeable, Room, Spans   what a change of a file asks of the rows, and where a file's pages stand
+--   Others                    none of some rows has this parent
 -- Assumes nothing.
 use mathlib.Core.List.{List, [], _∷_, _++_}
 use mathlib.Core.Path.{_≡_}
@@ -106,3 +112,7 @@ unfoldable pub changedRows : (k size from : ℕ) → List (List ℕ) → (first 
 changedRows k size from ds first end new behind m =
     withNodes (setSize (m .nodes) k size)
     (withDigests (overwrite (overwrite (m .digests) (first + new) (part end behind (m .digests))) (first + from) ds) m)
+
+-- no node from place a on and before b has this parent
+abbrev pub Others : List Node → (parent a b : ℕ) → Type 0
+Others ns parent a b = (k : ℕ) → a ≤ k → k < b → nodeAt ns k .parent ≡ parent → ⊥

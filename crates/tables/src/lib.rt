@@ -14,9 +14,9 @@ ghost use Rattle.filesystem.specs.Tables.{nodeAt, pagesFor, pageTotal, setSize}
 ghost use Rattle.filesystem.specs.Image.{soundNodes, divide};
 ghost use Rattle.memory.specs.Records.{nodeOf, openOf};
 ghost use Rattle.memory.specs.Layout.{memOf, openRows};
-ghost use Rattle.tables.specs.View.{viewOf, withNode, withoutNode, withOpen, withoutOpen, withChange};
-ghost use Rattle.tables.specs.View.{stagedDigests, Changeable, Spans, Room};
 ghost use Rattle.memory.specs.Memories.{IsMemory, nodesOf, opensOf, was};
+ghost use Rattle.tables.specs.View.{viewOf, withNode, withoutNode, withOpen, withoutOpen, withChange};
+ghost use Rattle.tables.specs.View.{stagedDigests, Changeable, Spans, Room, Others};
 ghost use Rattle.numbers.specs.Slices.{KeepsLength};
 
 // ---- searches
@@ -37,18 +37,139 @@ pub fn find_id(m: &[u8], n: usize, id: u64) -> usize
     i
 }
 
-// The same, with a place that is tried first: ids differ among sound nodes, so where it has the id, the search would
-// find it too.
+// Whether k is the place of the node with this id: ids differ among sound nodes, so where node k has it, the search
+// would find it too.
+fn is_place(m: &[u8], n: usize, id: u64, k: usize) -> bool
+    requires { ⌜ (n ≤ NODES) × IsMemory m ⌝ }
+    ensures { λ r. ⌜ (r ≡ true → (w : ℕ) → soundNodes w (nodesOf n m) ≡ true → k ≡ findId (nodesOf n m) id) ⌝ }
+{
+    if n <= k {
+        return false;
+    }
+    memory::node_id(m, k) == id
+}
+
+// The search with a place that is tried first.
 pub fn find_node(m: &[u8], n: usize, id: u64, hint: usize) -> usize
     requires { ⌜ (n ≤ NODES) × IsMemory m ⌝ }
     ensures { λ r. ⌜ ((w : ℕ) → soundNodes w (nodesOf n m) ≡ true → r ≡ findId (nodesOf n m) id) ⌝ }
 {
-    if hint < n {
-        if memory::node_id(m, hint) == id {
-            return hint;
-        }
+    if is_place(m, n, id, hint) {
+        return hint;
     }
     find_id(m, n, id)
+}
+
+// Room for places by id: for each hash the last place with it, for each place the one before it with the same hash, and
+// how far they are made.
+// Each place is tried before it is believed, so nothing is promised of them.
+pub const PLACES: usize = STEP + 1;
+
+const STEP: usize = 2 * limits::NODES;
+
+// Ids that follow each other, or stand at equal distances, fall apart: a multiple by the golden ratio of 2^32, of which
+// the upper bits count.
+fn hash(id: u64) -> usize
+    ensures { λ r. ⌜ r < NODES ⌝ }
+{
+    (id % 4294967296 * 2654435769 / 16777216 % limits::NODES as u64) as usize
+}
+
+fn list_places(m: &[u8], n: usize, places: &mut [u8; PLACES])
+    requires { ⌜ (n ≤ NODES) × IsMemory m ⌝ }
+{
+    let mut k = 0;
+    while k < n {
+        let h = hash(memory::node_id(m, k));
+        places[limits::NODES + k] = places[h];
+        places[h] = k as u8;
+        k += 1;
+    }
+    places[STEP] = 2;
+}
+
+fn to_place(b: u8) -> usize
+    ensures { λ r. ⌜ r < NODES ⌝ }
+{
+    b as usize
+}
+
+// The place with this id among those of its hash, from the last on: each is behind the next, else there are no more.
+fn place_of(m: &[u8], places: &[u8; PLACES], id: u64) -> usize
+    requires { ⌜ IsMemory m ⌝ }
+{
+    let mut k = to_place(places[hash(id)]);
+    while memory::node_id(m, k) != id {
+        let next = to_place(places[limits::NODES + k]);
+        if k <= next {
+            return k;
+        }
+        k = next;
+    }
+    k
+}
+
+// A place to try for an id. One id alone is searched; the places are made for the second.
+fn likely_place(m: &[u8], n: usize, id: u64, places: &mut [u8; PLACES]) -> usize
+    requires { ⌜ (n ≤ NODES) × IsMemory m ⌝ }
+{
+    let step = places[STEP];
+    if step == 0 {
+        places[STEP] = 1;
+        return n;
+    }
+    if step == 1 {
+        list_places(m, n, places);
+    }
+    place_of(m, places, id)
+}
+
+// find_node for many ids in any order: where the hint has another id, one of `places`, at first all 0, is tried.
+pub fn find_listed(m: &[u8], n: usize, id: u64, hint: usize, places: &mut [u8; PLACES]) -> usize
+    requires { ⌜ (n ≤ NODES) × IsMemory m ⌝ }
+    ensures { λ r. ⌜ ((w : ℕ) → soundNodes w (nodesOf n m) ≡ true → r ≡ findId (nodesOf n m) id) ⌝ }
+{
+    if is_place(m, n, id, hint) {
+        return hint;
+    }
+    find_node(m, n, id, likely_place(m, n, id, places))
+}
+
+// Whether none of the four nodes from i on has this parent.
+fn four_others(m: &[u8], i: usize, parent: u64) -> bool
+    requires { ⌜ (i + 4 ≤ NODES) × IsMemory m ⌝ }
+    ensures { λ r. ⌜ (r ≡ true → Others (was m .nodes) parent i (i + 4)) ⌝ }
+{
+    if memory::node_parent(m, i) == parent {
+        return false;
+    }
+    if memory::node_parent(m, i + 1) == parent {
+        return false;
+    }
+    if memory::node_parent(m, i + 2) == parent {
+        return false;
+    }
+    memory::node_parent(m, i + 3) != parent
+}
+
+// Where a search for a child of this parent may begin: no node before has the parent. Most rows of a large table stand
+// in other directories, so
+// eight are passed in a turn.
+fn first_child(m: &[u8], n: usize, parent: u64) -> usize
+    requires { ⌜ (n ≤ NODES) × IsMemory m ⌝ }
+    ensures { λ r. ⌜ (r ≤ n) × Others (was m .nodes) parent 0 r ⌝ }
+{
+    let mut i = 0;
+    while i + 8 <= n {
+        if !four_others(m, i, parent) {
+            return i;
+        }
+        if !four_others(m, i + 4, parent) {
+            return i + 4;
+        }
+        i += 8;
+    }
+    i
 }
 
 // The place of the node with this parent and this name, or the count of nodes.
@@ -56,7 +177,7 @@ pub fn find_child(m: &[u8], nodes: usize, parent: u64, name: &[u8]) -> usize
     requires { ⌜ (nodes ≤ NODES) × IsMemory m ⌝ }
     ensures { λ r. ⌜ r ≡ findChild (nodesOf nodes m) parent (now (name .entry)) ⌝ }
 {
-    let mut i = 0;
+    let mut i = first_child(m, nodes, parent);
     // none before i is it
     while i < nodes {
         if memory::is_child(m, i, parent, name) {

@@ -11,6 +11,7 @@ use Rattle.lists.specs.Cells.{tab}
 use Rattle.filesystem.specs.Tables.{NODES, root, pagesFor}
 use Rattle.filesystem.specs.Image.{divide}
 use Rattle.memory.specs.Layout.{Mem, memOf, headNumbers, openRows, withHead, withNodes, withStaged}
+use Rattle.memory.specs.laws.MemLaws.{length-head}
 use Rattle.rules.specs.Requests.{Pending, idle, asked}
 use Rattle.rules.specs.Skeleton.{Config}
 use Rattle.machine.specs.Machine.{Gathered, fresh, guard as digestStore}
@@ -37,6 +38,11 @@ clears h = clearedSpan (clearedCall h)
 pub head-cleared : (h : List ℕ) → length h ≡ headNumbers → clears h ≡ clearedHead h
 unfolding clearedHead tab
 head-cleared h e = ap clears (head-cells 16 h (omega arith))
+
+-- a call's number taken back, the others left
+head-idle : (h : List ℕ) → length h ≡ headNumbers → set (set h 2 1) 3 0 ≡ getD h 0 0 ∷ getD h 1 0 ∷ 1 ∷ 0 ∷ drop 4 h
+unfolding tab
+head-idle h e = ap (λ (l : List ℕ). set (set l 2 1) 3 0) (head-cells 4 h (omega arith))
 
 -- numbers that are read as a pending call, over the tables as they are; s is staged
 module _ (c : Config) (m x y s : List ℕ) (e : memOf x ≡ withHead y (withStaged s (memOf m)))
@@ -84,10 +90,12 @@ pending-at c m k e = ap (λ (i : ℕ). getD (pendings (numbersOf (memOf m .head)
 
 -- nothing is pending; a stop
 module _ (c : Config) (m x : List ℕ) where
-  pub ends-as : memOf x ≡ withHead (clearedHead (memOf m .head)) (memOf m)
+  pub ends-as : memOf x ≡ withHead (set (set (memOf m .head) 2 1) 3 0) (memOf m)
       → stateOf c x ≡ ends c (stateOf c m) (stateOf c m .skeleton .tables) (stateOf c m .contents)
-  unfolding stateOf stateIn viewOf numbersOf clearedHead pendings pendingIn gatheredIn ends
-  ends-as e = ap (λ (s : Mem). let g = numbersOf (s .head) in stateIn c g (viewOf (g .nodes) (g .opens) s)) e
+  unfolding stateOf stateIn viewOf numbersOf pendings pendingIn gatheredIn ends
+  ends-as e =
+      ap (λ (s : Mem). let g = numbersOf (s .head) in stateIn c g (viewOf (g .nodes) (g .opens) s))
+      (e ∙ ap (λ (h : List ℕ). withHead h (memOf m)) (head-idle (memOf m .head) (length-head m)))
 
   pub stops-as : memOf x ≡ withHead (set (clearedHead (memOf m .head)) 2 0) (memOf m)
       → stateOf c x ≡ stops c (stateOf c m)

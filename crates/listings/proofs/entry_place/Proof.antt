@@ -19,30 +19,30 @@ number-at-requires : tie.Need-number-at-requires
 number-at-requires c κs = let f = end-front ID-BYTES (c .before .before .args .reply .now)
     (c .before .before .args .at) in search needs
 
-find-node-requires : tie.Need-find-node-requires
-find-node-requires c κs = search needs
+find-listed-requires : tie.Need-find-listed-requires
+find-listed-requires c κs = search needs
 
 returns : tie.Need-returns
 unfolding entryAt
 returns c v =
-    let a = c .before .before .before .before .before .args in
+    let a = c .before .before .before .before .before .before .args in
     let s = a .reply .now in
     let ns = take (a .n) (memOf (a .m .now) .nodes) in
     let e : length ns ≡ a .n = count-nodes (a .m .now) (a .n) (omega arith) in
     let x = entryAt ID-BYTES s (a .at) in
-    let k = c .before .find-node .result in
-    let named : k ≡ findId ns (x .0) = c .before .find-node .ensures ID-BYTES v
-    ∙ ap (findId ns) (c .before .before .number-at .ensures) in
+    let k = c .before .find-listed .result in
+    let named : k ≡ findId ns (x .0) = c .before .find-listed .ensures ID-BYTES v
+    ∙ ap (findId ns) (c .before .before .before .number-at .ensures) in
     sym e ∙ place-gone ns (a .id) x k named (omega arith)
 
 add-if2 : tie.Need-add-if2
-add-if2 c = let f = end-front ID-BYTES (c .before .before .before .before .before .args .reply .now)
-    (c .before .before .before .before .before .args .at) in omega arith
+add-if2 c = let f = end-front ID-BYTES (c .before .before .before .before .before .before .args .reply .now)
+    (c .before .before .before .before .before .before .args .at) in omega arith
 
 shared-slice-read-if2 : tie.Need-shared-slice-read-if2
 shared-slice-read-if2 c = let f = end-front ID-BYTES
-    (c .before .before .before .before .before .before .args .reply .now)
-    (c .before .before .before .before .before .before .args .at) in omega arith
+    (c .before .before .before .before .before .before .before .args .reply .now)
+    (c .before .before .before .before .before .before .before .args .at) in omega arith
 
 node-kind-requires : tie.Need-node-kind-requires
 node-kind-requires c κs = search needs
@@ -50,32 +50,32 @@ node-kind-requires c κs = search needs
 returns-2 : tie.Need-returns-2
 unfolding entryAt
 returns-2 c v =
-    let a = c .before .before .before .before .before .before .before .before .args in
+    let a = c .before .before .before .before .before .before .before .before .before .args in
     let s = a .reply .now in
     let ns = take (a .n) (memOf (a .m .now) .nodes) in
     let e : length ns ≡ a .n = count-nodes (a .m .now) (a .n) (omega arith) in
     let x = entryAt ID-BYTES s (a .at) in
-    let k = c .before .before .before .before .find-node .result in
-    let named : k ≡ findId ns (x .0) = c .before .before .before .before .find-node .ensures ID-BYTES v
-    ∙ ap (findId ns) (c .before .before .before .before .before .number-at .ensures) in
+    let k = c .before .before .before .before .find-listed .result in
+    let named : k ≡ findId ns (x .0) = c .before .before .before .before .find-listed .ensures ID-BYTES v
+    ∙ ap (findId ns) (c .before .before .before .before .before .before .number-at .ensures) in
     let g = node-front (a .n) (memOf (a .m .now) .nodes) k (omega arith) in
     sym e ∙ place-other-kind ns (a .id) x k named (λ q. c .if2 .taken (q ∙ ap (λ (y : Node). y .kind) g
     ∙ sym (c .before .node-kind .ensures)))
 
 add-start : tie.Need-add-start
 add-start c = let f = end-front ID-BYTES
-    (c .before .before .before .before .before .before .before .before .args .reply .now)
-    (c .before .before .before .before .before .before .before .before .args .at) in omega arith
+    (c .before .before .before .before .before .before .before .before .before .args .reply .now)
+    (c .before .before .before .before .before .before .before .before .before .args .at) in omega arith
 
 sub-is-child : tie.Need-sub-is-child
 sub-is-child c = let f = end-front ID-BYTES
-    (c .before .before .before .before .before .before .before .before .args .reply .now)
-    (c .before .before .before .before .before .before .before .before .args .at) in omega arith
+    (c .before .before .before .before .before .before .before .before .before .args .reply .now)
+    (c .before .before .before .before .before .before .before .before .before .args .at) in omega arith
 
 part-is-child-start : tie.Need-part-is-child-start
 part-is-child-start c = let f = end-front ID-BYTES
-    (c .before .before .before .before .before .before .before .before .args .reply .now)
-    (c .before .before .before .before .before .before .before .before .args .at) in omega arith
+    (c .before .before .before .before .before .before .before .before .before .args .reply .now)
+    (c .before .before .before .before .before .before .before .before .before .args .at) in omega arith
 
 part-is-child-end : tie.Need-part-is-child-end
 part-is-child-end c = search needs
@@ -86,15 +86,15 @@ is-child-requires c κs = search needs
 returns-3 : tie.Need-returns-3
 unfolding entryAt
 returns-3 c v =
-    let a = c .before .before .before .before .before .before .before .before .before .before .before .args in
+    let a = c .before .before .before .before .before .before .before .before .before .before .before .before .args in
     let s = a .reply .now in
     let ns = take (a .n) (memOf (a .m .now) .nodes) in
     let e : length ns ≡ a .n = count-nodes (a .m .now) (a .n) (omega arith) in
     let x = entryAt ID-BYTES s (a .at) in
-    let k = c .before .before .before .before .before .before .before .find-node .result in
-    let named : k ≡ findId ns (x .0) = c .before .before .before .before .before .before .before .find-node .ensures
+    let k = c .before .before .before .before .before .before .before .find-listed .result in
+    let named : k ≡ findId ns (x .0) = c .before .before .before .before .before .before .before .find-listed .ensures
     ID-BYTES v ∙ ap (findId ns)
-    (c .before .before .before .before .before .before .before .before .number-at .ensures) in
+    (c .before .before .before .before .before .before .before .before .before .number-at .ensures) in
     let g = node-front (a .n) (memOf (a .m .now) .nodes) k (omega arith) in
     let f = end-front ID-BYTES s (a .at) in
     let y : c .before .is-child .result ≡ isChild (a .id) (x .1 .1) (nodeAt ns k) =
@@ -106,15 +106,15 @@ returns-3 c v =
 returns-4 : tie.Need-returns-4
 unfolding entryAt
 returns-4 c v =
-    let a = c .before .before .before .before .before .before .before .before .before .before .before .args in
+    let a = c .before .before .before .before .before .before .before .before .before .before .before .before .args in
     let s = a .reply .now in
     let ns = take (a .n) (memOf (a .m .now) .nodes) in
     let e : length ns ≡ a .n = count-nodes (a .m .now) (a .n) (omega arith) in
     let x = entryAt ID-BYTES s (a .at) in
-    let k = c .before .before .before .before .before .before .before .find-node .result in
-    let named : k ≡ findId ns (x .0) = c .before .before .before .before .before .before .before .find-node .ensures
+    let k = c .before .before .before .before .before .before .before .find-listed .result in
+    let named : k ≡ findId ns (x .0) = c .before .before .before .before .before .before .before .find-listed .ensures
     ID-BYTES v ∙ ap (findId ns)
-    (c .before .before .before .before .before .before .before .before .number-at .ensures) in
+    (c .before .before .before .before .before .before .before .before .before .number-at .ensures) in
     let g = node-front (a .n) (memOf (a .m .now) .nodes) k (omega arith) in
     let f = end-front ID-BYTES s (a .at) in
     let y : c .before .is-child .result ≡ isChild (a .id) (x .1 .1) (nodeAt ns k) =
@@ -130,7 +130,7 @@ entry-place-spec =
     tie.close
     (tie.spec
     number-at-requires
-    find-node-requires
+    find-listed-requires
     returns
     add-if2
     shared-slice-read-if2

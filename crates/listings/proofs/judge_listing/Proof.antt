@@ -21,7 +21,7 @@ use Rattle.listings.proofs.judge_listing.Statement.{statement}
 use Rattle.listings.proofs.judge_listing.Tie as tie
 
 abbrev Inv-loop : tie.InvT-loop
-Inv-loop m n id reply seen₀ count₀ at₀ next₀ seen count at next =
+Inv-loop m n id reply seen₀ places₀ count₀ at₀ next₀ seen places count at next =
     (at ≤ length reply) × (count ≤ at) × (length seen ≡ NODES)
     × (soundNodes ID-BYTES (take n (memOf m .nodes)) ≡ true
     → count + length (unseen id (take n (memOf m .nodes)) (marks seen)) ≡ length (children (take n (memOf m .nodes))
@@ -29,7 +29,7 @@ Inv-loop m n id reply seen₀ count₀ at₀ next₀ seen count at next =
     × Left (take n (memOf m .nodes)) id reply seen at
 
 abbrev μ-loop : tie.MeasureT-loop
-μ-loop m n id reply seen₀ count₀ at₀ next₀ seen count at next = length reply - at
+μ-loop m n id reply seen₀ places₀ count₀ at₀ next₀ seen places count at next = length reply - at
 
 loop-holds : tie.Need-loop-holds Inv-loop μ-loop
 loop-holds c =
@@ -59,21 +59,22 @@ returns c v k o q =
 
 entry-place-requires : tie.Need-entry-place-requires Inv-loop μ-loop
 entry-place-requires c κs =
-    let (p, q) = there-end ID-BYTES (c .before .before .before .before .before .before .args .reply .now)
-    (c .before .before .before .loop .at) _ (c .before .entry-end .ensures) (c .if1 .left) in
+    let (p, q) = there-end ID-BYTES (c .before .before .before .before .before .before .before .args .reply .now)
+    (c .before .before .before .before .loop .at) _ (c .before .before .entry-end .ensures)
+    (c .before .if1 .left) in
     (omega arith, omega arith, p, omega arith)
 
 returns-2 : tie.Need-returns-2 Inv-loop μ-loop
 unfolding tablesIn
 returns-2 c v k o q =
-    let a = c .before .before .before .before .before .before .before .before .args in
-    let l = c .before .before .before .before .before .loop in
+    let a = c .before .before .before .before .before .before .before .before .before .args in
+    let l = c .before .before .before .before .before .before .loop in
     let s = a .reply .now in
     let ns = take (a .n) (memOf (a .m .now) .nodes) in
     let e : length ns ≡ a .n = count-nodes (a .m .now) (a .n) (omega arith) in
     let (i, j, z, t, g) = l .inv in
-    let (p, f) = there-end ID-BYTES s (l .at) _ (c .before .before .before .entry-end .ensures)
-    (c .before .before .if1 .left) in
+    let (p, f) = there-end ID-BYTES s (l .at) _ (c .before .before .before .before .entry-end .ensures)
+    (c .before .before .before .if1 .left) in
     let h = c .before .entry-place .ensures v in
     sym (listing-stops (tablesIn (a .n) o (memOf (a .m .now))) s k (a .id) q (listing-missing ns (a .id) s (l .seen)
     (l .at) g (omega arith) f (omega arith) v))
@@ -84,14 +85,14 @@ array-read-if3 c = search needs
 returns-3 : tie.Need-returns-3 Inv-loop μ-loop
 unfolding tablesIn
 returns-3 c v k o q =
-    let a = c .before .before .before .before .before .before .before .before .before .args in
-    let l = c .before .before .before .before .before .before .loop in
+    let a = c .before .before .before .before .before .before .before .before .before .before .args in
+    let l = c .before .before .before .before .before .before .before .loop in
     let s = a .reply .now in
     let ns = take (a .n) (memOf (a .m .now) .nodes) in
     let e : length ns ≡ a .n = count-nodes (a .m .now) (a .n) (omega arith) in
     let (i, j, z, t, g) = l .inv in
-    let (p, f) = there-end ID-BYTES s (l .at) _ (c .before .before .before .before .entry-end .ensures)
-    (c .before .before .before .if1 .left) in
+    let (p, f) = there-end ID-BYTES s (l .at) _ (c .before .before .before .before .before .entry-end .ensures)
+    (c .before .before .before .before .if1 .left) in
     sym (listing-stops (tablesIn (a .n) o (memOf (a .m .now))) s k (a .id) q (listing-twice ns (a .id) s (l .seen)
     (l .at) g (omega arith) f _ (c .before .before .entry-place .ensures v) (omega arith) (c .if3 .taken) v))
 
@@ -100,8 +101,8 @@ array-write-seen c = search needs
 
 add-count : tie.Need-add-count Inv-loop μ-loop
 add-count c =
-    let a = c .before .before .before .before .before .before .before .before .before .args in
-    let l = c .before .before .before .before .before .before .loop in
+    let a = c .before .before .before .before .before .before .before .before .before .before .args in
+    let l = c .before .before .before .before .before .before .before .loop in
     let s = a .reply .now in
     let ns = take (a .n) (memOf (a .m .now) .nodes) in
     let e : length ns ≡ a .n = count-nodes (a .m .now) (a .n) (omega arith) in
@@ -113,27 +114,27 @@ add-next c = omega arith
 
 loop-less : tie.Need-loop-less Inv-loop μ-loop
 loop-less c =
-    let a = c .before .before .before .before .before .before .before .before .before .args in
-    let l = c .before .before .before .before .before .before .loop in
+    let a = c .before .before .before .before .before .before .before .before .before .before .args in
+    let l = c .before .before .before .before .before .before .before .loop in
     let s = a .reply .now in
     let ns = take (a .n) (memOf (a .m .now) .nodes) in
     let e : length ns ≡ a .n = count-nodes (a .m .now) (a .n) (omega arith) in
     let (i, j, z, t, g) = l .inv in
-    let (p, f) = there-end ID-BYTES s (l .at) _ (c .before .before .before .before .entry-end .ensures)
-    (c .before .before .before .if1 .left) in
+    let (p, f) = there-end ID-BYTES s (l .at) _ (c .before .before .before .before .before .entry-end .ensures)
+    (c .before .before .before .before .if1 .left) in
     let m = end-front ID-BYTES s (l .at) in
     omega arith
 
 loop-again : tie.Need-loop-again Inv-loop μ-loop
 loop-again c =
-    let a = c .before .before .before .before .before .before .before .before .before .args in
-    let l = c .before .before .before .before .before .before .loop in
+    let a = c .before .before .before .before .before .before .before .before .before .before .args in
+    let l = c .before .before .before .before .before .before .before .loop in
     let s = a .reply .now in
     let ns = take (a .n) (memOf (a .m .now) .nodes) in
     let e : length ns ≡ a .n = count-nodes (a .m .now) (a .n) (omega arith) in
     let (i, j, z, t, g) = l .inv in
-    let (p, f) = there-end ID-BYTES s (l .at) _ (c .before .before .before .before .entry-end .ensures)
-    (c .before .before .before .if1 .left) in
+    let (p, f) = there-end ID-BYTES s (l .at) _ (c .before .before .before .before .before .entry-end .ensures)
+    (c .before .before .before .before .if1 .left) in
     let m = end-front ID-BYTES s (l .at) in
     let k = c .before .before .entry-place .result in
     let h = c .before .before .entry-place .ensures in (

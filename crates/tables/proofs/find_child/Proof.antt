@@ -2,14 +2,13 @@
 -- nothing.
 use Prim.Native.Nat.{_+_, _-_, _≤_}
 use mathlib.Core.Path.{_≡_, sym, _∙_}
-use native.Mathlib.Nat.{zero-add}
 use native.Mathlib.Omega.{arith}
 use lib.ListN.{length, take, drop}
 use Rattle.lists.specs.Search.{place}
 use Rattle.filesystem.specs.Tables.{findChild, isChild, noNode, nodeAt}
 use Rattle.memory.specs.Layout.{memOf}
 use Rattle.memory.specs.laws.MemLaws.{length-nodes}
-use Rattle.tables.specs.laws.SearchLaws.{place-hit, place-miss, place-end}
+use Rattle.tables.specs.laws.SearchLaws.{place-hit, place-miss, place-end, others-passed}
 use borrow.Author.Needs.{needs}
 use Rattle.tables.proofs.find_child.Statement.{statement}
 use Rattle.tables.proofs.find_child.Tie as tie
@@ -23,12 +22,16 @@ abbrev μ-loop : tie.MeasureT-loop
 μ-loop m nodes parent name i₀ i = nodes - i
 
 loop-holds : tie.Need-loop-holds Inv-loop μ-loop
-loop-holds c = (omega arith, sym (zero-add _))
+loop-holds c =
+    let a = c .before .before .before .args in
+    let e = c .first-child .ensures in
+    let f : length (memOf (a .m .now) .nodes) ≡ _ = length-nodes (a .m .now) in
+    (e .0, others-passed (memOf (a .m .now) .nodes) (a .parent) (a .nodes) _ (a .name .now) (omega arith) (e .0) (e .1))
 
 returns : tie.Need-returns Inv-loop μ-loop
 unfolding findChild nodeAt
 returns c =
-    let a = c .before .before .before .before .before .before .args in
+    let a = c .before .before .before .before .before .before .before .args in
     let l = c .before .before .before .loop in
     let f : length (memOf (a .m .now) .nodes) ≡ _ = length-nodes (a .m .now) in
     sym (place-hit noNode (memOf (a .m .now) .nodes) (a .nodes) (l .i) (omega arith)
@@ -38,7 +41,7 @@ returns c =
 loop-again : tie.Need-loop-again Inv-loop μ-loop
 unfolding nodeAt
 loop-again c =
-    let a = c .before .before .before .before .before .before .args in
+    let a = c .before .before .before .before .before .before .before .args in
     let l = c .before .before .before .loop in
     let f : length (memOf (a .m .now) .nodes) ≡ _ = length-nodes (a .m .now) in (
       omega arith,
@@ -50,7 +53,7 @@ loop-again c =
 returns-2 : tie.Need-returns-2 Inv-loop μ-loop
 unfolding findChild
 returns-2 c =
-    let a = c .before .before .before .before .args in
+    let a = c .before .before .before .before .before .args in
     let l = c .before .loop in
     let f : length (memOf (a .m .now) .nodes) ≡ _ = length-nodes (a .m .now) in
     sym (place-end noNode (memOf (a .m .now) .nodes) (a .nodes) (l .i) (omega arith)
@@ -58,5 +61,5 @@ returns-2 c =
 
 pub find-child-spec : {M : Type 1} → statement M
 find-child-spec =
-    tie.close (tie.spec Inv-loop μ-loop loop-holds (λ c κs. search needs) returns (λ c. search needs)
-    (λ c. search needs) loop-again returns-2)
+    tie.close (tie.spec Inv-loop μ-loop (λ c κs. search needs) loop-holds (λ c κs. search needs) returns
+    (λ c. search needs) (λ c. search needs) loop-again returns-2)

@@ -1,15 +1,21 @@
 -- Searches and counts over the first n elements of a list, by what remains behind the first i of them.
 -- Assumes nothing.
-use mathlib.Core.Path.{_≡_, ap, sym, _∙_}
-use mathlib.Core.Bool.{Bool, true, false}
+use mathlib.Core.Path.{_≡_, refl, ap, sym, _∙_}
+use mathlib.Core.Bool.{Bool, true, false, _&&_}
 use mathlib.Core.List.{List, _∷_}
-use Prim.Native.Nat.{ℕ, _+_, _≤_, _<_}
-use native.Mathlib.Nat.{add-zero}
+use Prim.Native.Nat.{ℕ, zero, suc, _+_, _≤_, _<_}
+use native.Mathlib.Nat.{add-zero, zero-add}
+use native.Mathlib.Numerals.{add-one}
 use native.Mathlib.Omega.{arith}
 use lib.ListN.{length, getD, take, drop}
+use lib.Dec.{ltb}
 use lib.Seq.{getD-take, length-take-le}
+use borrow.Author.Tests.{ltb-true, ltb-false, ne-eqb}
 use Rattle.lists.specs.Pick.{pick-true, pick-false}
 use Rattle.lists.specs.Search.{place, select}
+use Rattle.lists.specs.Equal.{equal}
+use Rattle.filesystem.specs.Tables.{Node, noNode, nodeAt, isChild}
+use Rattle.tables.specs.View.{Others}
 use Rattle.lists.specs.Scans.{scan-here, scan-on, scan-end, rest, rest-none}
 
 module _ {A : Type 0} (z : A) (l : List A) (n i : ℕ) (fits : n ≤ length l) where
@@ -47,3 +53,25 @@ module _ {A : Type 0} (z : A) (l : List A) (n i : ℕ) (fits : n ≤ length l) w
       pub count-end : n ≤ i → length (select f (take n l)) ≡ c
       unfolding select
       count-end h = inv ∙ ap (λ r. c + length (select f r)) (rest-none z l n i fits h) ∙ add-zero c
+
+-- nodes that have another parent, joined and passed over
+module _ (ns : List Node) (parent : ℕ) where
+  pub others-one : (a b : ℕ) → b ≤ a + 1 → (nodeAt ns a .parent ≡ parent → ⊥) → Others ns parent a b
+  others-one a b s d k h l e = let q : k ≡ a = omega arith in d (rw q at e)
+
+  pub others-join : (a b c d : ℕ) → d ≤ c → Others ns parent a b → Others ns parent b c → Others ns parent a d
+  others-join a b c d s p q k h l = go (ltb k b) refl
+    where
+      go : (t : Bool) → ltb k b ≡ t → nodeAt ns k .parent ≡ parent → ⊥
+      go true e = p k h (ltb-true k b e)
+      go false e = q k (ltb-false k b e) (omega arith)
+
+  pub others-passed : (n r : ℕ) (name : List ℕ) → n ≤ length ns → r ≤ n → Others ns parent 0 r
+      → place (isChild parent name) (take n ns) ≡ r + place (isChild parent name) (drop r (take n ns))
+  unfolding nodeAt
+  others-passed n zero name f h o = sym (zero-add _)
+  others-passed n (suc r) name f h o =
+      rw (← add-one r)
+      (place-miss noNode ns n r f (isChild parent name) (others-passed n r name f (omega arith)
+      (λ k a l. o k a (omega arith))) (omega arith)
+      (ap (λ t. t && equal (getD ns r noNode .name) name) (ne-eqb _ _ (o r (omega arith) (omega arith)))))
