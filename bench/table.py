@@ -14,13 +14,7 @@ SHUFFLED = 1.5  # a listing in no order, in instructions of the same in order
 HASH = "digest::sha256"  # in the archive
 
 # Rows that miss a bar, and why.
-PASSED_ON = (
-    "8 instructions more than in 1.0: the outcome is passed on through the place that stops, and the memory's front"
-    " is lent"
-)
 EXPLAINED = {
-    "seek, two nodes": PASSED_ON,
-    "seek, 256 nodes": PASSED_ON,
     "write 1,024, aligned": (
         "not in every run: 1.02, 1.02, 1.02 and 1.07 in four of one build, at 1.02 of the instructions; the"
         " cause was not found"

@@ -233,7 +233,8 @@ module _ (s : List ℕ) (at end : ℕ) (reach : end ≡ at + place isEnd (drop a
       from-bad z e = ap (partsForm long) (first-part z) ∙ parts-bad long _ _ (part-form ∙ e)
 
       pub from-on : (getD s end 0 ≡ 0 → ⊥) → isName (take (end - at) (drop at s)) ≡ true
-          → partsForm long (split (drop at s)) ≡ partsForm (long || ltb NAME-BYTES (end - at)) (split (drop (end + 1) s))
+          → partsForm long (split (drop at s)) ≡ partsForm (long || ltb NAME-BYTES (end - at))
+          (split (drop (end + 1) s))
       from-on z e =
           let n : length (take (end - at) (drop at s)) ≡ end - at = length-take-le (end - at) (drop at s)
           (omega (arith, length-drop at s)) in

@@ -7,12 +7,12 @@ ghost use lib.Dec.{ltb};
 ghost use lib.ListN.{length, drop};
 ghost use Rattle.lists.specs.Search.{place};
 ghost use Rattle.filesystem.specs.Tables.{NODES, NAME-BYTES, PATH-BYTES};
-ghost use Rattle.filesystem.specs.Rights as table;
 ghost use Rattle.filesystem.specs.Paths.{split};
+ghost use Rattle.memory.specs.Memories.{IsMemory, nodesOf, was};
+ghost use Rattle.tables.specs.View.{FirstPlaces};
 ghost use Rattle.paths.specs.Parts.{isSlash, isEnd, componentsOf};
 ghost use Rattle.paths.specs.PathForms.{formOf, partsForm, isName};
 ghost use Rattle.paths.specs.Walks.{walked, placed, searchNumber, childStep};
-ghost use Rattle.memory.specs.Memories.{IsMemory, nodesOf};
 
 // What is wrong with a path's bytes: the form (22), else a length (36), else nothing.
 pub enum PathForm {
@@ -229,6 +229,33 @@ pub fn last_step(m: &[u8], n: usize, d: usize, name: &[u8]) -> Walked
     Walked::Node(k)
 }
 
+// Whether two more components and a slash follow the one that ends at `end`.
+fn is_deep(path: &[u8], end: usize) -> bool
+    requires { ⌜ end ≤ length (now path) ⌝ }
+{
+    if path.len() <= end {
+        return false;
+    }
+    let second = slash_from(path, end + 1);
+    if path.len() <= second {
+        return false;
+    }
+    slash_from(path, second + 1) < path.len()
+}
+
+// Where children begin, for a deep walk: one pass over the nodes costs as much as the searches of three steps. Zeros
+// say
+// nothing.
+fn places_for(m: &[u8], n: usize, deep: bool) -> [u8; limits::NODES]
+    requires { ⌜ (n ≤ NODES) × IsMemory m ⌝ }
+    ensures { λ r. ⌜ FirstPlaces (was m .nodes) n r ⌝ }
+{
+    if deep {
+        return tables::first_places(m, n);
+    }
+    [0u8; limits::NODES]
+}
+
 // The way to the directory that holds the last component, which may be absent itself.
 pub fn walk_parent(m: &[u8], n: usize, path: &[u8]) -> Placed
     requires { ⌜ (0 < n) × (n ≤ NODES) × IsMemory m ⌝ }
@@ -240,13 +267,14 @@ pub fn walk_parent(m: &[u8], n: usize, path: &[u8]) -> Placed
     let mut d = 0;
     let mut at = 1;
     let mut end = slash_from(path, 1);
+    let firsts = places_for(m, n, is_deep(path, end));
     // d is where the components before `at` lead
     while end < path.len() {
         let bar = search_number(m, n, d);
         if bar != 0 {
             return Placed::Refused(bar);
         }
-        let k = tables::find_child(m, n, memory::node_id(m, d), &path[at..end]);
+        let k = tables::find_child_by(m, n, memory::node_id(m, d), &path[at..end], &firsts);
         if n <= k {
             return Placed::Refused(2);
         }

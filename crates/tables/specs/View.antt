@@ -8,7 +8,7 @@
 -- Assumes nothing.
 use mathlib.Core.List.{List, [], _∷_, _++_}
 use mathlib.Core.Path.{_≡_}
-use Prim.Native.Nat.{ℕ, _+_, _-_, _*_, _<_, _≤_, max}
+use Prim.Native.Nat.{ℕ, _+_, _-_, _*_, _/_, _%_, _<_, _≤_, max}
 use lib.ListN.{length, getD, take, set}
 use Rattle.lists.specs.Parts.{part, overwrite}
 use Rattle.lists.specs.Rows.{rows}
@@ -116,3 +116,11 @@ changedRows k size from ds first end new behind m =
 -- no node from place a on and before b has this parent
 abbrev pub Others : List Node → (parent a b : ℕ) → Type 0
 Others ns parent a b = (k : ℕ) → a ≤ k → k < b → nodeAt ns k .parent ≡ parent → ⊥
+
+-- the table's hash of an id
+unfoldable pub hashOf : ℕ → ℕ
+hashOf id = id % 4294967296 * 2654435769 / 16777216 % NODES
+
+-- by the hash of a parent's id a place that is not behind its children, among the first n nodes
+abbrev pub FirstPlaces : List Node → ℕ → List ℕ → Type 0
+FirstPlaces ns n f = (k : ℕ) → k < n → getD f (hashOf (nodeAt ns k .parent)) 0 ≤ k

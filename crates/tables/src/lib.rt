@@ -16,7 +16,8 @@ ghost use Rattle.memory.specs.Records.{nodeOf, openOf};
 ghost use Rattle.memory.specs.Layout.{memOf, openRows};
 ghost use Rattle.memory.specs.Memories.{IsMemory, nodesOf, opensOf, was};
 ghost use Rattle.tables.specs.View.{viewOf, withNode, withoutNode, withOpen, withoutOpen, withChange};
-ghost use Rattle.tables.specs.View.{stagedDigests, Changeable, Spans, Room, Others};
+ghost use Rattle.tables.specs.View.{stagedDigests, Changeable, Spans, Room};
+ghost use Rattle.tables.specs.View.{Others, FirstPlaces, hashOf};
 ghost use Rattle.numbers.specs.Slices.{KeepsLength};
 
 // ---- searches
@@ -61,16 +62,15 @@ pub fn find_node(m: &[u8], n: usize, id: u64, hint: usize) -> usize
 }
 
 // Room for places by id: for each hash the last place with it, for each place the one before it with the same hash, and
-// how far they are made.
-// Each place is tried before it is believed, so nothing is promised of them.
+// how far they are made. Each place is tried before it is believed, so nothing is promised of them.
 pub const PLACES: usize = STEP + 1;
 
 const STEP: usize = 2 * limits::NODES;
 
-// Ids that follow each other, or stand at equal distances, fall apart: a multiple by the golden ratio of 2^32, of which
-// the upper bits count.
+// Ids that follow each other, or stand at equal distances, fall apart: the upper bits of a multiple by the golden
+// ratio.
 fn hash(id: u64) -> usize
-    ensures { λ r. ⌜ r < NODES ⌝ }
+    ensures { λ r. ⌜ (r ≡ hashOf id) × (r < NODES) ⌝ }
 {
     (id % 4294967296 * 2654435769 / 16777216 % limits::NODES as u64) as usize
 }
@@ -89,7 +89,7 @@ fn list_places(m: &[u8], n: usize, places: &mut [u8; PLACES])
 }
 
 fn to_place(b: u8) -> usize
-    ensures { λ r. ⌜ r < NODES ⌝ }
+    ensures { λ r. ⌜ (r ≡ b) × (r < NODES) ⌝ }
 {
     b as usize
 }
@@ -153,8 +153,8 @@ fn four_others(m: &[u8], i: usize, parent: u64) -> bool
 }
 
 // Where a search for a child of this parent may begin: no node before has the parent. Most rows of a large table stand
-// in other directories, so
-// eight are passed in a turn.
+// in
+// other directories, so eight are passed in a turn.
 fn first_child(m: &[u8], n: usize, parent: u64) -> usize
     requires { ⌜ (n ≤ NODES) × IsMemory m ⌝ }
     ensures { λ r. ⌜ (r ≤ n) × Others (was m .nodes) parent 0 r ⌝ }
@@ -172,12 +172,29 @@ fn first_child(m: &[u8], n: usize, parent: u64) -> usize
     i
 }
 
-// The place of the node with this parent and this name, or the count of nodes.
-pub fn find_child(m: &[u8], nodes: usize, parent: u64, name: &[u8]) -> usize
-    requires { ⌜ (nodes ≤ NODES) × IsMemory m ⌝ }
-    ensures { λ r. ⌜ r ≡ findChild (nodesOf nodes m) parent (now (name .entry)) ⌝ }
+// Where the children of each parent may begin, by the hash of its id; 255 where no node has such a parent.
+pub fn first_places(m: &[u8], n: usize) -> [u8; limits::NODES]
+    requires { ⌜ (n ≤ NODES) × IsMemory m ⌝ }
+    ensures { λ r. ⌜ FirstPlaces (was m .nodes) n r ⌝ }
 {
-    let mut i = first_child(m, nodes, parent);
+    let mut firsts = [255u8; limits::NODES];
+    let mut k = n;
+    // those of the nodes from k on
+    while 0 < k {
+        k -= 1;
+        firsts[hash(memory::node_parent(m, k))] = k as u8;
+    }
+    firsts
+}
+
+// The place of the node with this parent and this name, or the count of nodes, where no node before `start` has the
+// parent.
+fn find_child_from(m: &[u8], nodes: usize, parent: u64, name: &[u8], start: usize) -> usize
+    requires { ⌜ (start ≤ nodes) × (nodes ≤ NODES) × IsMemory m ⌝ }
+    ensures { λ r. ⌜ (Others (was m .nodes) parent 0 start → r ≡ findChild (nodesOf nodes m) parent (now (name .entry)))
+        ⌝ }
+{
+    let mut i = start;
     // none before i is it
     while i < nodes {
         if memory::is_child(m, i, parent, name) {
@@ -186,6 +203,32 @@ pub fn find_child(m: &[u8], nodes: usize, parent: u64, name: &[u8]) -> usize
         i += 1;
     }
     i
+}
+
+// The same, whatever stands where.
+pub fn find_child(m: &[u8], nodes: usize, parent: u64, name: &[u8]) -> usize
+    requires { ⌜ (nodes ≤ NODES) × IsMemory m ⌝ }
+    ensures { λ r. ⌜ r ≡ findChild (nodesOf nodes m) parent (now (name .entry)) ⌝ }
+{
+    find_child_from(m, nodes, parent, name, first_child(m, nodes, parent))
+}
+
+// The same by first_places, for a walk of many steps. A place 0 says nothing.
+pub fn find_child_by(
+    m: &[u8],
+    nodes: usize,
+    parent: u64,
+    name: &[u8],
+    firsts: &[u8; limits::NODES],
+) -> usize
+    requires { ⌜ (nodes ≤ NODES) × IsMemory m × FirstPlaces (memOf (now m) .nodes) nodes (now firsts) ⌝ }
+    ensures { λ r. ⌜ r ≡ findChild (nodesOf nodes m) parent (now (name .entry)) ⌝ }
+{
+    let first = to_place(firsts[hash(parent)]);
+    if first == 0 {
+        return find_child(m, nodes, parent, name);
+    }
+    find_child_from(m, nodes, parent, name, numbers::smaller(first, nodes))
 }
 
 // How many nodes have this parent.

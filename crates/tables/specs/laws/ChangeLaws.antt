@@ -138,7 +138,8 @@ module _ (blank : List ℕ) (ns : List Node) (ds : List (List ℕ)) (k size from
           let n = moved-length in
           let g = h .fits-after in
           part-within moved (f + from) new f q from refl (h .ends) (omega arith)
-          ∙ ap (λ (l : List (List ℕ)). overwrite l from new) (part-before ds (f + q) (part (f + p) r ds) f q (omega arith)
+          ∙ ap (λ (l : List (List ℕ)). overwrite l from new) (part-before ds (f + q) (part (f + p) r ds) f q
+          (omega arith)
           rest-fits)
 
       -- what is not new was there
@@ -177,7 +178,8 @@ module _ (blank : List ℕ) (ns : List Node) (ds : List (List ℕ)) (k size from
           ∙ ap (set (divide ns ds) k)
           (own
           ∙ replaced-cells blank (part f q ds) (part f p ds) size from new (l ∙ h .is-new) (omega arith) kept
-          ∙ ap (λ (x : List (List ℕ)). replaced blank x size from new) (ap₂ (λ i j. part i j ds) (h .is-first) (h .is-old)
+          ∙ ap (λ (x : List (List ℕ)). replaced blank x size from new) (ap₂ (λ i j. part i j ds) (h .is-first)
+          (h .is-old)
           ∙ sym (divide-at ns k (h .known) ds)))
 
 -- the page total with node k of another size

@@ -7,15 +7,15 @@ use Prim.Native.Nat.{ℕ, zero, suc, _+_, _≤_, _<_}
 use native.Mathlib.Nat.{add-zero, zero-add}
 use native.Mathlib.Numerals.{add-one}
 use native.Mathlib.Omega.{arith}
-use lib.ListN.{length, getD, take, drop}
-use lib.Dec.{ltb}
-use lib.Seq.{getD-take, length-take-le}
-use borrow.Author.Tests.{ltb-true, ltb-false, ne-eqb}
+use lib.ListN.{length, getD, take, drop, set}
+use lib.Dec.{ltb, eqb}
+use lib.Seq.{getD-take, length-take-le, getD-set-same, getD-set-other}
+use borrow.Author.Tests.{ltb-true, ltb-false, eqb-true, eqb-false, ne-eqb}
 use Rattle.lists.specs.Pick.{pick-true, pick-false}
 use Rattle.lists.specs.Search.{place, select}
 use Rattle.lists.specs.Equal.{equal}
 use Rattle.filesystem.specs.Tables.{Node, noNode, nodeAt, isChild}
-use Rattle.tables.specs.View.{Others}
+use Rattle.tables.specs.View.{Others, hashOf}
 use Rattle.lists.specs.Scans.{scan-here, scan-on, scan-end, rest, rest-none}
 
 module _ {A : Type 0} (z : A) (l : List A) (n i : ℕ) (fits : n ≤ length l) where
@@ -75,3 +75,17 @@ module _ (ns : List Node) (parent : ℕ) where
       (place-miss noNode ns n r f (isChild parent name) (others-passed n r name f (omega arith)
       (λ k a l. o k a (omega arith))) (omega arith)
       (ap (λ t. t && equal (getD ns r noNode .name) name) (ne-eqb _ _ (o r (omega arith) (omega arith)))))
+
+-- the places of first children, one node more before the others
+module _ (ns : List Node) (n k : ℕ) (f : List ℕ) (h : ℕ) (within : h < length f)
+    (hashed : h ≡ hashOf (nodeAt ns k .parent)) where
+  pub first-set : ((j : ℕ) → k < j → j < n → getD f (hashOf (nodeAt ns j .parent)) 0 ≤ j)
+      → (j : ℕ) → k ≤ j → j < n → getD (set f h k) (hashOf (nodeAt ns j .parent)) 0 ≤ j
+  first-set before j a b = go (eqb (hashOf (nodeAt ns j .parent)) h) refl
+    where
+      go : (t : Bool) → eqb (hashOf (nodeAt ns j .parent)) h ≡ t → getD (set f h k) (hashOf (nodeAt ns j .parent)) 0 ≤ j
+      go true e = rw (eqb-true (hashOf (nodeAt ns j .parent)) h e, getD-set-same f h k 0) a
+      go false e =
+          let other : hashOf (nodeAt ns j .parent) ≡ h → ⊥ = eqb-false (hashOf (nodeAt ns j .parent)) h e in
+          let apart : j ≡ k → ⊥ = λ q. other (ap (λ i. hashOf (nodeAt ns i .parent)) q ∙ sym hashed) in
+          rw (getD-set-other f h (hashOf (nodeAt ns j .parent)) k 0) (before j (omega arith) b)
