@@ -7,6 +7,7 @@ ghost use lib.Dec.{ltb};
 ghost use lib.ListN.{length, drop};
 ghost use Rattle.lists.specs.Search.{place};
 ghost use Rattle.filesystem.specs.Tables.{NODES, NAME-BYTES, PATH-BYTES};
+ghost use Rattle.filesystem.specs.Rights as table;
 ghost use Rattle.filesystem.specs.Paths.{split};
 ghost use Rattle.memory.specs.Memories.{IsMemory, nodesOf, was};
 ghost use Rattle.tables.specs.View.{FirstPlaces};
