@@ -1,6 +1,7 @@
-pub mod RecordLaws
-pub mod TestLaws
 pub mod AdmissionLaws
-pub mod StepLaws
-pub mod SoundAdmitted
+pub mod LoadedLaws
 pub mod ParseLaws
+pub mod RecordLaws
+pub mod SoundAdmitted
+pub mod StepLaws
+pub mod TestLaws

@@ -19,6 +19,7 @@ ghost use Rattle.outcomes.specs.declared.Outcome.the-variants.{Ask};
 ghost use Rattle.outcomes.specs.Sent.{Sends};
 ghost use Rattle.page_changes.specs.Asked.{Changing, storeFront};
 ghost use Rattle.page_changes.specs.Ended.{Ended};
+ghost use Rattle.page_changes.specs.Fetched.{Fetched};
 ghost use Rattle.page_changes.specs.Contracts.{Moves};
 ghost use Rattle.memory.specs.Memories.{IsMemory, was};
 ghost use Rattle.numbers.specs.Slices.{KeepsLength};
@@ -38,6 +39,24 @@ pub fn ask_page(m: &mut [u8], call: u64, page: usize, request: &mut [u8]) -> out
     guard_state::wait_further(m, call, page);
     let l = requests::write_fetch(request, d, page as u32);
     outcomes::Outcome::Ask(l)
+}
+
+// The page that the pending change fetched, judged: the stop reason, or 0. No consistent change has sent more pages
+// than
+// there is room for their digests.
+pub fn judge_fetched(m: &[u8], reply: &[u8]) -> u8
+    requires { ⌜ IsMemory m ⌝ }
+    ensures { λ r. ⌜ Fetched (now (m .entry)) (now (reply .entry)) r ⌝ }
+{
+    let g = Guard::load(m);
+    let b = replies::judge_page(m, g.nodes, g.node, g.page, reply);
+    if b != 0 {
+        return b;
+    }
+    if memory::NEW_DIGESTS <= g.digests {
+        return 2;
+    }
+    0
 }
 
 // The store that stands in the request buffer goes out: its page's digest is staged, and the change waits for the

@@ -1,4 +1,5 @@
-pub mod WalkLaws
-pub mod WalkAnswers
 pub mod FormAnswers
 pub mod PartsLaws
+pub mod PathFormLaws
+pub mod WalkAnswers
+pub mod WalkLaws

@@ -1,3 +1,5 @@
-pub mod HexLaws
 pub mod DecimalLaws
+pub mod DigitLaws
+pub mod HexCases
+pub mod HexLaws
 pub mod LineLaws

@@ -133,13 +133,9 @@ pub fn accept_fetched(m: &mut [u8], reply: &[u8], request: &mut [u8]) -> outcome
     requires { ⌜ (numbersIn m .call ≡ SHRINK-FETCHING) × IsMemory m × HoldsRequest request ⌝ }
     ensures { λ r. ⌜ AcceptsAsking m reply request r ⌝ }
 {
-    let g = Guard::load(m);
-    let b = replies::judge_page(m, g.nodes, g.node, g.page, reply);
+    let b = page_changes::judge_fetched(m, reply);
     if b != 0 {
         return outcomes::Outcome::Stopped(b);
-    }
-    if memory::NEW_DIGESTS <= g.digests {
-        return outcomes::Outcome::Stopped(2);
     }
     store_page(m, reply, request)
 }

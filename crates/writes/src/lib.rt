@@ -188,14 +188,11 @@ pub fn accept_fetched(m: &mut [u8], reply: &[u8], request: &mut [u8]) -> outcome
     requires { ⌜ (numbersIn m .call ≡ FETCHING) × IsMemory m × HoldsRequest request ⌝ }
     ensures { λ r. ⌜ AcceptsAsking m reply request r ⌝ }
 {
-    let g = Guard::load(m);
-    let b = replies::judge_page(m, g.nodes, g.node, g.page, reply);
+    let b = page_changes::judge_fetched(m, reply);
     if b != 0 {
         return outcomes::Outcome::Stopped(b);
     }
-    if memory::NEW_DIGESTS <= g.digests {
-        return outcomes::Outcome::Stopped(2);
-    }
+    let g = Guard::load(m);
     store_page(m, g.page, reply, request)
 }
 

@@ -1,7 +1,8 @@
 -- `desk_lines::put_ask` meets its contract. Assumes nothing.
 use native.Mathlib.Omega.{arith}
 use Rattle.text.specs.Ascii.{ascii}
-use Rattle.text.specs.Hex.{hexOf, length-hexOf}
+use Rattle.text.specs.Hex.{hexOf}
+use Rattle.text.specs.laws.HexCases.{length-hexOf}
 use Rattle.desk_lines.specs.laws.Printing.{prints-first, prints-more, prints-as, ask-pieces}
 use borrow.Author.Needs.{needs}
 use Rattle.desk_lines.proofs.put_ask.Statement.{statement}

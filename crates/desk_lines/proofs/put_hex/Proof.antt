@@ -1,7 +1,8 @@
 -- `desk_lines::put_hex` meets its contract. Assumes nothing.
 use native.Mathlib.Omega.{arith}
 use mathlib.Core.Path.{refl}
-use Rattle.text.specs.Hex.{hexOf, length-hexOf}
+use Rattle.text.specs.Hex.{hexOf}
+use Rattle.text.specs.laws.HexCases.{length-hexOf}
 use Rattle.desk_lines.specs.laws.Printing.{overwrite-behind}
 use borrow.Author.Needs.{needs}
 use Rattle.desk_lines.proofs.put_hex.Statement.{statement}

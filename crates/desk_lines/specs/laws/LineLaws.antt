@@ -12,7 +12,8 @@ use Rattle.lists.specs.Pick.{pick-true, pick-false}
 use Rattle.lists.specs.Parts.{part, overwrite}
 use Rattle.lists.specs.PartLaws.{length-overwrite, overwrite-front, overwrite-part, overwrite-none, take-overwrite}
 use Rattle.text.specs.Ascii.{ascii}
-use Rattle.text.specs.Hex.{bytesOf, decodeOf, decodedIn, length-bytesOf}
+use Rattle.text.specs.Hex.{bytesOf, decodeOf, decodedIn}
+use Rattle.text.specs.laws.HexCases.{length-bytesOf}
 use Rattle.text.specs.laws.HexLaws.{decodes}
 use Rattle.text.specs.Line.{begins}
 use Rattle.text.specs.declared.hex.Decoded.{Decoded}

@@ -9,8 +9,10 @@ use lib.Seq.{length-take-le, drop-at, drop-drop, take-all}
 use Rattle.lists.specs.Parts.{overwrite}
 use Rattle.lists.specs.PartLaws.{overwrite-front, overwrite-next, overwrite-none}
 use Rattle.text.specs.Ascii.{ascii}
-use Rattle.text.specs.Digits.{decimalOf, decimal-most}
-use Rattle.text.specs.Hex.{hexOf, length-hexOf}
+use Rattle.text.specs.Digits.{decimalOf}
+use Rattle.text.specs.laws.DigitLaws.{decimal-most}
+use Rattle.text.specs.Hex.{hexOf}
+use Rattle.text.specs.laws.HexCases.{length-hexOf}
 use Rattle.rules.specs.Skeleton.{done, ask}
 use Rattle.outcomes.specs.declared.Outcome.{Outcome}
 use Rattle.outcomes.specs.declared.Outcome.the-variants.{Done, Ask}

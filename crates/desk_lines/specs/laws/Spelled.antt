@@ -11,7 +11,8 @@ use lib.ListN.{length, drop, length-append}
 use Rattle.lists.specs.All as all
 use Rattle.lists.specs.Pick.{pick, pick-ind}
 use Rattle.text.specs.Ascii.{ascii}
-use Rattle.text.specs.Hex.{hexOf, length-hexOf, bytesOf, decodeOf, length-bytesOf}
+use Rattle.text.specs.Hex.{hexOf, bytesOf, decodeOf}
+use Rattle.text.specs.laws.HexCases.{length-hexOf, length-bytesOf}
 use Rattle.text.specs.laws.HexLaws.{bytesOf-hexOf, hexOf-bytesOf, bytesOf-bytes, decodes, decode-hexOf}
 use Rattle.text.specs.Line.{begins}
 use Rattle.text.specs.laws.LineLaws.{begins-is}

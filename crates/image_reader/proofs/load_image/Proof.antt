@@ -8,7 +8,7 @@ use Rattle.filesystem.specs.Tables.{ID-BYTES}
 use Rattle.filesystem.specs.Image.{soundNodes}
 use Rattle.memory.specs.Layout.{memOf, withNodes}
 use Rattle.image_reader.specs.Records.{nodesFrom, endFrom, recordsEnd}
-use Rattle.image_reader.specs.Loaded.{to-sound-image, both-loaded}
+use Rattle.image_reader.specs.laws.LoadedLaws.{to-sound-image, both-loaded}
 use borrow.Author.Needs.{needs}
 use Rattle.image_reader.proofs.load_image.Statement.{statement}
 use Rattle.image_reader.proofs.load_image.Tie as tie

@@ -6,7 +6,7 @@ use lib.ListN.{length, set}
 use Rattle.memory.specs.Layout.{memOf, withNodes}
 use Rattle.image_reader.specs.laws.RecordLaws.{record-least}
 use Rattle.filesystem.specs.Tables.{ID-BYTES, Node}
-use Rattle.image_reader.specs.Loaded.{same-node}
+use Rattle.image_reader.specs.laws.LoadedLaws.{same-node}
 use borrow.Author.Needs.{needs}
 use Rattle.image_reader.proofs.load_record.Statement.{statement}
 use Rattle.image_reader.proofs.load_record.Tie as tie

@@ -12,7 +12,7 @@ use Rattle.lists.specs.PartLaws.{overwrite-none}
 use Rattle.filesystem.specs.Tables.{ID-BYTES, Node, noNode}
 use Rattle.memory.specs.laws.MemLaws.{length-nodes}
 use Rattle.image_reader.specs.laws.StepLaws.{next-end}
-use Rattle.image_reader.specs.Loaded.{short-name, loaded-next}
+use Rattle.image_reader.specs.laws.LoadedLaws.{short-name, loaded-next}
 use borrow.Author.Needs.{needs}
 use Rattle.image_reader.proofs.load_records.Statement.{statement}
 use Rattle.image_reader.proofs.load_records.Tie as tie

@@ -6,14 +6,13 @@ use mathlib.Core.List.{List, []}
 use Prim.Native.Nat.{ℕ, suc, _<_, _≤_}
 use native.Mathlib.Omega.{arith}
 use lib.Dec.{eqb}
-use lib.ListN.{length, getD, take}
+use lib.ListN.{length, getD}
 use borrow.Author.Tests.{le-ltb}
 use Rattle.lists.specs.Pick.{pick, pick-true, pick-false}
 use Rattle.lists.specs.Equal.{equal, Is, isT, isF, is}
 use Rattle.lists.specs.Checks.{decide}
 use Rattle.digest.specs.Sha256.{sha256}
-use Rattle.filesystem.specs.Tables.{PAGES, PAGE-BYTES, ID-BYTES, Node, pagesFor, nodeAt, pageTotal}
-use Rattle.filesystem.specs.Image.{divide}
+use Rattle.filesystem.specs.Tables.{PAGE-BYTES, ID-BYTES, Node, pagesFor, nodeAt}
 use Rattle.memory.specs.Layout.{memOf}
 use Rattle.tables.specs.View.{viewOf}
 use Rattle.rules.specs.Pages.{Change, last}
@@ -35,6 +34,7 @@ use Rattle.replies.specs.Judged.{statusReason, pageReason}
 use Rattle.replies.specs.laws.JudgedLaws.{storing-reason, cutting-reason}
 use Rattle.replies.specs.laws.TakenLaws.{taken-passes}
 use Rattle.page_changes.specs.Asked.{Changing}
+use Rattle.page_changes.specs.Fetched.{JudgedPage}
 use Rattle.page_changes.specs.laws.SendingLaws.{fetching-fits, consistent-room}
 
 -- behind its last page a change has its pages stored
@@ -102,14 +102,6 @@ module _ (c : Config) (wide : c .width ≡ ID-BYTES) (s : State (digestStore c))
   unfolding answered apply replyAction
   cut-goes e h = ap (apply c (digestStore c) s) (taken-passes c wide s r (cutting k o q) e (h
       ∙ sym (cutting-reason (s .skeleton .tables) r k o q)))
-
--- what `replies::judge_page` says of the pending page, by the numbers l that were loaded
-abbrev pub JudgedPage : (m : List ℕ) (l : Guard) (b : ℕ) (r : List ℕ) → Type 0
-JudgedPage m l b r =
-    l .node < l .nodes → l .page < pagesFor (nodeAt (memOf m .nodes) (l .node) .size)
-    → pageTotal (take (l .nodes) (memOf m .nodes)) ≤ PAGES
-    → b ≡ pageReason (getD (getD (divide (take (l .nodes) (memOf m .nodes)) (memOf m .digests)) (l .node) []) (l .page)
-    []) r
 
 -- a fetched page that was judged
 module _ (c : Config) (m : List ℕ) (q : Change) (h : Consistent c (stateOf c m))

@@ -1,7 +1,7 @@
 -- `paths::form` meets its contract. Assumes nothing.
 use native.Mathlib.Omega.{arith}
 use mathlib.Core.Path.{sym, _∙_}
-use Rattle.paths.specs.PathForms.{form-empty, form-no-slash, form-root, form-parts}
+use Rattle.paths.specs.laws.PathFormLaws.{form-empty, form-no-slash, form-root, form-parts}
 use borrow.Author.Needs.{needs}
 use Rattle.paths.proofs.form.Statement.{statement}
 use Rattle.paths.proofs.form.Tie as tie

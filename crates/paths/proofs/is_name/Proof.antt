@@ -1,6 +1,6 @@
 -- `paths::is_name` meets its contract. Assumes nothing.
 use native.Mathlib.Omega.{arith}
-use Rattle.paths.specs.PathForms.{name-empty, name-first, name-dot, name-second, name-dots}
+use Rattle.paths.specs.laws.PathFormLaws.{name-empty, name-first, name-dot, name-second, name-dots}
 use borrow.Author.Needs.{needs}
 use Rattle.paths.proofs.is_name.Statement.{statement}
 use Rattle.paths.proofs.is_name.Tie as tie

@@ -13,7 +13,8 @@ use Rattle.lists.specs.Search.{place}
 use Rattle.filesystem.specs.Tables.{PATH-BYTES}
 use Rattle.filesystem.specs.Paths.{split}
 use Rattle.paths.specs.Parts.{isEnd}
-use Rattle.paths.specs.PathForms.{partsForm, lengthForm, from-zero, from-bad, from-on, last-bad, last-good}
+use Rattle.paths.specs.PathForms.{partsForm, lengthForm}
+use Rattle.paths.specs.laws.PathFormLaws.{from-zero, from-bad, from-on, last-bad, last-good}
 use borrow.Author.Needs.{needs}
 use Rattle.paths.proofs.parts_form.Statement.{statement}
 use Rattle.paths.proofs.parts_form.Tie as tie

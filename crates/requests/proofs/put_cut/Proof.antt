@@ -1,7 +1,7 @@
 -- `requests::put_cut` meets its contract. Assumes nothing.
 use mathlib.Core.Path.{sym, _∙_}
 use lib.Seq.{length-take-le}
-use Rattle.requests.specs.StoredPages.{shrunk}
+use Rattle.requests.specs.laws.StoredPageLaws.{shrunk}
 use native.Mathlib.Omega.{arith}
 use borrow.Author.Needs.{needs}
 use Rattle.requests.proofs.put_cut.Statement.{statement}

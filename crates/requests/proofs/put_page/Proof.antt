@@ -1,6 +1,6 @@
 -- `requests::put_page` meets its contract. Assumes nothing.
 use mathlib.Core.Path.{_∙_}
-use Rattle.requests.specs.StoredPages.{page-put}
+use Rattle.requests.specs.laws.StoredPageLaws.{page-put}
 use native.Mathlib.Omega.{arith}
 use borrow.Author.Needs.{needs}
 use Rattle.requests.proofs.put_page.Statement.{statement}

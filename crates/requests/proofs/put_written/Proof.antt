@@ -1,6 +1,6 @@
 -- `requests::put_written` meets its contract. Assumes nothing.
 use mathlib.Core.Path.{refl, _∙_}
-use Rattle.requests.specs.StoredPages.{unwritten, written-put}
+use Rattle.requests.specs.laws.StoredPageLaws.{unwritten, written-put}
 use native.Mathlib.Omega.{arith}
 use borrow.Author.Needs.{needs}
 use Rattle.requests.proofs.put_written.Statement.{statement}

@@ -3,7 +3,8 @@ use Prim.Native.Nat.{_≤_, _-_}
 use mathlib.Core.Path.{_≡_, refl}
 use lib.ListN.{length, length-set}
 use Rattle.lists.specs.Parts.{overwrite}
-use Rattle.requests.specs.StoredPages.{zeros, zeros-none, zeros-next}
+use Rattle.requests.specs.StoredPages.{zeros}
+use Rattle.requests.specs.laws.StoredPageLaws.{zeros-none, zeros-next}
 use native.Mathlib.Omega.{arith}
 use borrow.Author.Needs.{needs}
 use Rattle.requests.proofs.put_zeros.Statement.{statement}

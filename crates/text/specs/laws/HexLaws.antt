@@ -14,8 +14,9 @@ use Rattle.lists.specs.Pick.{pick, pick-ind}
 use Rattle.lists.specs.Equal.{Is, isT, isF, is}
 use Rattle.lists.specs.Search.{place, place-first}
 use Rattle.lists.specs.Places.{at-all, place-none}
-use Rattle.text.specs.Hex.{digitOf, valueOf, halfOf, hexOf, pairOf, bytesOf, isBad, decodeOf, length-hexOf}
-use Rattle.text.specs.Hex.{hexOf-at, length-bytesOf, bytesOf-at, decode-bytes}
+use Rattle.text.specs.Hex.{digitOf, valueOf, halfOf, hexOf, pairOf, bytesOf, isBad, decodeOf}
+use Rattle.text.specs.laws.HexCases.{length-hexOf}
+use Rattle.text.specs.laws.HexCases.{hexOf-at, length-bytesOf, bytesOf-at, decode-bytes}
 use Rattle.text.specs.declared.hex.Decoded.{Decoded}
 use Rattle.text.specs.declared.hex.Decoded.the-variants.{Bytes}
 

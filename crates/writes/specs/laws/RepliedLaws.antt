@@ -23,7 +23,8 @@ use Rattle.outcomes.specs.Answered.{answered}
 use Rattle.replies.specs.Judged.{statusReason}
 use Rattle.page_changes.specs.Sending.{Sending}
 use Rattle.page_changes.specs.laws.SendingLaws.{fetching-fits, fetching-sending, storing-sending}
-use Rattle.page_changes.specs.laws.FetchedLaws.{JudgedPage, judged-stores, stored-goes}
+use Rattle.page_changes.specs.Fetched.{JudgedPage}
+use Rattle.page_changes.specs.laws.FetchedLaws.{judged-stores, stored-goes}
 use Rattle.writes.specs.Writing.{writeIn}
 use Rattle.writes.specs.laws.PageLaws.{page-ahead, few-sent}
 

@@ -7,8 +7,9 @@ use mathlib.Core.Path.{_≡_, refl, _∙_}
 use mathlib.Core.List.{_++_}
 use lib.ListN.{length, take, drop, length-set}
 use lib.Seq.{take-set-le}
-use Rattle.text.specs.Digits.{decimalOf, length-more, decimal-some, decimal-most}
-use Rattle.text.specs.Digits.{digit-none, digit-more, digit-first, digits-end}
+use Rattle.text.specs.Digits.{decimalOf}
+use Rattle.text.specs.laws.DigitLaws.{length-more, decimal-some, decimal-most}
+use Rattle.text.specs.laws.DigitLaws.{digit-none, digit-more, digit-first, digits-end}
 use Rattle.text.proofs.decimal.write.Statement.{statement}
 use Rattle.text.proofs.decimal.write.Tie as tie
 

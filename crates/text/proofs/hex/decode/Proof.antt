@@ -4,7 +4,8 @@ use mathlib.Core.Path.{refl, ap, _∙_}
 use native.Mathlib.Omega.{arith}
 use borrow.Author.Needs.{needs}
 use Rattle.text.specs.declared.hex.Decoded.the-variants.{BadDigit}
-use Rattle.text.specs.Hex.{decodedIn, decode-bad, decode-odd, decode-long, decode-bytes}
+use Rattle.text.specs.Hex.{decodedIn}
+use Rattle.text.specs.laws.HexCases.{decode-bad, decode-odd, decode-long, decode-bytes}
 use Rattle.text.proofs.hex.decode.Statement.{statement}
 use Rattle.text.proofs.hex.decode.Tie as tie
 

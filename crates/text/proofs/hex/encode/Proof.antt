@@ -8,7 +8,8 @@ use lib.ListN.{length, getD, take, length-set}
 use lib.Seq.{take-all}
 use Rattle.lists.specs.Parts.{overwrite}
 use Rattle.lists.specs.PartLaws.{overwrite-none, overwrite-more}
-use Rattle.text.specs.Hex.{digitOf, hexOf, length-hexOf, hexOf-at}
+use Rattle.text.specs.Hex.{digitOf, hexOf}
+use Rattle.text.specs.laws.HexCases.{length-hexOf, hexOf-at}
 use Rattle.text.proofs.hex.encode.Statement.{statement}
 use Rattle.text.proofs.hex.encode.Tie as tie
 

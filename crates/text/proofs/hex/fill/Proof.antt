@@ -8,7 +8,8 @@ use lib.ListN.{length, getD, take, length-set}
 use lib.Seq.{take-all}
 use Rattle.lists.specs.Parts.{overwrite}
 use Rattle.lists.specs.PartLaws.{overwrite-none, overwrite-more}
-use Rattle.text.specs.Hex.{bytesOf, length-bytesOf, bytesOf-at}
+use Rattle.text.specs.Hex.{bytesOf}
+use Rattle.text.specs.laws.HexCases.{length-bytesOf, bytesOf-at}
 use Rattle.text.proofs.hex.fill.Statement.{statement}
 use Rattle.text.proofs.hex.fill.Tie as tie
 
