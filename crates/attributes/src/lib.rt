@@ -1,20 +1,19 @@
 // chmod and stat: judged, the host told or asked; a mode is set, a stat compared with the tables and handed on.
-ghost use mathlib.Core.Path.{_≡_};
-ghost use Prim.Native.Nat.{ℕ, _<_, _≤_, _+_};
-ghost use Rattle.filesystem.specs.Tables.{NODES, ID-BYTES};
-ghost use Rattle.tables.specs.View.{tablesIn};
-ghost use Rattle.rules.specs.Calls.{stat, chmod};
-ghost use Rattle.memory.specs.Memories.{IsMemory, was};
-ghost use lib.ListN.{length};
-ghost use Rattle.rules.specs.Requests.{asked, stating};
-ghost use Rattle.guard_state.specs.State.{numbersIn, HasRoot};
-ghost use Rattle.requests.specs.Room.{HoldsRequest};
 ghost use mathlib.Core.List.{_∷_, _++_};
+ghost use mathlib.Core.Path.{_≡_};
+ghost use Prim.Native.Nat.{ℕ, _<_, _≤_};
 ghost use Rattle.lists.specs.LittleEndian.{encode};
-ghost use Rattle.replies.specs.Judged.{reasonFor};
+ghost use Rattle.filesystem.specs.Tables.{NODES, ID-BYTES};
+ghost use Rattle.rules.specs.Calls.{stat, chmod};
+ghost use Rattle.rules.specs.Requests.{asked, stating};
+ghost use Rattle.memory.specs.Memories.{IsMemory, was};
+ghost use Rattle.tables.specs.View.{tablesIn};
 ghost use Rattle.guard_state.specs.Calls.{CHANGING, STATING};
-ghost use Rattle.path_calls.specs.Begun.{BeginsPath};
+ghost use Rattle.guard_state.specs.State.{numbersIn, HasRoot};
 ghost use Rattle.outcomes.specs.Contracts.{Accepts, AcceptsInto};
+ghost use Rattle.requests.specs.Room.{HoldsRequest};
+ghost use Rattle.path_calls.specs.Begun.{BeginsPath};
+ghost use Rattle.replies.specs.Judged.{reasonFor};
 use guard_state::Guard;
 use limits::kinds;
 

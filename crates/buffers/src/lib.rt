@@ -1,6 +1,6 @@
 // Strings of bytes in buffers: compared, written over a part, moved within one.
 ghost use mathlib.Core.Path.{_≡_};
-ghost use Prim.Native.Nat.{_+_, _<_, _≤_};
+ghost use Prim.Native.Nat.{_+_, _≤_};
 ghost use lib.ListN.{length};
 ghost use Rattle.lists.specs.Equal.{equal};
 ghost use Rattle.lists.specs.Parts.{part};

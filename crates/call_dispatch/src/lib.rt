@@ -1,8 +1,8 @@
 // A call, whatever its bytes are: read once, and handed to its family. Calls do not touch the answer buffer: what a
 // call is
 // done with at once has no bytes.
-ghost use Rattle.call_reader.specs.Meaning.{madeBy, NumberFits};
 ghost use Rattle.memory.specs.Memories.{IsMemory};
+ghost use Rattle.call_reader.specs.Meaning.{madeBy, NumberFits};
 ghost use Rattle.requests.specs.Room.{HoldsRequest};
 ghost use Rattle.path_calls.specs.Begun.{BeginsPath};
 ghost use Rattle.call_dispatch.specs.Called.{Calls};

@@ -1,7 +1,7 @@
 // A call read from its bytes, once: its kind and its fields by value, or that the form is wrong. A path's own form is
 // judged with the path.
-ghost use mathlib.Core.Path.{_≡_};
 ghost use mathlib.Core.Bool.{true};
+ghost use mathlib.Core.Path.{_≡_};
 ghost use Prim.Native.Nat.{ℕ, _<_, _≤_};
 ghost use lib.Dec.{leb};
 ghost use lib.ListN.{length, drop};

@@ -1,25 +1,24 @@
 // create and mkdir: a new name judged, the host asked for the node, its id judged, the node added.
+ghost use mathlib.Core.List.{List};
 ghost use mathlib.Core.Path.{_≡_};
-ghost use Prim.Native.Nat.{ℕ, _<_, _≤_, _+_, _/_};
-ghost use Rattle.filesystem.specs.Tables.{NODES, NAME-BYTES, PATH-BYTES, nodeAt};
-ghost use Rattle.tables.specs.View.{tablesIn};
-ghost use Rattle.rules.specs.Calls.{create};
-ghost use Rattle.path_calls.specs.Judged.{placeFor};
-ghost use Rattle.creations.specs.NameChecks.{nameOwn, newOwn};
-ghost use Rattle.memory.specs.Memories.{IsMemory, nodesOf, was};
+ghost use Prim.Native.Nat.{ℕ, _<_, _≤_};
 ghost use lib.ListN.{length, drop};
+ghost use Rattle.filesystem.specs.Tables.{NODES, NAME-BYTES, PATH-BYTES, nodeAt};
+ghost use Rattle.rules.specs.Calls.{create};
 ghost use Rattle.rules.specs.Requests.{asked, creating};
+ghost use Rattle.memory.specs.Memories.{IsMemory, nodesOf, was};
+ghost use Rattle.tables.specs.View.{tablesIn};
+ghost use Rattle.guard_state.specs.Calls.{CREATING};
+ghost use Rattle.guard_state.specs.State.{HasRoot, numbersIn};
+ghost use Rattle.outcomes.specs.Contracts.{Accepts};
+ghost use Rattle.outcomes.specs.Sent.{Asks};
 ghost use Rattle.call_reader.specs.Meaning.{madeBy};
 ghost use Rattle.requests.specs.PathRequests.{pathRequest};
-ghost use Rattle.outcomes.specs.declared.Outcome.the-variants.{Ask};
-ghost use Rattle.path_calls.specs.Begun.{BeginsPath};
-ghost use Rattle.guard_state.specs.State.{HasRoot, numbersIn};
-ghost use Rattle.guard_state.specs.Calls.{CREATING};
-ghost use Rattle.outcomes.specs.Sent.{Asks};
-ghost use Rattle.outcomes.specs.Contracts.{Accepts};
 ghost use Rattle.requests.specs.Room.{HoldsRequest};
-ghost use mathlib.Core.List.{List};
+ghost use Rattle.path_calls.specs.Begun.{BeginsPath};
+ghost use Rattle.path_calls.specs.Judged.{placeFor};
 ghost use Rattle.replies.specs.Judged.{reasonFor};
+ghost use Rattle.creations.specs.NameChecks.{nameOwn, newOwn};
 use guard_state::Guard;
 
 // A new name in directory d, from `at` on in the path's bytes: 17, 13 (the directory's bit 2), 28.

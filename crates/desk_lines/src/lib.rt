@@ -1,13 +1,13 @@
 // One line of the program `deskrun`: read, and the answer's line written (SPECIFICATION 12).
+ghost use mathlib.Core.List.{_++_};
 ghost use mathlib.Core.Path.{_≡_};
 ghost use Prim.Native.Nat.{_+_, _*_, _≤_};
 ghost use lib.ListN.{length, take};
-ghost use mathlib.Core.List.{_++_};
+ghost use Rattle.rules.specs.Skeleton.{done, ask};
+ghost use Rattle.outcomes.specs.Values.{answerIn};
 ghost use Rattle.text.specs.Ascii.{ascii};
 ghost use Rattle.text.specs.Digits.{decimalOf};
 ghost use Rattle.text.specs.Hex.{hexOf, decodeOf, decodedIn};
-ghost use Rattle.rules.specs.Skeleton.{done, ask};
-ghost use Rattle.outcomes.specs.Values.{answerIn};
 ghost use Rattle.desk_lines.specs.Lines.{mostBytes, lineOf, anyBytes, printed, printedBad, Reads, Puts, Prints};
 use outcomes::Outcome;
 use text::hex::Decoded;

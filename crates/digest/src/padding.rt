@@ -2,8 +2,8 @@
 ghost use mathlib.Core.Path.{_≡_};
 ghost use Prim.Native.Nat.{_*_, _/_, _≤_, _<_};
 ghost use lib.ListN.{length, getD, drop};
-ghost use Rattle.lists.specs.Parts.{overwrite};
 ghost use Rattle.lists.specs.BigEndian.{bigEndian};
+ghost use Rattle.lists.specs.Parts.{overwrite};
 ghost use Rattle.digest.specs.Padding.{withZeros, lastBlocks};
 
 // The message's bytes after its last whole block, and then zeros.

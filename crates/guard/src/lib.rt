@@ -1,21 +1,21 @@
 // The guard: one memory that the caller lends, and its entries. No entry requires anything; what each promises stands
 // in specs/Promise.antt.
 // Functions with `m` work on a memory of just the guard's size; the entries lend them the front of what they get.
-ghost use mathlib.Core.Path.{_≡_};
 ghost use mathlib.Core.Bool.{_||_};
 ghost use mathlib.Core.List.{[]};
+ghost use mathlib.Core.Path.{_≡_};
 ghost use lib.Dec.{ltb};
 ghost use lib.ListN.{length};
 ghost use Rattle.filesystem.specs.Tables.{DIGEST-BYTES};
 ghost use Rattle.rules.specs.Skeleton.{call, reply, save, load, answerLength, requestLength};
-ghost use Rattle.configuration.specs.Delivered.{delivered};
 ghost use Rattle.machine.specs.Machine.{fresh, guard as digestStore};
+ghost use Rattle.configuration.specs.Delivered.{delivered};
+ghost use Rattle.numbers.specs.Slices.{KeepsLength};
+ghost use Rattle.memory.specs.Memories.{IsMemory};
 ghost use Rattle.outcomes.specs.Sent.{settled};
-ghost use Rattle.guard.specs.Promise.{held, firstOf, Ready, Steps, Saving, Shown, NotDone, NotAsked, shownAs};
 ghost use Rattle.guard.specs.Entries.{Takes, Called, Replied, Saved, Loaded, MadeFresh};
 ghost use Rattle.guard.specs.Numbers.{waits};
-ghost use Rattle.memory.specs.Memories.{IsMemory};
-ghost use Rattle.numbers.specs.Slices.{KeepsLength};
+ghost use Rattle.guard.specs.Promise.{held, firstOf, Ready, Steps, Saving, Shown, NotDone, NotAsked, shownAs};
 use guard_state::Guard;
 
 // The least lengths of the answer buffer, for the longest listing, and of the request buffer, for a store.

@@ -1,24 +1,24 @@
 // The guard's numbers in the memory's header, the memory as the machine's state, and the pending call: one begins to
 // wait for a reply, is
 // done, or the guard stops. Contracts are over the machine's states (specs/State.antt).
-ghost use mathlib.Core.Path.{_≡_};
 ghost use mathlib.Core.List.{[], _∷_, _++_};
+ghost use mathlib.Core.Path.{_≡_};
 ghost use Prim.Native.Nat.{_+_, _%_, _<_, _≤_};
-ghost use lib.ListN.{length, getD, take, set};
+ghost use lib.ListN.{length, getD, take};
 ghost use Rattle.filesystem.specs.Tables.{NODES, NAME-BYTES, FILE-BYTES, DATA-BYTES};
-ghost use Rattle.memory.specs.Layout.{headNumbers, openRows, newDigests, withHead};
-ghost use Rattle.rules.specs.Requests.{asked, creating, closing, reading, fetching};
 ghost use Rattle.rules.specs.Pages.{writing, shrinking};
+ghost use Rattle.rules.specs.Requests.{asked, creating, closing, reading, fetching};
 ghost use Rattle.rules.specs.Skeleton.{Config};
 ghost use Rattle.machine.specs.Machine.{fresh, guard as digestStore};
+ghost use Rattle.numbers.specs.Slices.{KeepsLength};
+ghost use Rattle.memory.specs.Layout.{headNumbers, openRows, newDigests, withHead};
+ghost use Rattle.memory.specs.Memories.{Becomes, IsMemory, was};
 ghost use Rattle.tables.specs.View.{viewOf};
 ghost use Rattle.guard_state.specs.Calls.{OnNode, questionOn, FETCHING, CUTTING};
+ghost use Rattle.guard_state.specs.Onward.{writeNumbers, shrinkNumbers, goesOn};
 ghost use Rattle.guard_state.specs.State.{pendingIn, stateOf, clearedHead, clearedCall, clearedSpan, readingHead};
 ghost use Rattle.guard_state.specs.State.{gatheredNone, gatheredRead, filePages, numbersIn};
-ghost use Rattle.guard_state.specs.Onward.{writeNumbers, shrinkNumbers, goesOn};
 ghost use Rattle.guard_state.specs.Waits.{waits, ends, stops, restingState, Turns, Waits};
-ghost use Rattle.memory.specs.Memories.{Becomes, IsMemory, was};
-ghost use Rattle.numbers.specs.Slices.{KeepsLength};
 
 pub mod calls;
 pub mod header;

@@ -1,14 +1,14 @@
 // What calls by handle share: the open file and its node found, its rights, and what its file's size allows
 // (SPECIFICATION 7.8).
-ghost use mathlib.Core.Path.{_≡_};
-ghost use Prim.Native.Nat.{ℕ, _<_, _≤_, _/_};
-ghost use Rattle.filesystem.specs.Tables.{NODES, nodeAt, findId, PAGES};
-ghost use Rattle.memory.specs.Layout.{openRows};
-ghost use Rattle.tables.specs.View.{tablesIn};
-ghost use Rattle.memory.specs.Memories.{IsMemory, nodesOf, was, opensOf};
 ghost use mathlib.Core.Bool.{true};
+ghost use mathlib.Core.Path.{_≡_};
+ghost use Prim.Native.Nat.{ℕ, _<_, _≤_};
 ghost use Rattle.filesystem.specs.Image.{soundNodes};
+ghost use Rattle.filesystem.specs.Tables.{NODES, nodeAt, findId};
 ghost use Rattle.rules.specs.Rules.{noRoom};
+ghost use Rattle.memory.specs.Layout.{openRows};
+ghost use Rattle.memory.specs.Memories.{IsMemory, nodesOf, was, opensOf};
+ghost use Rattle.tables.specs.View.{tablesIn};
 ghost use Rattle.handle_calls.specs.Judged.{lacksRight, endChecked};
 ghost use Rattle.handle_calls.specs.declared.Handled.the-variants.{Open};
 

@@ -1,24 +1,24 @@
 // The image read from any bytes (SPECIFICATION 8.4, 8.6): whether it is sound, and its tables put into the memory.
-ghost use mathlib.Core.Path.{_≡_};
 ghost use mathlib.Core.Bool.{true, _&&_, _||_};
 ghost use mathlib.Core.List.{[], _∷_};
+ghost use mathlib.Core.Path.{_≡_};
 ghost use Prim.Native.Nat.{_+_, _-_, _*_, _≤_, _<_};
 ghost use lib.Dec.{eqb, leb};
 ghost use lib.ListN.{length, set};
-ghost use Rattle.lists.specs.Pick.{pick};
 ghost use Rattle.lists.specs.Parts.{overwrite};
+ghost use Rattle.lists.specs.Pick.{pick};
 ghost use Rattle.lists.specs.Search.{any, every, place};
-ghost use Rattle.filesystem.specs.Tables.{ID-BYTES, NODES, PAGES, DIGEST-BYTES, FILE-BYTES, NAME-BYTES, pageTotal};
-ghost use Rattle.filesystem.specs.Paths.{componentForm};
 ghost use Rattle.filesystem.specs.Image.{isRoot, inLimits, soundNodes, parse};
+ghost use Rattle.filesystem.specs.Paths.{componentForm};
+ghost use Rattle.filesystem.specs.Tables.{ID-BYTES, NODES, PAGES, DIGEST-BYTES, FILE-BYTES, NAME-BYTES, pageTotal};
+ghost use Rattle.numbers.specs.Slices.{KeepsLength};
 ghost use Rattle.memory.specs.Layout.{withNodes, withDigests};
+ghost use Rattle.memory.specs.Memories.{Becomes, IsMemory, was};
 ghost use Rattle.image_writer.specs.Width.{frontLength};
+ghost use Rattle.image_reader.specs.Admission.{clash, isParent, admit, admitted};
+ghost use Rattle.image_reader.specs.Loaded.{Loaded};
 ghost use Rattle.image_reader.specs.Records.{recordAt, recordEnd, nodesFrom, endFrom, recordsEnd, digestCount};
 ghost use Rattle.image_reader.specs.Records.{imageDigests, formed, plainByte, isSome};
-ghost use Rattle.image_reader.specs.Loaded.{Loaded};
-ghost use Rattle.image_reader.specs.Admission.{clash, isParent, admit, admitted};
-ghost use Rattle.memory.specs.Memories.{Becomes, IsMemory, was};
-ghost use Rattle.numbers.specs.Slices.{KeepsLength};
 
 const ID_BYTES: usize = limits::ID_BYTES;
 

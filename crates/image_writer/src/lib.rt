@@ -1,18 +1,18 @@
 // The image that is saved (SPECIFICATION 8.4): how long it is, written into a caller's buffer, and its SHA-256.
-ghost use mathlib.Core.Path.{_≡_};
 ghost use mathlib.Core.List.{_++_};
+ghost use mathlib.Core.Path.{_≡_};
 ghost use Prim.Native.Nat.{_+_, _*_, _≤_, _<_};
 ghost use lib.ListN.{length};
 ghost use Rattle.lists.specs.Equal.{equal};
 ghost use Rattle.lists.specs.Form.{put-all};
 ghost use Rattle.lists.specs.LittleEndian.{encode};
 ghost use Rattle.lists.specs.Parts.{overwrite};
-ghost use Rattle.digest.specs.Sha256.{sha256};
-ghost use Rattle.filesystem.specs.Tables.{ID-BYTES, NODES, PAGES, nodeAt, pageTotal};
 ghost use Rattle.filesystem.specs.Image.{nodeForm, print, recordsLength, imageLength};
+ghost use Rattle.filesystem.specs.Tables.{ID-BYTES, NODES, PAGES, nodeAt, pageTotal};
+ghost use Rattle.digest.specs.Sha256.{sha256};
 ghost use Rattle.memory.specs.Layout.{memOf};
-ghost use Rattle.image_writer.specs.Width.{nodesIn, imageIn, recordLength, middle};
 ghost use Rattle.memory.specs.Memories.{IsMemory, was};
+ghost use Rattle.image_writer.specs.Width.{nodesIn, imageIn, recordLength, middle};
 
 const ID_BYTES: usize = limits::ID_BYTES;
 

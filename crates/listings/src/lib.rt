@@ -1,23 +1,23 @@
 // readdir: judged, the host asked for the listing; each child must have one entry, and nothing else may.
-ghost use mathlib.Core.Path.{_≡_};
-ghost use Prim.Native.Nat.{ℕ, _<_, _≤_, _+_, _/_};
-ghost use Rattle.filesystem.specs.Tables.{NODES, nodeAt, ID-BYTES};
-ghost use Rattle.tables.specs.View.{tablesIn};
-ghost use Rattle.rules.specs.Calls.{readdir};
-ghost use Rattle.path_calls.specs.Judged.{nodeFor};
-ghost use Rattle.listings.specs.ListChecks.{readdirOwn};
-ghost use Rattle.memory.specs.Memories.{IsMemory, nodesOf, was};
-ghost use lib.ListN.{length};
-ghost use Rattle.rules.specs.Requests.{asked, listing};
-ghost use Rattle.guard_state.specs.State.{numbersIn, HasRoot};
-ghost use Rattle.requests.specs.Room.{HoldsRequest};
 ghost use mathlib.Core.Bool.{true};
+ghost use mathlib.Core.Path.{_≡_};
+ghost use Prim.Native.Nat.{ℕ, _<_, _≤_};
+ghost use lib.ListN.{length};
 ghost use Rattle.filesystem.specs.Image.{soundNodes};
-ghost use Rattle.replies.specs.Judged.{reasonFor};
-ghost use Rattle.listings.specs.Listing.{entryAt, entryEnd, endWithin, entryPlace};
+ghost use Rattle.filesystem.specs.Tables.{NODES, nodeAt, ID-BYTES};
+ghost use Rattle.rules.specs.Calls.{readdir};
+ghost use Rattle.rules.specs.Requests.{asked, listing};
+ghost use Rattle.memory.specs.Memories.{IsMemory, nodesOf, was};
+ghost use Rattle.tables.specs.View.{tablesIn};
 ghost use Rattle.guard_state.specs.Calls.{LISTING};
-ghost use Rattle.path_calls.specs.Begun.{BeginsPath};
+ghost use Rattle.guard_state.specs.State.{numbersIn, HasRoot};
 ghost use Rattle.outcomes.specs.Contracts.{AcceptsInto};
+ghost use Rattle.requests.specs.Room.{HoldsRequest};
+ghost use Rattle.path_calls.specs.Begun.{BeginsPath};
+ghost use Rattle.path_calls.specs.Judged.{nodeFor};
+ghost use Rattle.replies.specs.Judged.{reasonFor};
+ghost use Rattle.listings.specs.ListChecks.{readdirOwn};
+ghost use Rattle.listings.specs.Listing.{entryAt, entryEnd, endWithin, entryPlace};
 use guard_state::Guard;
 use limits::kinds;
 

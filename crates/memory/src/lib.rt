@@ -1,20 +1,20 @@
 // The guard's memory: one slice that the caller lends holds all of it. Only this crate knows where a table stands
 // (specs/Layout.antt) and where a field stands in its row (specs/Records.antt). Contracts are over the view `memOf`.
-ghost use mathlib.Core.Path.{_≡_};
 ghost use mathlib.Core.List.{[]};
+ghost use mathlib.Core.Path.{_≡_};
 ghost use Prim.Native.Nat.{_+_, _*_, _%_, _<_, _≤_};
 ghost use lib.ListN.{length, getD, take, set};
-ghost use Rattle.lists.specs.Parts.{part, overwrite};
-ghost use Rattle.lists.specs.Rows.{rows};
 ghost use Rattle.lists.specs.Form.{put-all};
 ghost use Rattle.lists.specs.Formats.{bytes};
+ghost use Rattle.lists.specs.Parts.{part, overwrite};
+ghost use Rattle.lists.specs.Rows.{rows};
 ghost use Rattle.filesystem.specs.Tables.{NODES, PAGES, NAME-BYTES, DIGEST-BYTES, nodeAt, openAt, isChild, newNode};
 ghost use Rattle.filesystem.specs.Tables.{newOpenFile, withSize, withCursor, setMode, setSize, setCursor};
-ghost use Rattle.memory.specs.Records.{nodeFront, nodeOf, openOf, openWidth, hintAt};
 ghost use Rattle.memory.specs.Layout.{memorySize, headNumbers, opensAt, openRows, digestWidth, dataSize};
 ghost use Rattle.memory.specs.Layout.{newDigests, stagingSize, withHead, withNodes, withOpens, withDigests};
 ghost use Rattle.memory.specs.Layout.{withStaged};
 ghost use Rattle.memory.specs.Memories.{Becomes, IsMemory, was};
+ghost use Rattle.memory.specs.Records.{nodeFront, nodeOf, openOf, openWidth, hintAt};
 
 // The length that the slice needs; `least_length` says that contracts mean the same by `memorySize`.
 pub const SIZE: usize = STAGING_AT + DATA_SIZE + NEW_DIGESTS * DIGEST_WIDTH;

@@ -1,27 +1,25 @@
 // open, close and seek: judged, the host asked for a descriptor or told of the close; a seek is done at once.
 ghost use mathlib.Core.Path.{_≡_};
-ghost use Prim.Native.Nat.{ℕ, _<_, _≤_, _+_};
+ghost use Prim.Native.Nat.{ℕ, _<_, _≤_};
 ghost use Rattle.filesystem.specs.Tables.{NODES, openAt};
-ghost use Rattle.memory.specs.Layout.{openRows};
-ghost use Rattle.tables.specs.View.{tablesIn};
 ghost use Rattle.rules.specs.Calls.{openAs, close, seek};
-ghost use Rattle.path_calls.specs.Judged.{nodeFor};
-ghost use Rattle.opens.specs.OpenChecks.{openOwn};
-ghost use Rattle.memory.specs.Memories.{IsMemory, was};
-ghost use lib.ListN.{length};
 ghost use Rattle.rules.specs.Requests.{asked, closing, closeRequest, opening};
-ghost use Rattle.outcomes.specs.declared.Outcome.the-variants.{Ask};
+ghost use Rattle.memory.specs.Layout.{openRows};
+ghost use Rattle.memory.specs.Memories.{IsMemory, was};
+ghost use Rattle.tables.specs.View.{tablesIn};
+ghost use Rattle.guard_state.specs.Calls.{OPENING, CLOSING};
 ghost use Rattle.guard_state.specs.State.{numbersIn, HasRoot};
 ghost use Rattle.guard_state.specs.Waits.{Turns};
-ghost use Rattle.outcomes.specs.Sent.{Asks};
 ghost use Rattle.outcomes.specs.Contracts.{Accepts, Begins, Finishes};
+ghost use Rattle.outcomes.specs.Sent.{Asks};
 ghost use Rattle.requests.specs.Room.{HoldsRequest};
+ghost use Rattle.path_calls.specs.Begun.{BeginsPath};
+ghost use Rattle.path_calls.specs.Judged.{nodeFor};
 ghost use Rattle.handle_calls.specs.Judged.{Judgement};
 ghost use Rattle.handle_calls.specs.declared.Handled.the-variants.{Open};
-ghost use Rattle.opens.specs.Moved.{cursorMoved};
 ghost use Rattle.replies.specs.Judged.{reasonFor};
-ghost use Rattle.guard_state.specs.Calls.{OPENING, CLOSING};
-ghost use Rattle.path_calls.specs.Begun.{BeginsPath};
+ghost use Rattle.opens.specs.Moved.{cursorMoved};
+ghost use Rattle.opens.specs.OpenChecks.{openOwn};
 use guard_state::Guard;
 use limits::kinds;
 

@@ -1,29 +1,28 @@
 // What a write and a truncation share: a page is asked for, a page goes out, and the change ends when its last reply
 // came.
-ghost use mathlib.Core.Path.{_≡_};
 ghost use mathlib.Core.List.{List, [], _∷_, _++_};
+ghost use mathlib.Core.Path.{_≡_};
 ghost use Prim.Native.Nat.{ℕ, _<_, _≤_};
-ghost use lib.ListN.{length};
 ghost use Rattle.lists.specs.Parts.{part};
-ghost use Rattle.digest.specs.Sha256.{sha256};
 ghost use Rattle.filesystem.specs.Tables.{PAGE-BYTES};
-ghost use Rattle.memory.specs.Layout.{openRows, newDigests};
 ghost use Rattle.rules.specs.Pages.{Change};
 ghost use Rattle.rules.specs.Requests.{fetchRequest, storeLength};
 ghost use Rattle.rules.specs.Skeleton.{Config};
 ghost use Rattle.machine.specs.Machine.{descriptorAt, asking, finishChange, guard as digestStore};
-ghost use Rattle.guard_state.specs.State.{pendingIn, stateOf, filePages, numbersIn};
+ghost use Rattle.numbers.specs.Slices.{KeepsLength};
+ghost use Rattle.digest.specs.Sha256.{sha256};
+ghost use Rattle.memory.specs.Layout.{openRows, newDigests};
+ghost use Rattle.memory.specs.Memories.{IsMemory, was};
 ghost use Rattle.guard_state.specs.Onward.{goesOn};
+ghost use Rattle.guard_state.specs.State.{pendingIn, stateOf, filePages, numbersIn};
 ghost use Rattle.guard_state.specs.Waits.{waits};
-ghost use Rattle.outcomes.specs.declared.Outcome.the-variants.{Ask};
 ghost use Rattle.outcomes.specs.Sent.{Sends};
+ghost use Rattle.outcomes.specs.declared.Outcome.the-variants.{Ask};
+ghost use Rattle.requests.specs.Room.{HoldsRequest};
 ghost use Rattle.page_changes.specs.Asked.{Changing, storeFront};
+ghost use Rattle.page_changes.specs.Contracts.{Moves};
 ghost use Rattle.page_changes.specs.Ended.{Ended};
 ghost use Rattle.page_changes.specs.Fetched.{Fetched};
-ghost use Rattle.page_changes.specs.Contracts.{Moves};
-ghost use Rattle.memory.specs.Memories.{IsMemory, was};
-ghost use Rattle.numbers.specs.Slices.{KeepsLength};
-ghost use Rattle.requests.specs.Room.{HoldsRequest};
 use guard_state::Guard;
 
 // The pending change asks for a page, and waits for it as `call` says (guard_state::calls).

@@ -1,22 +1,21 @@
 // What calls by path share: the walk judged (SPECIFICATION 7.4), and a call on a node that is there begun.
 ghost use mathlib.Core.Path.{_≡_};
 ghost use Prim.Native.Nat.{ℕ, _<_, _≤_};
+ghost use lib.ListN.{length};
 ghost use Rattle.filesystem.specs.Tables.{NODES, PATH-BYTES};
-ghost use Rattle.tables.specs.View.{tablesIn};
 ghost use Rattle.rules.specs.Calls.{stat};
+ghost use Rattle.rules.specs.Requests.{asked};
+ghost use Rattle.memory.specs.Memories.{IsMemory, nodesOf, was};
+ghost use Rattle.tables.specs.View.{tablesIn};
+ghost use Rattle.guard_state.specs.Calls.{OnNode, questionOn};
+ghost use Rattle.outcomes.specs.Sent.{Asks};
 ghost use Rattle.paths.specs.Parts.{componentsOf};
 ghost use Rattle.paths.specs.Walks.{childStep};
+ghost use Rattle.requests.specs.PathRequests.{pathRequest};
+ghost use Rattle.requests.specs.Room.{HoldsRequest};
+ghost use Rattle.path_calls.specs.Begun.{BeginsAs, Reaches};
 ghost use Rattle.path_calls.specs.Judged.{nodeFor, wayFor};
 ghost use Rattle.path_calls.specs.Ways.{wayOf, walkedBoth};
-ghost use Rattle.memory.specs.Memories.{IsMemory, nodesOf, was};
-ghost use lib.ListN.{length};
-ghost use Rattle.rules.specs.Requests.{asked};
-ghost use Rattle.requests.specs.PathRequests.{pathRequest};
-ghost use Rattle.outcomes.specs.declared.Outcome.the-variants.{Ask};
-ghost use Rattle.outcomes.specs.Sent.{Asks};
-ghost use Rattle.path_calls.specs.Begun.{BeginsAs, Reaches};
-ghost use Rattle.guard_state.specs.Calls.{OnNode, questionOn};
-ghost use Rattle.requests.specs.Room.{HoldsRequest};
 
 // Where a path leads: the places of its node and of the directory that holds it, or the number that stops the call.
 pub enum Way {

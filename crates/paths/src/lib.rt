@@ -1,14 +1,14 @@
 // Rights and paths: whether a mode covers rights, the form of a path on its bytes, and the walk along one in the
 // guard's memory.
-ghost use mathlib.Core.Path.{_≡_};
 ghost use mathlib.Core.Bool.{_||_};
+ghost use mathlib.Core.Path.{_≡_};
 ghost use Prim.Native.Nat.{_+_, _-_, _*_, _<_, _≤_};
 ghost use lib.Dec.{ltb};
 ghost use lib.ListN.{length, drop};
 ghost use Rattle.lists.specs.Search.{place};
-ghost use Rattle.filesystem.specs.Tables.{NODES, NAME-BYTES, PATH-BYTES};
-ghost use Rattle.filesystem.specs.Rights as table;
 ghost use Rattle.filesystem.specs.Paths.{split};
+ghost use Rattle.filesystem.specs.Rights as table;
+ghost use Rattle.filesystem.specs.Tables.{NODES, NAME-BYTES, PATH-BYTES};
 ghost use Rattle.memory.specs.Memories.{IsMemory, nodesOf, was};
 ghost use Rattle.tables.specs.View.{FirstPlaces};
 ghost use Rattle.paths.specs.Parts.{isSlash, isEnd, componentsOf};

@@ -1,19 +1,18 @@
 // remove and rmdir: judged, the host told, the node taken out.
 ghost use mathlib.Core.Path.{_≡_};
-ghost use Prim.Native.Nat.{ℕ, _<_, _≤_, _/_};
-ghost use Rattle.filesystem.specs.Tables.{NODES, PAGES};
-ghost use Rattle.memory.specs.Layout.{openRows};
-ghost use Rattle.tables.specs.View.{tablesIn};
+ghost use Prim.Native.Nat.{ℕ, _<_, _≤_};
+ghost use Rattle.filesystem.specs.Tables.{NODES};
 ghost use Rattle.rules.specs.Calls.{remove, rmdir};
+ghost use Rattle.memory.specs.Layout.{openRows};
+ghost use Rattle.memory.specs.Memories.{IsMemory, nodesOf, was};
+ghost use Rattle.tables.specs.View.{tablesIn};
+ghost use Rattle.guard_state.specs.Calls.{REMOVING};
+ghost use Rattle.guard_state.specs.State.{numbersIn, HasRoot};
+ghost use Rattle.outcomes.specs.Contracts.{Accepts};
+ghost use Rattle.requests.specs.Room.{HoldsRequest};
+ghost use Rattle.path_calls.specs.Begun.{BeginsPath};
 ghost use Rattle.path_calls.specs.Judged.{nodeFor};
 ghost use Rattle.removals.specs.RemoveChecks.{removeOwn, rmdirOwn};
-ghost use Rattle.memory.specs.Memories.{IsMemory, nodesOf, was};
-ghost use lib.ListN.{length};
-ghost use Rattle.guard_state.specs.State.{numbersIn, HasRoot};
-ghost use Rattle.requests.specs.Room.{HoldsRequest};
-ghost use Rattle.guard_state.specs.Calls.{REMOVING};
-ghost use Rattle.path_calls.specs.Begun.{BeginsPath};
-ghost use Rattle.outcomes.specs.Contracts.{Accepts};
 use guard_state::Guard;
 use limits::kinds;
 

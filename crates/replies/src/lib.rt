@@ -1,11 +1,11 @@
 // Replies that calls share judged: the stop reason, or 0 where the reply is right. Nothing is changed here.
+ghost use mathlib.Core.List.{[]};
 ghost use mathlib.Core.Path.{_≡_};
 ghost use Prim.Native.Nat.{_<_, _≤_};
-ghost use Rattle.filesystem.specs.Tables.{NODES, nodeAt, PAGES, PAGE-BYTES, pagesFor, pageTotal};
-ghost use Rattle.memory.specs.Memories.{IsMemory, nodesOf, was};
 ghost use lib.ListN.{length, getD};
 ghost use Rattle.filesystem.specs.Image.{divide};
-ghost use mathlib.Core.List.{[]};
+ghost use Rattle.filesystem.specs.Tables.{NODES, nodeAt, PAGES, PAGE-BYTES, pagesFor, pageTotal};
+ghost use Rattle.memory.specs.Memories.{IsMemory, nodesOf, was};
 ghost use Rattle.replies.specs.Judged.{statusOf, pageReason};
 use guard_state::Guard;
 

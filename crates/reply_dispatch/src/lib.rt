@@ -4,11 +4,11 @@ ghost use mathlib.Core.Path.{_≡_};
 ghost use Prim.Native.Nat.{_≤_};
 ghost use lib.ListN.{length};
 ghost use Rattle.filesystem.specs.Tables.{DATA-BYTES};
+ghost use Rattle.memory.specs.Memories.{IsMemory};
 ghost use Rattle.guard_state.specs.Calls.{CREATING, CHANGING, FETCHING, CUTTING};
 ghost use Rattle.guard_state.specs.State.{numbersIn};
-ghost use Rattle.memory.specs.Memories.{IsMemory};
-ghost use Rattle.requests.specs.Room.{HoldsRequest};
 ghost use Rattle.outcomes.specs.Contracts.{Accepts, AcceptsAsking, AcceptsPending};
+ghost use Rattle.requests.specs.Room.{HoldsRequest};
 use guard_state::Guard;
 use guard_state::calls;
 

@@ -1,7 +1,7 @@
 // Host requests written over the front of the caller's request buffer (SPECIFICATION 5.1), the page of a store among
 // them.
-ghost use mathlib.Core.Path.{_≡_};
 ghost use mathlib.Core.List.{_∷_, _++_};
+ghost use mathlib.Core.Path.{_≡_};
 ghost use Prim.Native.Nat.{_+_, _/_, _≤_};
 ghost use lib.ListN.{length};
 ghost use Rattle.lists.specs.LittleEndian.{encode};
@@ -9,10 +9,10 @@ ghost use Rattle.filesystem.specs.Tables.{PAGE-BYTES, FILE-BYTES, PATH-BYTES};
 ghost use Rattle.rules.specs.Pages.{writing, shrinking, resized, fill};
 ghost use Rattle.rules.specs.Requests.{closeRequest, fetchRequest, storeRequest, storeLength, cutRequest};
 ghost use Rattle.rules.specs.Skeleton.{atFront};
-ghost use Rattle.requests.specs.PathRequests.{hasNumber, pathRequest};
-ghost use Rattle.requests.specs.StoredPages.{zeros};
 ghost use Rattle.numbers.specs.Slices.{Overwritten};
+ghost use Rattle.requests.specs.PathRequests.{hasNumber, pathRequest};
 ghost use Rattle.requests.specs.Room.{HoldsRequest};
+ghost use Rattle.requests.specs.StoredPages.{zeros};
 use limits::kinds;
 
 // A store: kind, descriptor, page, size, and the page's bytes.

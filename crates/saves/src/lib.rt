@@ -3,15 +3,15 @@
 ghost use mathlib.Core.Path.{_≡_};
 ghost use Prim.Native.Nat.{_≤_};
 ghost use lib.ListN.{length};
-ghost use Rattle.digest.specs.Sha256.{sha256};
-ghost use Rattle.filesystem.specs.Tables.{ID-BYTES, NODES, PAGES, DIGEST-BYTES, pageTotal};
 ghost use Rattle.filesystem.specs.Image.{print, imageLength};
+ghost use Rattle.filesystem.specs.Tables.{ID-BYTES, NODES, PAGES, DIGEST-BYTES, pageTotal};
 ghost use Rattle.rules.specs.Skeleton.{Config, atFront};
+ghost use Rattle.numbers.specs.Slices.{KeepsLength};
+ghost use Rattle.digest.specs.Sha256.{sha256};
+ghost use Rattle.memory.specs.Memories.{IsMemory};
 ghost use Rattle.guard_state.specs.State.{stateOf};
 ghost use Rattle.image_writer.specs.Width.{nodesIn, imageIn};
 ghost use Rattle.saves.specs.Saved.{savedInto, loadedFrom, Saves, Loads};
-ghost use Rattle.memory.specs.Memories.{IsMemory};
-ghost use Rattle.numbers.specs.Slices.{KeepsLength};
 use guard_state::Guard;
 
 // The image of n nodes at the front of its buffer, and its SHA-256 at the front of `digest`; the image's length.

@@ -1,24 +1,23 @@
 // The guard's tables: searches and changes of nodes, open files and page digests, each equal to its definition.
 // Contracts are over the rows in use (specs/View.antt); where a row stands is the memory crate's.
-ghost use mathlib.Core.Path.{_≡_};
-ghost use Prim.Native.Nat.{ℕ, _+_, _-_, _*_, _≤_, _<_};
 ghost use mathlib.Core.Bool.{true, false};
 ghost use mathlib.Core.List.{List, []};
+ghost use mathlib.Core.Path.{_≡_};
+ghost use Prim.Native.Nat.{ℕ, _+_, _-_, _*_, _≤_, _<_};
 ghost use lib.Dec.{eqb};
 ghost use lib.ListN.{length, getD, take};
-ghost use Rattle.lists.specs.Pick.{pick};
 ghost use Rattle.lists.specs.Equal.{equal};
-ghost use Rattle.digest.specs.Sha256.{sha256};
+ghost use Rattle.lists.specs.Pick.{pick};
+ghost use Rattle.filesystem.specs.Image.{soundNodes, divide};
 ghost use Rattle.filesystem.specs.Tables.{NODES, PAGES, findId, findChild, children, findHandle, findDescriptor};
 ghost use Rattle.filesystem.specs.Tables.{nodeAt, pagesFor, pageTotal, setSize};
-ghost use Rattle.filesystem.specs.Image.{soundNodes, divide};
-ghost use Rattle.memory.specs.Records.{nodeOf, openOf};
+ghost use Rattle.numbers.specs.Slices.{KeepsLength};
+ghost use Rattle.digest.specs.Sha256.{sha256};
 ghost use Rattle.memory.specs.Layout.{memOf, openRows};
 ghost use Rattle.memory.specs.Memories.{IsMemory, nodesOf, opensOf, was};
+ghost use Rattle.memory.specs.Records.{nodeOf, openOf};
 ghost use Rattle.tables.specs.View.{viewOf, withNode, withoutNode, withOpen, withoutOpen, withChange};
-ghost use Rattle.tables.specs.View.{stagedDigests, Changeable, Spans, Room};
-ghost use Rattle.tables.specs.View.{Others, FirstPlaces, hashOf};
-ghost use Rattle.numbers.specs.Slices.{KeepsLength};
+ghost use Rattle.tables.specs.View.{stagedDigests, Changeable, Spans, Room, Others, FirstPlaces, hashOf};
 
 // ---- searches
 

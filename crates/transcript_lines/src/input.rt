@@ -1,5 +1,5 @@
 // The lines of an input of any length, one after the other, through one buffer.
-ghost use Prim.Native.Nat.{_≤_, _<_};
+ghost use Prim.Native.Nat.{_≤_};
 ghost use lib.ListN.{length};
 
 // The most of a line that is kept: one that is longer is cut.

@@ -3,21 +3,19 @@
 // it is only cut. To the same size it is done at once.
 ghost use mathlib.Core.Path.{_≡_};
 ghost use Prim.Native.Nat.{_<_, _≤_, _/_};
-ghost use Rattle.filesystem.specs.Tables.{NODES, PAGE-BYTES};
-ghost use Rattle.memory.specs.Layout.{openRows, newDigests};
-ghost use Rattle.rules.specs.Calls.{truncate};
-ghost use Rattle.memory.specs.Memories.{IsMemory};
 ghost use lib.ListN.{length};
-ghost use Rattle.outcomes.specs.declared.Outcome.the-variants.{Ask};
+ghost use Rattle.filesystem.specs.Tables.{NODES, PAGE-BYTES};
+ghost use Rattle.rules.specs.Calls.{truncate};
+ghost use Rattle.machine.specs.Machine.{guard as digestStore, askStore, pagesFrom, pagesStored};
+ghost use Rattle.memory.specs.Layout.{openRows, newDigests};
+ghost use Rattle.memory.specs.Memories.{IsMemory};
+ghost use Rattle.guard_state.specs.Calls.{CUTTING, SHRINK-FETCHING, SHRINK-STORING};
 ghost use Rattle.guard_state.specs.State.{numbersIn};
 ghost use Rattle.outcomes.specs.Contracts.{Accepts, AcceptsAsking, Begins};
 ghost use Rattle.requests.specs.Room.{HoldsRequest};
 ghost use Rattle.handle_calls.specs.Judged.{Judgement};
-ghost use Rattle.handle_calls.specs.declared.Handled.the-variants.{Open};
-ghost use Rattle.machine.specs.Machine.{guard as digestStore, askStore, pagesFrom, pagesStored};
 ghost use Rattle.page_changes.specs.Contracts.{Goes, Moves, StartsAt};
 ghost use Rattle.truncations.specs.Shrinking.{Shrinking, shrinkIn};
-ghost use Rattle.guard_state.specs.Calls.{CUTTING, SHRINK-FETCHING, SHRINK-STORING};
 use guard_state::Guard;
 
 // truncate: 9 without right 2, 22 past the end.

@@ -1,6 +1,6 @@
 // The Monte Carlo test of the SHA validation system: each message is the last three digests.
-ghost use mathlib.Core.Path.{_≡_};
 ghost use mathlib.Core.List.{_++_};
+ghost use mathlib.Core.Path.{_≡_};
 ghost use Rattle.vectors.specs.Monte.{MD};
 
 // Three digests, one after the other.

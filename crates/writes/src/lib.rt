@@ -1,28 +1,26 @@
 // A write by handle: begun, its pages fetched where a byte of them stays, made, stored in rising order; done when the
 // last status came.
-ghost use mathlib.Core.Path.{_≡_};
-ghost use Prim.Native.Nat.{ℕ, _<_, _≤_, _+_, _*_, _/_};
-ghost use Rattle.filesystem.specs.Tables.{NODES, PAGE-BYTES, DATA-BYTES};
-ghost use Rattle.memory.specs.Layout.{openRows, newDigests};
-ghost use Rattle.rules.specs.Calls.{write};
-ghost use Rattle.memory.specs.Memories.{IsMemory};
-ghost use lib.ListN.{length};
-ghost use Rattle.rules.specs.Skeleton.{Config};
-ghost use Rattle.guard_state.specs.State.{stateOf, numbersIn, filePages};
-ghost use Rattle.outcomes.specs.Sent.{Sends};
-ghost use Rattle.outcomes.specs.Contracts.{AcceptsAsking, Begins};
-ghost use Rattle.numbers.specs.Slices.{KeepsLength};
-ghost use Rattle.requests.specs.Room.{HoldsRequest};
-ghost use mathlib.Core.Bool.{true};
-ghost use Rattle.handle_calls.specs.Judged.{Judgement};
-ghost use Rattle.handle_calls.specs.declared.Handled.the-variants.{Open};
 ghost use mathlib.Core.List.{List};
+ghost use mathlib.Core.Path.{_≡_};
+ghost use Prim.Native.Nat.{ℕ, _<_, _≤_, _+_, _*_};
+ghost use lib.ListN.{length};
+ghost use Rattle.filesystem.specs.Tables.{NODES, PAGE-BYTES, DATA-BYTES};
+ghost use Rattle.rules.specs.Calls.{write};
 ghost use Rattle.rules.specs.Pages.{writing, fetches};
+ghost use Rattle.rules.specs.Skeleton.{Config};
 ghost use Rattle.machine.specs.Machine.{guard as digestStore, askStore, onPage, pagesFrom, finishChange};
-ghost use Rattle.page_changes.specs.Sending.{Sending};
-ghost use Rattle.page_changes.specs.Contracts.{Goes, StartsAt};
-ghost use Rattle.writes.specs.Writing.{Writing, writeIn};
+ghost use Rattle.numbers.specs.Slices.{KeepsLength};
+ghost use Rattle.memory.specs.Layout.{openRows, newDigests};
+ghost use Rattle.memory.specs.Memories.{IsMemory};
 ghost use Rattle.guard_state.specs.Calls.{FETCHING, STORING};
+ghost use Rattle.guard_state.specs.State.{stateOf, numbersIn, filePages};
+ghost use Rattle.outcomes.specs.Contracts.{AcceptsAsking, Begins};
+ghost use Rattle.outcomes.specs.Sent.{Sends};
+ghost use Rattle.requests.specs.Room.{HoldsRequest};
+ghost use Rattle.handle_calls.specs.Judged.{Judgement};
+ghost use Rattle.page_changes.specs.Contracts.{Goes, StartsAt};
+ghost use Rattle.page_changes.specs.Sending.{Sending};
+ghost use Rattle.writes.specs.Writing.{Writing, writeIn};
 use guard_state::Guard;
 
 const FILE_PAGES: usize = Guard::FILE_BYTES / Guard::PAGE_BYTES;
