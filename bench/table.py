@@ -31,6 +31,10 @@ EXPLAINED = {
         "not in every run: 1.03, 1.03 and 1.09 in three of one build, at 1.01 of the instructions; the cause"
         " was not found"
     ),
+    "refused 22, a path's form": (
+        "the header's numbers are loaded twice: where a call by path is dispatched, to see that there is a node, and"
+        " by its family"
+    ),
     "truncate, on an edge": (
         "the digests behind the file are moved 16 bytes at a time, where the C library's memmove has vectors"
         " of 32; and pages are summed over the nodes, where plain C keeps in each node where its digests begin"

@@ -151,7 +151,7 @@ static void set_up(const char *directory)
     must(the_host != NULL && mkdir(straight, 0700) == 0, "no directory");
     direct = open(straight, O_RDONLY | O_DIRECTORY);
     must(mkdirat(direct, "many", 0700) == 0 && mkdirat(direct, "list", 0700) == 0, "mkdirat");
-    client_begin(&c, timed_host, the_host);
+    client_begin(&c, timed_host, the_host, NULL);
     must(client_mkdir(&c, "/many", 7).kind == GUARD_DONE && client_mkdir(&c, "/list", 7).kind == GUARD_DONE, "mkdir");
     for (int k = 0; k < FILES; k++) {
         char name[32];
