@@ -20,8 +20,8 @@ EXPLAINED = {
         " cause was not found"
     ),
     "readdir, 255 children": (
-        "1.42 to 1.45 in three runs of this build, 1.14 in one of the build before, at 1.03 of the"
-        " instructions in both; the cause was not found"
+        "1.36 to 1.45 in six runs of three builds, 1.14 in one of a build before, at 1.03 or 1.04 of the instructions;"
+        " the cause was not found"
     ),
     "save, 23 bytes": (
         "not in every run: 1.15, 1.04 and 1.10 in three of one build, at 1.01 of the instructions; the cause"
