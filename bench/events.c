@@ -34,15 +34,18 @@ static void open_file(const char *path, uint32_t handle)
     expect(reply("\5\0\0\0", 4), DONE, handle);
 }
 
-/* The root and /a, a file of eight pages, which is open. */
-static void small(void)
+/* The root and /a, a file of this size, which is open. */
+static void one_file(uint32_t size)
 {
     begin_image(2);
     add_root();
-    add_node(2, 1, 1, SIZE, "a");
+    add_node(2, 1, 1, size, "a");
     load_image();
     open_file("/a", 2);
 }
+
+static void small(void) { one_file(SIZE); }
+static void empty(void) { one_file(0); }
 
 /* Nodes of 12-byte names: files of four pages in the root, one of eight among them, and behind them a path eight
  * deep. */
@@ -118,6 +121,14 @@ static void step_seek(void) { expect(call(handle_call, POSITION_CALL), DONE, 0);
 static void step_read(void) { expect(answered(call(handle_call, 9)), DONE, count); }
 static void step_write(void) { expect(answered(call(handle_call, 5 + count)), DONE, count); }
 static void step_truncate(void) { expect(answered(call(handle_call, POSITION_CALL)), DONE, 0); }
+
+/* The file's last page only in part. */
+static void full_part(void)
+{
+    full_open();
+    by_handle(GUARD_TRUNCATE, FILE_PLACE + 1, 7 * PAGE + 100, 8);
+    step_truncate();
+}
 
 static char path_call[2 + PATH];
 static size_t path_length;
@@ -226,6 +237,10 @@ static const struct row rows[] = {
     {"truncate, on an edge", full_open, restore, step_truncate, GUARD_TRUNCATE, 3 * PAGE, 0, {0, 0, 0, 1}},
     {"truncate, inside a page", full_open, restore, step_truncate, GUARD_TRUNCATE, 3 * PAGE + 100, 0,
         {2, PAGE, PAGE, 1}},
+    {"grow, inside the last page", full_part, restore, step_truncate, GUARD_TRUNCATE, 8 * PAGE, 0, {0, 0, 0, 1}},
+    {"grow by 32 pages", full_open, restore, step_truncate, GUARD_TRUNCATE, 40 * PAGE, 0, {0, 0, 32 * DIGEST, 1}},
+    {"grow by 64 pages, two nodes", empty, restore, step_truncate, GUARD_TRUNCATE, 64 * PAGE, 0,
+        {0, 0, 64 * DIGEST, 1}},
     {"readdir, 255 children", largest, NULL, step_readdir, GUARD_READDIR, 0, NODES - 1, {0, 0, ANSWER, NODES}},
     {"readdir, 255 shuffled", largest, NULL, step_readdir, GUARD_READDIR, 1, NODES - 1, {0, 0, ANSWER, NODES}},
     {"save, 23 bytes", smallest, NULL, step_save, NO_CALL, 0, 0, {1, 23, 23, 1}},
@@ -252,7 +267,7 @@ static void deep_path(char *path, size_t depth)
 static void make_call(const struct row *r)
 {
     char path[PATH + 1];
-    file_handle = r->table == small ? 2 : FILE_PLACE + 1;
+    file_handle = r->table == small || r->table == empty ? 2 : FILE_PLACE + 1;
     position = r->position;
     count = r->count;
     switch (r->kind) {

@@ -32,8 +32,16 @@ EXPLAINED = {
         " was not found"
     ),
     "refused 22, a path's form": (
-        "the header's numbers are loaded twice: where a call by path is dispatched, to see that there is a node, and"
-        " by its family"
+        "three functions, each of which saves its registers: of 248 instructions the entry with the call read takes 123,"
+        " the family 38, the path's form 87; plain C is one function of 150"
+    ),
+    "grow, inside the last page": (
+        "311 instructions: each number of the header is set anew as the call begins and as it ends, some thirty stores;"
+        " plain C sets those that it uses"
+    ),
+    "grow by 32 pages": (
+        "as for a truncation on an edge: the digests behind the file are moved 16 bytes at a time, and pages are summed"
+        " over the nodes, for the room before and for the rows after"
     ),
     "truncate, on an edge": (
         "the digests behind the file are moved 16 bytes at a time, where the C library's memmove has vectors"

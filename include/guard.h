@@ -36,7 +36,7 @@
 extern "C" {
 #endif
 
-#define GUARD_VERSION "1.1"
+#define GUARD_VERSION "1.2"
 
 /* How the functions of these headers are compiled: inline, in each program that includes them. Whoever cannot use inline
  * functions takes libguard_client.so, which has each of them and the archive's entries as symbols (guard_exports.c,
@@ -104,8 +104,9 @@ enum {
  *     stat            path                               the size, and the reply's bytes the call itself
  *
  * Reads and writes begin at the file's cursor, which is 0 after an open, and move it; a read ends at the end of the
- * file. A position is at most the size, and a truncation makes no file longer; a cursor that stood behind the new end
- * then stands at that end, unlike POSIX. A read or write of no bytes and a truncation to the same size ask for nothing.
+ * file. A position is at most the size. A truncation to more than the size makes the file longer by zeros, and asks for
+ * one cut; the cursor stays. After one to less, a cursor that stood behind the new end is at that end, unlike POSIX.
+ * A read or write of no bytes and a truncation to the same size ask for nothing.
  *
  * Bits that a mode must have, else GUARD_BARRED (4.8, 7.6, 7.7):
  *
@@ -127,7 +128,7 @@ enum {
  *     close      4, descriptor (4)
  *     fetch      6, descriptor (4), page (4)
  *     store      7, descriptor (4), page (4), size (4), the page's 1,024 bytes: the file then has this size
- *     cut        8, descriptor (4), size (4)
+ *     cut        8, descriptor (4), size (4): the file then has this size, and zeros where it is longer than before
  *
  *     create, mkdir                                      an id (4), not 0, that no node has; the root has 1
  *     open                                               a descriptor (4), 0 to 1,023, that no open file has
@@ -147,7 +148,7 @@ enum {
     GUARD_PENDING = 114,        /* EALREADY      a call, save or load while a request is pending */
     GUARD_NOT_PENDING = 61,     /* ENODATA       a reply, but no request is pending */
     GUARD_SHORT_BUFFER = 34,    /* ERANGE        the answer, request or image buffer is too short */
-    GUARD_MALFORMED = 22,       /* EINVAL        the form of a call or path; seek or truncate beyond the size */
+    GUARD_MALFORMED = 22,       /* EINVAL        the form of a call or path; a seek beyond the size */
     GUARD_TOO_LONG = 36,        /* ENAMETOOLONG  a component over 32 bytes, a path over 255 */
     GUARD_NOT_DIRECTORY = 20,   /* ENOTDIR       a path leads through a file; rmdir or readdir of a file */
     GUARD_BARRED = 13,          /* EACCES        the mode lacks a bit */
@@ -158,8 +159,8 @@ enum {
     GUARD_NOT_EMPTY = 39,       /* ENOTEMPTY     rmdir of a directory with children */
     GUARD_TOO_MANY_OPEN = 24,   /* EMFILE        32 files are open */
     GUARD_BAD_HANDLE = 9,       /* EBADF         not open, or without the right */
-    GUARD_TOO_BIG = 27,         /* EFBIG         a write would pass 65,536 bytes */
-    GUARD_FULL = 28,            /* ENOSPC        256 nodes, or more than 1,024 pages */
+    GUARD_TOO_BIG = 27,         /* EFBIG         a write or truncation beyond 65,536 bytes */
+    GUARD_FULL = 28,            /* ENOSPC        256 nodes; over 1,024 pages after a write or truncation */
     GUARD_WRONG_DIGEST = 74,    /* EBADMSG       a load: the image has another digest, or the digest has not 32 bytes */
     GUARD_UNSOUND_IMAGE = 84    /* EILSEQ        a load: no guard saves such an image */
 };
@@ -170,7 +171,7 @@ enum {
     GUARD_STOP_STATUS = 2,     /* a status that is not the right one */
     GUARD_STOP_ID = 3,         /* an id that is 0 or that a node has */
     GUARD_STOP_DESCRIPTOR = 4, /* a descriptor out of range or that an open file has */
-    GUARD_STOP_PAGE = 5,       /* a page that is not the one that was stored */
+    GUARD_STOP_PAGE = 5,       /* a page with another digest than the one that is kept */
     GUARD_STOP_STAT = 6,       /* a stat that differs from what the guard keeps */
     GUARD_STOP_LISTING = 7     /* a listing that lacks a child, has one twice or one that is not there, or is malformed */
 };

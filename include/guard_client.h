@@ -329,7 +329,7 @@ GUARD_FUNCTION const char *guard_number_text(uint64_t number)
     case GUARD_PENDING: return "busy: a request is pending";
     case GUARD_NOT_PENDING: return "unasked: no request is pending";
     case GUARD_SHORT_BUFFER: return "short: a lent buffer is too short";
-    case GUARD_MALFORMED: return "malformed: the form of the call or path, or beyond the size";
+    case GUARD_MALFORMED: return "malformed: the form of the call or path, or a seek beyond the size";
     case GUARD_TOO_LONG: return "long: a component over 32 bytes or a path over 255";
     case GUARD_NOT_DIRECTORY: return "no folder: a file where a directory is needed";
     case GUARD_BARRED: return "barred: the mode lacks a bit";
@@ -356,7 +356,7 @@ GUARD_FUNCTION const char *guard_stop_text(uint64_t reason)
     case GUARD_STOP_STATUS: return "status: not the right one";
     case GUARD_STOP_ID: return "id: 0, or a node has it";
     case GUARD_STOP_DESCRIPTOR: return "descriptor: out of range, or an open file has it";
-    case GUARD_STOP_PAGE: return "page: not the one that was stored";
+    case GUARD_STOP_PAGE: return "page: not the one that the file has";
     case GUARD_STOP_STAT: return "stat: not the node's";
     case GUARD_STOP_LISTING: return "listing: not what the directory holds";
     default: return "no reason of the guard";

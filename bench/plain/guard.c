@@ -352,15 +352,20 @@ static outcome call_write(struct plain_guard *g, struct open_file *o, const uint
 
 static outcome call_truncate(struct plain_guard *g, struct open_file *o, uint64_t size, uint8_t *request)
 {
+    uint32_t before = g->node[o->node].size;
     if (!(o->rights & RIGHT_WRITE))
         return refused(9);
-    if (size > g->node[o->node].size)
-        return refused(22);
-    if (size == g->node[o->node].size)
+    if (size > FILE_BYTES)
+        return refused(27);
+    if (g->pages - pages_for(before) + pages_for((uint32_t)size) > PAGES)
+        return refused(28);
+    if (size == before)
         return done(0, 0);
     g->pending = pending_on(g, o, TRUNCATE);
     g->pending.end = (uint32_t)size;
-    return size % PAGE ? ask_fetch(g, CUT_FETCH, (uint32_t)size / PAGE, request) : ask_cut(g, request);
+    if (size < before && size % PAGE)
+        return ask_fetch(g, CUT_FETCH, (uint32_t)size / PAGE, request);
+    return ask_cut(g, request);
 }
 
 /* Whether a call by handle has exactly its fields, each within its limit. */
@@ -632,15 +637,24 @@ static outcome stored_cut(struct plain_guard *g, const uint8_t *reply, size_t n,
     return fault ? stop(g, fault) : ask_cut(g, request);
 }
 
+/* The SHA-256 of a page of zeros. */
+static const uint8_t zeros_digest[DIGEST] = {
+    0x5f, 0x70, 0xbf, 0x18, 0xa0, 0x86, 0x00, 0x70, 0x16, 0xe9, 0x48, 0xb0, 0x4a, 0xed, 0x3b, 0x82,
+    0x10, 0x3a, 0x36, 0xbe, 0xa4, 0x17, 0x55, 0xb6, 0xcd, 0xdf, 0xaf, 0x10, 0xac, 0xe3, 0xc6, 0xef,
+};
+
 static outcome cut(struct plain_guard *g, const uint8_t *reply, size_t n)
 {
     const struct pending *p = &g->pending;
     struct open_file *o = g->open + p->opened;
+    uint32_t first = g->node[p->node].first, before = pages_for(g->node[p->node].size);
     unsigned fault = status_fault(reply, n, 0);
     if (fault)
         return stop(g, fault);
     resize(g, p->node, p->end);
-    memcpy(g->digest[g->node[p->node].first + p->end / PAGE], g->staged, (size_t)DIGEST * p->digests);
+    memcpy(g->digest[first + p->end / PAGE], g->staged, (size_t)DIGEST * p->digests);
+    for (uint32_t page = before; page < pages_for(p->end); page++)
+        memcpy(g->digest[first + page], zeros_digest, DIGEST);
     o->cursor = smaller(o->cursor, p->end);
     return finish(g, 0, 0);
 }

@@ -167,6 +167,8 @@ static void first_life(stage *s)
     row(s, client_create(c, "/cellar/note", 7), GUARD_DONE, 4, "create /cellar/note, mode 7");
     row(s, client_open(c, "/cellar/note", 2), GUARD_DONE, 4, "open /cellar/note, write");
     row(s, client_write(c, 4, note, sizeof note - 1), GUARD_DONE, sizeof note - 1, "write a line");
+    row(s, client_truncate(c, 4, 65536), GUARD_DONE, 0, "truncate to 65,536: zeros behind");
+    row(s, client_truncate(c, 4, sizeof note - 1), GUARD_DONE, 0, "truncate to the line again");
     row(s, client_read(c, 4, 10), GUARD_REFUSED, GUARD_BAD_HANDLE, "read without the right to");
     row(s, client_close(c, 4), GUARD_DONE, 0, "close");
     row(s, client_open(c, "/cellar/keys", 1), GUARD_REFUSED, GUARD_ABSENT, "open /cellar/keys, read");

@@ -26,8 +26,9 @@ Before: `/a` (2,500 bytes) and `/b` (2,048) are open, `/d` holds `/d/c`.
 """
 
 EVERY = [  # the requests that the setup has not
-    calls.read(A, 2500), calls.truncate(A, 1000), calls.chmod(5, b"/a"), calls.stat(b"/a"), calls.readdir(b"/"),
-    calls.readdir(b"/d"), calls.stat(b"/d"), calls.close(A), calls.remove(b"/d/c"), calls.rmdir(b"/d"),
+    calls.read(A, 2500), calls.truncate(A, 1000), calls.truncate(A, 3000), calls.read(A, 3000), calls.chmod(5, b"/a"),
+    calls.stat(b"/a"), calls.readdir(b"/"), calls.readdir(b"/d"), calls.stat(b"/d"), calls.close(A),
+    calls.remove(b"/d/c"), calls.rmdir(b"/d"),
 ]
 
 

@@ -1,6 +1,7 @@
 """A host that is honest but in one thing. What it has not done it does not know later: it replies what it has."""
 
 from model.host import REQUESTS, Host
+from model.rules import pages_of
 from model.script import Unrandom
 
 FAILED = (-2).to_bytes(4, "little", signed=True)  # the right reply to nothing but a create
@@ -18,7 +19,7 @@ class Dishonest(Host):
         self.is_armed = False
         self.asked = 0
         self.first = None  # the number of the request at which it was dishonest first
-        self.old = {}  # pages that were overwritten, the first of each
+        self.old = {}  # pages that were overwritten, the first of each; those that were cut off
 
     def reply(self, request):
         self.asked += 1
@@ -41,3 +42,10 @@ class Dishonest(Host):
         file = self.open_files[descriptor]
         self.old.setdefault((file.id, page), file.page(page))
         return super().store(fields)
+
+    def cut(self, fields):
+        descriptor, size = (int.from_bytes(fields[at : at + 4], "little") for at in (0, 4))
+        file = self.open_files[descriptor]
+        for page in range(pages_of(size), pages_of(len(file.data))):
+            self.old[file.id, page] = file.page(page)
+        return super().cut(fields)

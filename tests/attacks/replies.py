@@ -117,6 +117,17 @@ def changed_behind(host, name, fields):
     return host.obey(b"\x0d/d")
 
 
+def grows(added):
+    """A cut that makes a file longer, by other bytes than zeros."""
+    def act(host, fields):
+        file, size = host.open_files[unsigned(fields[:4])], unsigned(fields[4:])
+        if size <= len(file.data):
+            return None
+        file.data += added * (size - len(file.data))
+        return status(0)
+    return on("cut", act)
+
+
 def listed(make):
     return on("readdir", lambda host, fields: make(host.readdir(fields)))
 
@@ -242,6 +253,15 @@ ROWS = [
         only_says("cut", status(0)), "harmless"),
     Row(SIZE, "cuts to another size, and answers right", [calls.truncate(A, 2048), *READ_A],
         on("cut", lambda host, fields: host.cut(fields[:4] + put(1000, 4))), "later 5"),
+    Row(f"{SIZE}, TP13", "ignores a cut that makes the file longer, and answers right; the client asks for the size",
+        [calls.truncate(A, 4000), calls.stat(b"/a")], only_says("cut", status(0)), "later 6"),
+    Row("own: what is added is zero", "makes the file longer by bytes that are not zero, and answers right",
+        [calls.truncate(A, 4000), *READ_A], grows(b"x"), "later 5"),
+    Row("own: what is added is zero", "makes the file longer by bytes that are not zero; an added page is read",
+        [calls.truncate(A, 4000), calls.seek(A, 3072), calls.read(A, 100)], grows(b"x"), "later 5"),
+    Row(f"{CONTENT}; 002, III (replay)", "gives a page of before a cut, once the file is as long again",
+        [calls.truncate(A, 1024), calls.truncate(A, 2500), *READ_A],
+        on("fetch", lambda h, f: stale(h, h.open_files[0], 1) if f[4] == 1 else None), "now 5"),
     Row(SIZE, "tells a larger size", [calls.stat(b"/a")], on("stat", lambda host,
         fields: host.stat(fields)[:6] + put(2501, 4)), "now 6"),
     # error codes

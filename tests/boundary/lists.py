@@ -7,7 +7,7 @@ from random import Random
 
 from model import calls
 from model.events import Call, Reply, Save
-from model.generate import generate
+from model.generate import generate, generate_growing
 from model.image import LONGEST
 from model.longer import longer
 from model.rules import ANSWER, REQUEST
@@ -26,8 +26,8 @@ def pair(seed):
 
 
 def generated(seed):
-    """A list from a seed, with its outcomes; now and then buffers are longer."""
-    recording = generate(seed)
+    """A list from a seed, with its outcomes, every fifth of growing files; now and then buffers are longer."""
+    recording = generate(seed) if seed % 5 else generate_growing(seed)
     if not recording.guard.stopped:
         settle(recording)
     random = Random(seed)

@@ -239,6 +239,7 @@ static void run_session(void)
     at_handle(GUARD_SEEK, a, 1, 8);
     at_handle(GUARD_READ, a, GUARD_TRANSFER_LENGTH, 4);
     at_handle(GUARD_TRUNCATE, a, 1030, 8);
+    at_handle(GUARD_TRUNCATE, a, 3100, 8);
     at_path(GUARD_STAT, -1, "/d/a");
     at_path(GUARD_READDIR, -1, "/d");
     at_path(GUARD_CHMOD, 4, "/d/a");

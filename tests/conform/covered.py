@@ -23,7 +23,8 @@ WANTED = {
         f"{call} {place}"
         for call in ("read", "write")
         for place in ("up to an edge", "one byte short of it", "one byte over it", "from an edge", "over several pages")
-    ] + ["truncate to an edge", "truncate within a page", "truncate to 0", "a file that grows after it was cut"],
+    ] + ["truncate to an edge", "truncate within a page", "truncate to 0", "a file that grows after it was cut"]
+    + [f"growth {place}" for place in ("within a page", "to an edge", "over several pages", "from 0", "after a cut")],
     "restarts": [
         "saves", "from no save", "power loss", "killed between two requests", "killed within a request",
         "killed within a sync", "killed after a sync", "killed within a start",
@@ -63,7 +64,7 @@ class Covered:
             self.truncation(call, unsigned(call[1 + ID :]), before[0])
         elif call[0] == READDIR:
             self.listing(tree, call)
-        if call[0] in (CREATE, MKDIR, OPEN, WRITE, CHMOD):
+        if call[0] in (CREATE, MKDIR, OPEN, WRITE, TRUNCATE, CHMOD):
             self.limits(tree)
 
     def transfer(self, tree, call, size, start):
@@ -81,10 +82,21 @@ class Covered:
         self.met("page edges", "a file that grows after it was cut", end > size and handle in self.cut)
 
     def truncation(self, call, size, before):
+        handle = unsigned(call[1 : 1 + ID])
         if size < before:
-            self.cut.add(unsigned(call[1 : 1 + ID]))
+            self.cut.add(handle)
             place = "to 0" if size == 0 else "within a page" if size % PAGE else "to an edge"
             self.met("page edges", f"truncate {place}")
+        elif size > before:
+            self.growth(handle, size, before)
+
+    def growth(self, handle, size, before):
+        pages = len(pages_between(before, size))
+        for place, condition in (
+            ("within a page", before % PAGE and pages == 1), ("to an edge", size % PAGE == 0),
+            ("over several pages", pages > 1), ("from 0", before == 0), ("after a cut", handle in self.cut),
+        ):
+            self.met("page edges", f"growth {place}", condition)
 
     def listing(self, tree, call):
         _, directory = tree.walk(rules.read_path(call[1:]))

@@ -119,7 +119,7 @@ class Host:
 
     def cut(self, fields):
         node, size = self.files[number(fields[:4])], number(fields[4:])
-        del node.data[size:]
+        node.data = node.data[:size].ljust(size, b"\0")
         return four(0)
 
 

@@ -37,6 +37,7 @@ class List:
     def run(self):
         self.client.begin()
         self.enter()
+        self.client.do(calls.readdir(b"/"))  # a full directory, as long as it is full
         hows = list(RESTARTS)
         first = hows[self.turn % len(hows)]
         for how in (first, *self.random.sample(hows, 2)):
@@ -75,6 +76,11 @@ class List:
             do(calls.stat(b"/a"))
             do(calls.seek(handle, size))
             do(calls.write(handle, b"again"))
+        for size in (700, PAGE, 3 * PAGE + 1, 10, 0, 2 * PAGE):
+            do(calls.truncate(handle, size))
+            do(calls.stat(b"/a"))
+            do(calls.seek(handle, 0))
+            do(calls.read(handle, MAX_COUNT))
         build(self.client, deep(MAX_PATH - 4))
         do(calls.create(7, self.paths()[-1] + b"/\xff\n\x01"))
 

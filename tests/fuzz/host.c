@@ -21,8 +21,9 @@ struct tree {
 };
 
 static struct tree tree, saved;
-/* every page that was stored, the latest last */
-static struct { uint32_t id, number; uint8_t page[GUARD_PAGE_LENGTH]; } pages[KEPT];
+/* every page that was stored, the latest last; and that pages from `number` on are zeros, which stands where a file is
+ * made or made shorter */
+static struct { uint32_t id, number; int are_zeros; uint8_t page[GUARD_PAGE_LENGTH]; } pages[KEPT];
 static uint32_t next_id;
 
 static uint32_t field(const uint8_t *at)
@@ -115,11 +116,13 @@ static size_t fetch(const struct node *n, uint32_t number, uint8_t *reply)
 {
     size_t i = tree.stored < KEPT ? tree.stored : KEPT;
     memset(reply, 0, GUARD_PAGE_LENGTH);
-    while (n && i-- > 0)
-        if (pages[i].id == n->id && pages[i].number == number) {
+    while (n && i-- > 0) {
+        if (pages[i].id != n->id || (pages[i].are_zeros ? pages[i].number > number : pages[i].number != number))
+            continue;
+        if (!pages[i].are_zeros)
             memcpy(reply, pages[i].page, GUARD_PAGE_LENGTH);
-            break;
-        }
+        break;
+    }
     return GUARD_PAGE_LENGTH;
 }
 
@@ -162,31 +165,54 @@ size_t host_reply(const uint8_t *request, size_t length, uint8_t *reply)
 
 /* ---- requests that are obeyed */
 
+/* One entry more in the log: a page, or zeros from there on. */
+static void keep(uint32_t id, uint32_t number, const uint8_t *page)
+{
+    if (tree.stored == KEPT) {
+        tree.is_sure = 0;
+        return;
+    }
+    pages[tree.stored].id = id;
+    pages[tree.stored].number = number;
+    pages[tree.stored].are_zeros = !page;
+    if (page)
+        memcpy(pages[tree.stored].page, page, GUARD_PAGE_LENGTH);
+    tree.stored++;
+}
+
 static void store(struct node *n, const uint8_t *request)
 {
     if (!n)
         return;
     n->size = field(request + 9);
-    if (tree.stored == KEPT) {
-        tree.is_sure = 0;
+    keep(n->id, field(request + 5), request + STORED_AT);
+}
+
+static void cut(struct node *n, uint32_t size)
+{
+    if (!n)
         return;
-    }
-    pages[tree.stored].id = n->id;
-    pages[tree.stored].number = field(request + 5);
-    memcpy(pages[tree.stored].page, request + STORED_AT, GUARD_PAGE_LENGTH);
-    tree.stored++;
+    if (size < n->size)
+        keep(n->id, (size + GUARD_PAGE_LENGTH - 1) / GUARD_PAGE_LENGTH, NULL);
+    n->size = size;
+}
+
+static void create(const uint8_t *request, size_t length, uint32_t id)
+{
+    add(id, GUARD_FILE, request[1], request + 2, length - 2);
+    keep(id, 0, NULL); /* another file may have had the id */
 }
 
 void host_obey(const uint8_t *request, size_t length, const uint8_t *reply)
 {
     struct node *opened = by_descriptor(field(request + 1));
     switch (request[0]) {
-    case GUARD_CREATE: add(field(reply), GUARD_FILE, request[1], request + 2, length - 2); break;
+    case GUARD_CREATE: create(request, length, field(reply)); break;
     case GUARD_MKDIR: add(field(reply), GUARD_DIRECTORY, request[1], request + 2, length - 2); break;
     case GUARD_OPEN: by_path(request + 2, length - 2)->descriptor = field(reply); break;
     case GUARD_CLOSE: if (opened) opened->descriptor = NO_DESCRIPTOR; break;
     case GUARD_STORE: store(opened, request); break;
-    case GUARD_CUT: if (opened) opened->size = field(request + 5); break;
+    case GUARD_CUT: cut(opened, field(request + 5)); break;
     case GUARD_REMOVE: case GUARD_RMDIR: take_out(by_path(request + 1, length - 1)); break;
     case GUARD_CHMOD: by_path(request + 2, length - 2)->mode = request[1]; break;
     }

@@ -59,7 +59,7 @@ static void refusals(guard *g)
     expect(guard_save(g, NULL, 0, digest), GUARD_REFUSED, GUARD_SHORT_BUFFER, 0);
 }
 
-/* The version, and the cursor after a truncation: behind the new end it stands at that end. */
+/* The version, and the cursor after a truncation: behind the new end it stands at that end, else it stays. */
 static void notes(guard *g)
 {
     if (strcmp(guard_version(), GUARD_VERSION))
@@ -67,6 +67,9 @@ static void notes(guard *g)
     expect(call(g, "\10\2\0\0\0\5\0\0\0\0\0\0\0", 13), GUARD_DONE, 0, 0); /* to the size that it has */
     expect(call(g, "\10\2\0\0\0\0\0\0\0\0\0\0\0", 13), GUARD_ASK, 0, 9);
     expect(reply(g, "\0\0\0\0", 4), GUARD_DONE, 0, 0);
+    expect(call(g, "\10\2\0\0\0\3\0\0\0\0\0\0\0", 13), GUARD_ASK, 0, 9); /* longer again */
+    expect(reply(g, "\0\0\0\0", 4), GUARD_DONE, 0, 0);
+    expect(call(g, "\10\2\0\0\0\1\0\1\0\0\0\0\0", 13), GUARD_REFUSED, GUARD_TOO_BIG, 0);
     expect(call(g, "\7\2\0\0\0hello", 10), GUARD_ASK, 0, GUARD_REQUEST_LENGTH); /* at 0: no fetch, five bytes in all */
     expect(reply(g, "\0\4\0\0", 4), GUARD_DONE, 5, 0);
 }

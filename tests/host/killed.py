@@ -10,6 +10,8 @@ After a stop the next look begins with a new load.
 In a third of the lists the machine loses power: what was not synced is there or not, of the tree and of the host's
 table (lost.py). In a third a file is damaged. Unless one is, a node that no call has named since the save is served:
 no stop.
+
+Before the lists, what docs/INTEGRATION.md, 6, tells of a growing cut that was obeyed.
 """
 
 import shutil
@@ -18,7 +20,8 @@ from pathlib import Path
 from random import Random
 
 from model import calls
-from model.rules import CHMOD, CREATE, DIRECTORY, MAX_COUNT, MKDIR, READ_RIGHT, REMOVE, RMDIR, TRUNCATE, WRITE, unsigned
+from model.rules import CHMOD, CREATE, DIRECTORY, MAX_COUNT, MKDIR, PAGE, READ_RIGHT, REMOVE, RMDIR, TRUNCATE
+from model.rules import WRITE, WRITE_RIGHT, unsigned
 
 from .beside import Beside, Caught, Driver, Different, Killed, durable
 from .honest import honest_generator
@@ -29,6 +32,7 @@ POINTS = 80  # the kill comes at one of so many moments
 
 
 KILLED, POWER_LOST, DAMAGED = range(3)
+STOP_STAT = "6"
 
 
 class Noted(Beside):
@@ -148,13 +152,50 @@ class List:
             self.stops += 1
 
 
+GROWTHS = [(0, 1), (700, 701), (700, PAGE), (PAGE, PAGE + 1), (700, 3000)]
+
+
+def grown(program, place, size, more):
+    """Killed after a growing cut: the size is caught, each page served, and the same truncation makes it right."""
+    path = b"/a"
+    beside = Beside(Driver(program, place))
+    beside.do(calls.create(7, path))
+    handle = beside.do(calls.open_(READ_RIGHT | WRITE_RIGHT, path)).number
+    beside.do(calls.write(handle, b"x" * size))
+    beside.save()
+    beside.do(calls.open_(READ_RIGHT | WRITE_RIGHT, path))
+    beside.do(calls.truncate(handle, more))
+    beside.driver.kill()
+    beside.start_again(Driver(program, place))
+    try:
+        beside.do(calls.stat(path))
+        raise Different(f"grown from {size} to {more}: the size is not caught")
+    except Caught as caught:
+        if caught.args != (STOP_STAT,):
+            raise Different(f"grown from {size} to {more}: caught with {caught}")
+    beside.start_again(beside.driver)
+    beside.do(calls.open_(READ_RIGHT | WRITE_RIGHT, path))
+    beside.do(calls.read(handle, MAX_COUNT))
+    beside.do(calls.truncate(handle, more))
+    beside.do(calls.stat(path))
+    beside.do(calls.read(handle, MAX_COUNT))
+    beside.driver.kill()
+
+
+def emptied(place):
+    for old in (place, durable(place)):
+        shutil.rmtree(old, ignore_errors=True)
+    place.mkdir(parents=True)
+
+
 def main():
     program, place, lists = sys.argv[1], Path(sys.argv[2]), int(sys.argv[3])
+    for size, more in GROWTHS:
+        emptied(place)
+        grown(program, place, size, more)
     looks = stops = caught = within = 0
     for seed in range(lists):
-        for old in (place, durable(place)):
-            shutil.rmtree(old, ignore_errors=True)
-        place.mkdir(parents=True)
+        emptied(place)
         trial = List(program, place, seed)
         try:
             trial.run()
@@ -166,6 +207,7 @@ def main():
     if not (0 < caught < lists and 0 < within < lists):
         seen = f"{caught} of {lists} lists saw a stop, {within} were killed within a request"
         raise Different(f"{seen}: nothing is shown by this")
+    print(f"host: killed after {len(GROWTHS)} growing cuts, the size caught, each page served, the truncation done again")
     print(
         f"host: killed in {lists} lists, within a request in {within}; each load done, {looks} nodes looked at, "
         f"{stops} stops in {caught} lists, nothing wrong served"

@@ -122,6 +122,8 @@ TRIALS = {
     "seek beyond the size": lambda files: files.seek(written(files), 11),
     "truncate to the size": lambda files: files.truncate(written(files), 10),
     "truncate beyond the size": lambda files: files.truncate(written(files), 11),
+    "truncate to 65,536": lambda files: files.truncate(written(files), FILE_SIZE),
+    "truncate to 65,537": lambda files: files.truncate(written(files), FILE_SIZE + 1),
     "read at the end": lambda files: files.read(at_end(files, 10), 5),
     "read of 4,096": lambda files: files.read(written(files), TRANSFER),
     "read of 4,097": lambda files: files.read(written(files), TRANSFER + 1),
@@ -146,7 +148,6 @@ BY_HANDLE = """
 trial                    | guard | machine | rule
 truncate, open to read   | 9     | 22      | a truncation needs right 2
 seek beyond the size     | 22    | 0       | a cursor lies between 0 and the size
-truncate beyond the size | 22    | 0       | a truncation makes no file longer
 read of 4,097            | 22    | 0       | a read has a count of 4,096 at most
 write of 4,097           | 22    | 0       | a write has 4,096 bytes at most
 write over 65,536        | 27    | 0       | a write is done as a whole or not at all

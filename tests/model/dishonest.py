@@ -23,6 +23,15 @@ def two_files(s):
     return handle
 
 
+def grown_file(s):
+    """A file that was cut within its first page and then grown to two and a bit, its cursor at 0; its handle."""
+    handle = s.file(b"/a", b"A" * PAGE + b"B" * 10)
+    s.do(calls.truncate(handle, 700))
+    s.do(calls.truncate(handle, 2 * PAGE + 10))
+    s.do(calls.seek(handle, 0))
+    return handle
+
+
 def create(s):
     a_tree(s)
     s.expect("ask", calls.create(7, b"/a"))
@@ -78,6 +87,44 @@ def cut(s):
     s.expect("ask", calls.truncate(s.file(b"/a", b"x"), 0))
 
 
+def cut_that_grows(s):
+    s.expect("ask", calls.truncate(s.file(b"/a", b"12345"), 700))
+
+
+def cut_that_adds_pages(s):
+    s.expect("ask", calls.truncate(s.file(b"/a"), 3000))
+
+
+def read_over_the_old_end(s):
+    s.expect("ask", calls.read(grown_file(s), 800))
+
+
+def read_added_page(s):
+    """A page that was there before the cut, with other bytes."""
+    s.expect("ask", calls.read(grown_file(s), 3 * PAGE))
+    s.expect("ask", Reply(s.truth))
+
+
+def read_last_added_page(s):
+    read_added_page(s)
+    s.expect("ask", Reply(s.truth))
+
+
+def write_to_an_added_page(s):
+    handle = grown_file(s)
+    s.do(calls.seek(handle, PAGE))
+    s.expect("ask", calls.write(handle, b"x"))
+
+
+def cut_of_an_added_page(s):
+    s.expect("ask", calls.truncate(grown_file(s), PAGE + 5))
+
+
+def stat_of_a_grown_file(s):
+    grown_file(s)
+    s.expect("ask", calls.stat(b"/a"))
+
+
 def remove(s):
     a_tree(s)
     s.expect("ask", calls.remove(b"/d/y"))
@@ -124,6 +171,8 @@ QUESTIONS = {
     create: 3, mkdir: 3, open_: 4, close: 2, read_first_page: 5, read_last_page: 5, fetch_of_a_write: 5,
     fetch_of_a_truncation: 5, store_first_page: 2, store_last_page: 2, store_of_a_truncation: 2, cut: 2, remove: 2,
     rmdir: 2, chmod: 2, readdir: 7, readdir_of_one: 7, readdir_of_none: 7, stat: 6, stat_of_a_directory: 6,
+    cut_that_grows: 2, cut_that_adds_pages: 2, read_over_the_old_end: 5, read_added_page: 5, read_last_added_page: 5,
+    write_to_an_added_page: 5, cut_of_an_added_page: 5, stat_of_a_grown_file: 6,
 }
 
 

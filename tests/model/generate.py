@@ -29,7 +29,7 @@ WORLDS = [
     (files(*[0] * (MAX_NODES - 2)), 2, [CREATE, MKDIR, CHMOD]),
     (files(*[3] * (MAX_OPEN + 1)), MAX_OPEN - 1, [OPEN]),
     (files(MAX_SIZE - 1, 3), 2, [WRITE, READ]),
-    (files(*FULL[1:], MAX_SIZE - PAGE, 0), 2, [WRITE, SEEK]),
+    (files(*FULL[1:], MAX_SIZE - PAGE, 0), 2, [WRITE, SEEK, TRUNCATE]),
     (files(*FULL[1:], MAX_SIZE - 1, 0), 2, [WRITE, TRUNCATE]),
     (deep(222), 0, [CREATE, MKDIR]),
 ]
@@ -45,6 +45,11 @@ def generate_longer(seed, length=50):
     recording = generate(seed, length)
     recording.steps = longer_steps(Random(seed), recording.steps)
     return recording
+
+
+def generate_growing(seed, length=50):
+    """A list of truncations before all."""
+    return GrowingGenerator(Random(seed)).run(length)
 
 
 def generate_for_desk(seed, length=50):
@@ -116,7 +121,10 @@ class Generator:
         for node in self.guard.nodes[len(nodes) - opened :]:
             self.recording.do(calls.open_(READ_RIGHT | WRITE_RIGHT, self.path_of(node)))
             self.recording.do(calls.seek(node.id, node.size))
-        for kind in leaning:
+        self.lean(leaning)
+
+    def lean(self, kinds):
+        for kind in kinds:
             self.weights[kind] += 10
 
     def event(self):
@@ -236,7 +244,7 @@ class Generator:
 
     def truncate_call(self, kind):
         handle = self.handle()
-        return calls.truncate(handle, self.place(handle))
+        return calls.truncate(handle, self.place(handle) if self.chance(0.4) else self.longer_size(handle))
 
     # what calls name
 
@@ -258,6 +266,14 @@ class Generator:
         anywhere = self.random.randrange(size + 1)
         beyond = (1 << 32) + anywhere
         return max(0, self.pick(0, size, size, size + 1, size - 1, edge, edge - 1, edge + 1, anywhere, beyond))
+
+    def longer_size(self, handle):
+        """More than the size, or too much: near an edge, as many bytes as a file may have, far beyond."""
+        size = self.size(handle)
+        edge = PAGE * (size // PAGE + self.random.randrange(1, 4))
+        far = [MAX_SIZE + 1, (1 << 32) + size + 1, (1 << 64) - 1]
+        near = [size + 1, edge - 1, edge, edge + 1, size + self.random.randrange(1, 2 * PAGE)]
+        return self.pick(*near, *near, MAX_SIZE - 1, MAX_SIZE, MAX_SIZE, self.pick(*far))
 
     def path_of(self, node):
         path = b""
@@ -295,6 +311,21 @@ class Generator:
         while length - len(start) > MAX_NAME + 1:
             start += b"/" + b"n" * min(MAX_NAME, length - len(start) - 3)
         return start + b"/" + b"m" * (length - len(start) - 1)
+
+
+class GrowingGenerator(Generator):
+    """Files are open, from the start and for long; truncations come most, then what shows the bytes that they leave,
+    and lies are about these.
+    """
+
+    def __init__(self, random):
+        super().__init__(random)
+        self.lean([*[TRUNCATE] * 4, SEEK, READ, READ, WRITE, STAT])
+        self.lies_about = self.pick(TRUNCATE, READ, READ, STAT)
+        self.images /= 5
+
+    def start(self):
+        self.pick(*[self.make_files] * 5, self.enter_world)()
 
 
 MAKERS = {

@@ -116,7 +116,8 @@ class Host:
         return put(PAGE, 4)
 
     def cut(self, fields):
-        del self.open_files[unsigned(fields[:4])].data[unsigned(fields[4:]) :]
+        file, size = self.open_files[unsigned(fields[:4])], unsigned(fields[4:])
+        file.data = file.data[:size].ljust(size, b"\0")
         return put(0, 4)
 
     def remove(self, path):

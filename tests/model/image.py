@@ -99,11 +99,8 @@ def parents_come_first(nodes):
 
 
 def path_lengths(nodes):
-    """The length of each full path: a slash and a name for each step from the root."""
-    by_id = {node.id: node for node in nodes}
-    for node in nodes:
-        length = 0
-        while node is not nodes[0]:
-            length += 1 + len(node.name)
-            node = by_id[node.parent]
-        yield length
+    """The length of each full path: that of its parent, which is earlier, a slash and the name."""
+    lengths = {nodes[0].id: 0}
+    for node in nodes[1:]:
+        lengths[node.id] = lengths.get(node.parent, 0) + 1 + len(node.name)
+    return lengths.values()

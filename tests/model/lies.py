@@ -1,7 +1,8 @@
 """Hosts that lie: wrong replies of every sort, the traps (SPECIFICATION 11.2) among them.
 
-A lying host is an honest one that remembers: the pages that were overwritten and the replies it gave. `lies` gives
-every wrong reply that it knows to the pending request, each under a name. Each is wrong for certain: a guard must stop.
+A lying host is an honest one that remembers: the pages that were overwritten or cut off, the sizes of before a cut, and
+the replies it gave. `lies` gives every wrong reply that it knows to the pending request, each under a name. Each is
+wrong for certain: a guard must stop.
 """
 
 from . import rules
@@ -13,6 +14,7 @@ class LyingHost(Host):
     def __init__(self, random):
         super().__init__(random)
         self.old_pages = []
+        self.old_sizes = {}
         self.old_replies = []
 
     def reply(self, request):
@@ -22,9 +24,18 @@ class LyingHost(Host):
 
     def store(self, fields):
         descriptor, page = unsigned(fields[:4]), unsigned(fields[4:8])
-        file = self.open_files[descriptor]
-        self.old_pages = [(file.id, page, file.page(page)), *self.old_pages[:20]]
+        self.remember(self.open_files[descriptor], [page])
         return super().store(fields)
+
+    def cut(self, fields):
+        file, size = self.open_files[unsigned(fields[:4])], unsigned(fields[4:])
+        self.remember(file, range(rules.pages_of(size), rules.pages_of(len(file.data))))
+        self.old_sizes[file.id] = len(file.data)
+        return super().cut(fields)
+
+    def remember(self, file, pages):
+        """Pages of before this request."""
+        self.old_pages = [*((file.id, page, file.page(page)) for page in pages), *self.old_pages][:21]
 
     def lies(self, request, truth):
         """Wrong replies by name; the host has obeyed the request and has the truth already."""
@@ -85,6 +96,9 @@ def wrong_pages(host, request, truth):
     end = len(file.data) - page * PAGE
     if end < PAGE:
         yield "a byte past the end", flipped(truth, end)
+    old_page, old_end = divmod(host.old_sizes.get(file.id, 0), PAGE)
+    if old_page == page and old_end:
+        yield "a byte past the old end", flipped(truth, old_end)
     for other in range(rules.pages_of(len(file.data))):
         yield f"page {other}", file.page(other)
     for other in host.root.everything():
@@ -110,6 +124,7 @@ def wrong_stats(host, request, truth):
     yield "another mode", reply(mode=mode ^ 1)
     yield "a larger size", reply(size=size + 1)
     yield "size 0", reply(size=0)
+    yield "the size of before a cut", reply(size=host.old_sizes.get(id, size))
     for entry in host.root.everything():
         yield f"node {entry.id}'s", reply(entry.id, entry.kind, entry.mode, len(entry.data))
 

@@ -14,7 +14,7 @@ import tempfile
 from pathlib import Path
 
 from . import events
-from .generate import generate, generate_longer
+from .generate import generate, generate_growing, generate_longer
 
 PACKAGE = Path(__file__).parent
 COPIED = ["__init__", "events", "rules", "image", "tree", "desk"]
@@ -61,6 +61,21 @@ def asks_parent(place, bit):
 def modulo_256(place):
     """A request with the low byte of its descriptor."""
     return replaced(place, "put(descriptor, 4)", "put(descriptor % 256, 4)")
+
+
+def grown_cursor(place):
+    """Where a growth puts the cursor."""
+    right = "min(file.cursor, call.size)"
+    return replaced("tree.truncate", right, f"{place} if call.size > node.size else {right}")
+
+
+IF_GROWN = "if call.size > node.size"
+GROWN_WITHOUT = """reply = yield rules.cut_request(file.descriptor, call.size)
+            if call.size > node.size:
+                {}
+            else:
+                stop(1, len(reply) != 4)
+                stop(2, rules.signed(reply) != 0)"""
 
 
 def once(source, text):
@@ -285,11 +300,11 @@ MUTATIONS = {
     "27 and 28 exchanged": delayed("tree.write", "refuse(27", "refuse(28"),
     "1,025 pages": replaced("tree.write", "> MAX_PAGES", "> MAX_PAGES + 1"),
     "1,023 pages": replaced("tree.write", "> MAX_PAGES", ">= MAX_PAGES"),
-    "28 counts the file's pages twice": replaced("tree.write", " - pages_of(node.size)", ""),
+    "28 counts the file's pages twice": replaced("tree.pages_with", " - pages_of(node.size)", ""),
     "28 counts each page written as new": replaced(
         "tree.write",
-        "- pages_of(node.size) + pages_of(size)",
-        "+ len(pages_between(start, end))",
+        "self.pages_with(node, size)",
+        "self.page_total() + len(pages_between(start, end))",
     ),
     "a write fetches every page": replaced(
         "tree.write",
@@ -332,19 +347,10 @@ MUTATIONS = {
     ),
     "a write cuts the file": replaced("tree.write", "max(node.size, end)", "end if call.data else node.size"),
     "truncate through a read-only handle": replaced("tree.truncate", ", WRITE_RIGHT", ""),
-    "truncation beyond the size": replaced(
-        "tree.truncate",
-        "refuse(22, call.size > node.size)",
-        "refuse(22, call.size > node.size + 1)",
-    ),
     "truncation's store with the new size": replaced("tree.truncate", "page, node.size, data", "page, call.size, data"),
     "truncation stores no zeros": replaced("tree.truncate", "bytes(PAGE - inside)", "data[inside:]"),
     "truncation on a page edge stores": replaced("tree.truncate", " and inside:", ":"),
-    "truncation to the same size cuts": replaced(
-        "tree.truncate",
-        "if call.size < node.size:",
-        "if call.size <= node.size:",
-    ),
+    "truncation to the same size cuts": replaced("tree.truncate", "if call.size != node.size:", "if True:"),
     "cut with its fields exchanged": replaced(
         "rules.cut_request",
         "put(descriptor, 4) + put(size, 4)",
@@ -353,6 +359,115 @@ MUTATIONS = {
     "truncation leaves the cursor": dropped("tree.truncate", "file.cursor ="),
     "truncation puts the cursor at the end": replaced("tree.truncate", "min(file.cursor, call.size)", "call.size"),
     "truncation is done with the size": replaced("tree.truncate", "Done(0)", "Done(call.size)"),
+    # growth
+    "truncation beyond the size is 22": added("tree.truncate", "refuse(27", "refuse(22, call.size > node.size)"),
+    "truncation beyond 65,536 is 22": replaced("tree.truncate", "refuse(27", "refuse(22"),
+    "truncation never refused 27": dropped("tree.truncate", "refuse(27"),
+    "truncation to 65,537": replaced("tree.truncate", "> MAX_SIZE", "> MAX_SIZE + 1"),
+    "no truncation to 65,536": replaced("tree.truncate", "> MAX_SIZE", ">= MAX_SIZE"),
+    "a size is cut to four bytes": added(
+        "tree.truncate",
+        "refuse(27",
+        "call = replace(call, size=call.size % 2**32)",
+    ),
+    "27 before 9": added("tree.truncate", "self.opened", "refuse(27, call.size > MAX_SIZE)"),
+    "28 before 27 at truncate": delayed("tree.truncate", "refuse(27", "refuse(28"),
+    "truncation never refused 28": dropped("tree.truncate", "refuse(28"),
+    "28 by the size of before a truncation": replaced("tree.truncate", "(node, call.size)", "(node, node.size)"),
+    "truncation to 1,025 pages": replaced("tree.truncate", "> MAX_PAGES", "> MAX_PAGES + 1"),
+    "no truncation to 1,024 pages": replaced("tree.truncate", "> MAX_PAGES", ">= MAX_PAGES"),
+    "no file grows while there are 1,024 pages": added(
+        "tree.truncate",
+        "page, inside",
+        "refuse(28, call.size > node.size and self.page_total() == MAX_PAGES)",
+    ),
+    "a growth fetches and stores": replaced(
+        "tree.truncate",
+        "call.size < node.size and inside",
+        "call.size != node.size and inside",
+    ),
+    "a growth fetches the last old page": added(
+        "tree.truncate",
+        "if call.size != node.size",
+        f"{IF_GROWN}: yield from self.fetch(file, node, node.size // PAGE) if node.size % PAGE else ()",
+    ),
+    "a growth stores the last added page": added(
+        "tree.truncate",
+        "added =",
+        f"{IF_GROWN}: yield from self.store_page(file, pages_of(call.size) - 1, call.size, bytes(PAGE))",
+    ),
+    "a growth cuts to the old size first": added(
+        "tree.truncate",
+        "if call.size != node.size",
+        f"{IF_GROWN}: yield from self.ask_status(rules.cut_request(file.descriptor, node.size))",
+    ),
+    "a growth cuts twice": added(
+        "tree.truncate",
+        "added =",
+        f"{IF_GROWN}: yield from self.ask_status(rules.cut_request(file.descriptor, call.size))",
+    ),
+    "a growth sends nothing": replaced("tree.truncate", "call.size != node.size", "call.size < node.size"),
+    "a growth within a page sends nothing": replaced(
+        "tree.truncate",
+        "call.size != node.size",
+        "call.size < node.size or pages_of(call.size) > len(pages)",
+    ),
+    "a growth cuts to the old size": replaced(
+        "tree.truncate",
+        "(file.descriptor, call.size)",
+        "(file.descriptor, min(call.size, node.size))",
+    ),
+    "a growth cuts to whole pages": replaced(
+        "tree.truncate",
+        "(file.descriptor, call.size)",
+        "(file.descriptor, max(call.size, PAGE * pages_of(call.size) * (call.size > node.size)))",
+    ),
+    "a cut sends two bytes of the size": replaced("rules.cut_request", "put(size, 4)", "put(size % 2**16, 4)"),
+    "a growth takes any status": replaced(
+        "tree.truncate",
+        "yield from self.ask_status(rules.cut_request(file.descriptor, call.size))",
+        GROWN_WITHOUT.format("stop(1, len(reply) != 4)"),
+    ),
+    "a growth takes a status of any length": replaced(
+        "tree.truncate",
+        "yield from self.ask_status(rules.cut_request(file.descriptor, call.size))",
+        GROWN_WITHOUT.format("stop(2, rules.signed(reply[:4]) != 0)"),
+    ),
+    "a growth changes the tables before its reply": added(
+        "tree.truncate",
+        "yield from self.ask_status",
+        "node.size = max(node.size, call.size)",
+    ),
+    "a growth leaves the size": replaced(
+        "tree.truncate",
+        "node.size = call.size",
+        "node.size = min(node.size, call.size)",
+    ),
+    "a growth puts the cursor at the new end": grown_cursor("call.size"),
+    "a growth puts the cursor at the old end": grown_cursor("node.size"),
+    "a growth puts the cursor at 0": grown_cursor("0"),
+    "added pages have the digest of no bytes": replaced("tree.truncate", "keep(bytes(PAGE))", "keep(b'')"),
+    "added pages have no digest": replaced("tree.truncate", "self.store.keep(bytes(PAGE))", "bytes(32)"),
+    "added pages have the digest of the last old page": replaced(
+        "tree.truncate",
+        "[self.store.keep(bytes(PAGE))]",
+        "(pages[-1:] or [self.store.keep(bytes(PAGE))])",
+    ),
+    "the last added page is digested up to the end": replaced(
+        "tree.truncate",
+        "[self.store.keep(bytes(PAGE))] * added",
+        "([self.store.keep(bytes(PAGE))] * added)[1:] + [self.store.keep(bytes(inside or PAGE))] * (added > 0)",
+    ),
+    "a growth takes the last old page for zeros": added(
+        "tree.truncate",
+        "added =",
+        "pages = pages[: node.size // PAGE] if call.size > node.size else pages",
+    ),
+    "only the first added page has the digest of zeros": replaced(
+        "tree.truncate",
+        "* added",
+        "* min(added, 1) + [bytes(32)] * (added - 1)",
+    ),
     # replies
     "a status of another length": dropped("tree.ask_status", "stop(1"),
     "2 before 1": delayed("tree.ask_status", "stop(1", "stop(2"),
@@ -532,8 +647,9 @@ def differs(make_guard, recording):
 
 
 def lists():
-    """The lists that must tell every mutation, by seed; every fifth in longer buffers."""
-    return [(seed, generate(seed) if seed % 5 else generate_longer(seed)) for seed in SEEDS]
+    """The lists that must tell every mutation, by seed; every fifth in longer buffers, every fifth of growing files."""
+    makers = [generate_longer, generate_growing, generate, generate, generate]
+    return [(seed, makers[seed % len(makers)](seed)) for seed in SEEDS]
 
 
 def caught_by(name, recordings):

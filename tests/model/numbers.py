@@ -116,7 +116,6 @@ def n22_malformed_places(s):
     handle = s.file(b"/a", b"12345")
     for wrong in (6, 1 << 32, (1 << 32) + 5, (1 << 64) - 1):
         s.expect("refused 22", calls.seek(handle, wrong))
-        s.expect("refused 22", calls.truncate(handle, wrong))
     s.expect("done 5", calls.seek(handle, 5))
     s.expect("done 0", calls.truncate(handle, 5))
 
@@ -273,6 +272,21 @@ def n27_too_big(s):
     s.expect("done 0", calls.write(2, b""))
 
 
+def n27_too_big_by_truncation(s):
+    """The size has eight bytes: none is left out."""
+    handle = s.file(b"/a", b"12345")
+    too_big = (MAX_SIZE + 1, 1 << 32, (1 << 32) + 4, (1 << 32) + 5, (1 << 32) + 6, (1 << 63) + 5, (1 << 64) - 1)
+    for size in too_big:
+        s.expect("refused 27", calls.truncate(handle, size))
+    s.expect_end("done 0", calls.truncate(handle, MAX_SIZE - 1))
+    s.expect_end("done 0", calls.truncate(handle, MAX_SIZE))
+    for size in too_big:
+        s.expect("refused 27", calls.truncate(handle, size))
+    s.expect("done 0", calls.truncate(handle, MAX_SIZE))
+    s.expect(f"done {MAX_SIZE}", calls.seek(handle, MAX_SIZE))
+    s.expect("refused 27", calls.write(handle, b"x"))
+
+
 def n28_full_of_nodes(s):
     s.load(files(*[0] * 254))
     s.expect_end("done", calls.create(7, b"/a"))
@@ -296,6 +310,27 @@ def n28_full_of_pages(s):
     s.expect_end("done 1", calls.write(17, b"x"))
     s.expect_end("done 0", calls.truncate(18, 0))
     s.expect_end("done 1", calls.write(17, b"x"))
+
+
+def n28_full_of_pages_by_truncation(s):
+    """The 1,024th page is taken, one more is not; within the pages that there are, a file still grows."""
+    s.load(files(*FULL[1:], MAX_SIZE - PAGE, 0))
+    for handle in (17, 18):
+        s.do(calls.open_(2, b"/%d" % handle))
+    s.expect("refused 28", calls.truncate(18, PAGE + 1))
+    s.expect_end("done 0", calls.truncate(18, 1))
+    for size in (PAGE + 1, MAX_SIZE):
+        s.expect("refused 28", calls.truncate(18, size))
+    s.expect("refused 28", calls.truncate(17, MAX_SIZE - PAGE + 1))
+    s.expect_end("done 0", calls.truncate(18, PAGE))
+    s.expect_end("done 0", calls.truncate(17, MAX_SIZE - 2 * PAGE))
+    s.expect("refused 28", calls.truncate(18, 2 * PAGE + 1))
+    s.expect_end("done 0", calls.truncate(18, 2 * PAGE))
+    s.expect("refused 28", calls.truncate(17, MAX_SIZE - 2 * PAGE + 1))
+    s.expect_end("done 0", calls.truncate(18, 0))
+    s.expect_end("done 0", calls.truncate(17, MAX_SIZE))
+    s.expect("refused 28", calls.truncate(18, 1))
+    s.expect("refused 28", calls.write(18, b"x"))
 
 
 def n74_seal(s):
@@ -453,7 +488,7 @@ def both_20_and_13_at_readdir(s):
 def both_9_and_22(s):
     reader = s.file(b"/a", b"12345", rights=1)
     s.expect("refused 9", calls.seek(99, 1 << 32))
-    s.expect("refused 9", calls.truncate(reader, 6))
+    s.expect("refused 9", calls.truncate(reader, 6))  # which would be done with the right
 
 
 def both_9_and_27(s):
@@ -463,12 +498,38 @@ def both_9_and_27(s):
     s.expect("refused 9", calls.write(2, b"x"))
 
 
+def both_9_and_27_at_truncate(s):
+    """Of a handle that lacks the right, of a file that is closed, of none."""
+    s.load(files(5, 5))
+    s.do(calls.open_(1, b"/2"))
+    for handle in (2, 3, 99):
+        for size in (MAX_SIZE + 1, (1 << 32) + 5, (1 << 64) - 1):
+            s.expect("refused 9", calls.truncate(handle, size))
+
+
+def both_9_and_28_at_truncate(s):
+    s.load(files(*FULL[1:], MAX_SIZE, 0))
+    s.do(calls.open_(1, b"/18"))
+    s.expect("refused 9", calls.truncate(18, 1))
+    s.expect("refused 9", calls.truncate(17, MAX_SIZE + 1))
+
+
 def both_27_and_28(s):
     s.load(files(*FULL[1:], MAX_SIZE - 1, 0))
     s.do(calls.open_(2, b"/17"))
     s.do(calls.seek(17, MAX_SIZE - 1))
     s.expect("refused 27", calls.write(17, b"xy"))
     s.expect_end("done 1", calls.write(17, b"x"))
+
+
+def both_27_and_28_at_truncate(s):
+    s.load(files(*FULL[1:], MAX_SIZE - 1, 0))
+    for handle in (17, 18):
+        s.do(calls.open_(2, b"/%d" % handle))
+        s.expect("refused 27", calls.truncate(handle, MAX_SIZE + 1))
+        s.expect("refused 27", calls.truncate(handle, (1 << 64) - 1))
+    s.expect("refused 28", calls.truncate(18, MAX_SIZE))
+    s.expect_end("done 0", calls.truncate(17, MAX_SIZE))
 
 
 def both_114_and_16(s):

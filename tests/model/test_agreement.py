@@ -7,12 +7,18 @@ from random import Random
 
 from .edges import image, sample
 from .events import Done, Load, Save, Stopped
-from .generate import Generator
+from .generate import Generator, GrowingGenerator
+from .rules import unsigned
 from .script import Script, load_of
 from .transcripts import SCRIPTS
 from .tree import guard, tree
 
 SEEDS = range(10_000, 10_150)
+
+
+def generator(seed):
+    """Every third is of growing files."""
+    return (Generator if seed % 3 else GrowingGenerator)(Random(seed))
 
 
 def of_saves(steps):
@@ -27,6 +33,24 @@ def of_saves(steps):
     return events
 
 
+def stops_with(grown, seed):
+    """Whether an honest list stops with a host whose growing cuts leave this of the bytes that were there."""
+    honest = GrowingGenerator(Random(seed))
+    honest.lie = 0
+    host = honest.recording.host
+    right = host.cut
+
+    def cut(fields):
+        file, size = host.open_files[unsigned(fields[:4])], unsigned(fields[4:])
+        after = grown(file.data, size) if size > len(file.data) else None
+        status = right(fields)
+        file.data = file.data if after is None else after
+        return status
+
+    host.cut = cut
+    return any(isinstance(outcome, Stopped) for _, outcome in honest.run(80).steps)
+
+
 class Agreement(unittest.TestCase):
     def agree(self, events):
         one, other = guard(), tree()
@@ -37,7 +61,7 @@ class Agreement(unittest.TestCase):
     def test_generated(self):
         for seed in SEEDS:
             with self.subTest(seed):
-                self.agree(of_saves(Generator(Random(seed)).run(80).steps))
+                self.agree(of_saves(generator(seed).run(80).steps))
 
     def test_scripted(self):
         for script in SCRIPTS:
@@ -48,10 +72,20 @@ class Agreement(unittest.TestCase):
 
     def test_honest_host_never_stops(self):
         for seed in SEEDS:
-            generator = Generator(Random(seed))
-            generator.lie = 0
-            outcomes = [outcome for _, outcome in generator.run(80).steps]
+            honest = generator(seed)
+            honest.lie = 0
+            outcomes = [outcome for _, outcome in honest.run(80).steps]
             self.assertFalse([outcome for outcome in outcomes if isinstance(outcome, Stopped)], seed)
+
+    def test_a_host_that_grows_files_otherwise_is_stopped(self):
+        """The honest lists show what a growing cut must leave: they would not stay honest with such a host."""
+        for grown in (
+            lambda data, size: data,
+            lambda data, size: data.ljust(size, b" "),
+            lambda data, size: bytearray(size),
+            lambda data, size: data.ljust(size + 1, b"\0"),
+        ):
+            self.assertTrue(any(stops_with(grown, seed) for seed in range(100)))
 
     def test_a_load_of_no_save_parts_them(self):
         """It is done in both, changes nothing in the tree, and is taken by the guard."""

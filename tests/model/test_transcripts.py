@@ -12,7 +12,7 @@ class Transcripts(unittest.TestCase):
         cls.lines = list(all_lines())
 
     def test_length(self):
-        self.assertGreaterEqual(len(self.lines), 20_000)
+        self.assertGreaterEqual(len(self.lines), 40_000)
         self.assertLessEqual(max(map(len, self.lines)), 90_000)
 
     def test_same_each_time(self):

@@ -23,13 +23,14 @@ import sys
 
 from . import dishonest, numbers, pages, trials
 from .events import Call, Load, Reply, Save
-from .generate import generate, generate_longer
+from .generate import generate, generate_growing, generate_longer
 from .rules import ANSWER, REQUEST
 from .script import Script
 
 SCRIPTS = [*trials.TRIALS, *numbers.NUMBERS, *numbers.NEIGHBOURS, *pages.PAGES]
 SEEDS = range(100)
 LONGER_SEEDS = range(100, 120)
+GROWING_SEEDS = range(120, 150)
 
 
 def recordings():
@@ -43,6 +44,8 @@ def recordings():
         yield f"seed {seed}", generate(seed)
     for seed in LONGER_SEEDS:
         yield f"seed {seed}, longer buffers", generate_longer(seed)
+    for seed in GROWING_SEEDS:
+        yield f"seed {seed}, growing files", generate_growing(seed)
 
 
 def write_list(name, steps, shown={}):

@@ -196,6 +196,10 @@ class Machine:
     def page_total(self):
         return sum(pages_of(node.size) for node in self.nodes)
 
+    def pages_with(self, node, size):
+        """The pages of all files, once this one has this size."""
+        return self.page_total() - pages_of(node.size) + pages_of(size)
+
     # calls by path
 
     def create(self, call):
@@ -290,7 +294,7 @@ class Machine:
         start, end = file.cursor, file.cursor + len(call.data)
         size = max(node.size, end)
         refuse(27, end > MAX_SIZE)
-        refuse(28, self.page_total() - pages_of(node.size) + pages_of(size) > MAX_PAGES)
+        refuse(28, self.pages_with(node, size) > MAX_PAGES)
         stored = []
         for page in pages_between(start, end):
             data = bytes(PAGE)
@@ -308,19 +312,21 @@ class Machine:
 
     def truncate(self, call):
         file, node = self.opened(call.handle, WRITE_RIGHT)
-        refuse(22, call.size > node.size)
+        refuse(27, call.size > MAX_SIZE)
+        refuse(28, self.pages_with(node, call.size) > MAX_PAGES)
         page, inside = divmod(call.size, PAGE)
-        stored = []
+        pages = node.pages[: pages_of(call.size)]
         if call.size < node.size and inside:
             data = yield from self.fetch(file, node, page)
             data = data[:inside] + bytes(PAGE - inside)
             yield from self.store_page(file, page, node.size, data)
-            stored.append(self.store.keep(data))
-        if call.size < node.size:
+            pages[page] = self.store.keep(data)
+        if call.size != node.size:
             yield from self.ask_status(rules.cut_request(file.descriptor, call.size))
-            node.pages[page:] = stored
-        node.size = call.size
+        added = pages_of(call.size) - len(pages)
+        node.pages = pages + [self.store.keep(bytes(PAGE))] * added
         file.cursor = min(file.cursor, call.size)
+        node.size = call.size
         return Done(0)
 
     # requests with their replies

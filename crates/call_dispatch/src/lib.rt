@@ -6,7 +6,6 @@ ghost use Rattle.call_reader.specs.Meaning.{madeBy, NumberFits};
 ghost use Rattle.requests.specs.Room.{HoldsRequest};
 ghost use Rattle.path_calls.specs.Begun.{BeginsPath};
 ghost use Rattle.call_dispatch.specs.Called.{Calls};
-use guard_state::Guard;
 use limits::kinds;
 
 // A call by path, by its kind. A memory without a node holds no guard.
@@ -20,8 +19,7 @@ fn begin_by_path(
     requires { ⌜ NumberFits kind number × IsMemory m × HoldsRequest request ⌝ }
     ensures { λ r. ⌜ BeginsPath m request path (madeBy kind number) r ⌝ }
 {
-    let g = Guard::load(m);
-    if g.nodes == 0 {
+    if guard_state::node_count(m) == 0 {
         return outcomes::Outcome::Refused(34);
     }
     match kind {

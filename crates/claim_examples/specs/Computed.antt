@@ -1,4 +1,4 @@
--- Three lists of events, and what they come to, over digests that are cheap to compute.
+-- Four lists of events, and what they come to, over digests that are cheap to compute.
 use mathlib.Core.Path.{_≡_, refl}
 use mathlib.Core.Bool.{true}
 use mathlib.Core.List.{List, [], _∷_, _++_, map}
@@ -22,13 +22,15 @@ use Rattle.filesystem.specs.Paths.{joined, pathBytes, componentForm, onto, spli
 use Rattle.filesystem.specs.Image.{nodeForm, imageForm, flatten, divide, climb, pathLength, inLimits, parentsEarlier, soundNodes, sound, print, recordsLength, imageLength, parse}
 use Rattle.filesystem.specs.Digests.{replaced}
 use Rattle.rules.specs.Calls.{callBytes, byPath, byNumberAndPath, byHandle, byHandleAndNumber, byHandleAndBytes, readFields, readCall}
-use Rattle.rules.specs.Pages.{pageAt, pageOf, bytesAt, resized, splice, overlay, pagePart, first, last, fetches, fill, sizeSent, cuts, bytesAfter, sizeAfter, cursorAfter, numberOf}
-use Rattle.rules.specs.Requests.{storeLength, closeRequest, fetchRequest, storeRequest}
+use Rattle.rules.specs.Pages.{pageAt, pageOf, bytesAt, resized, splice, overlay, pagePart, truncating, addedBy, first, last, fetches, fill, sizeSent, cuts, bytesAfter, sizeAfter, cursorAfter, numberOf}
+use Rattle.rules.specs.Requests.{storeLength, isFetch, closeRequest, fetchRequest, storeRequest, cutRequest}
 use Rattle.rules.specs.Rules.{noRoom, callChecks, readAction, callAction, isNumber, isDescriptor, replyChecks, replyAction, isIdle, callOr, imageOr, isNone, eventChecks, eventAction, judge, saving}
 use Rattle.rules.specs.Skeleton.{Config, answerLength, requestLength, Event, call, reply, save, load, Answer, done, ask, refused, stopped, Outcome}
 use Rattle.machine.specs.Machine.{State, imageOf, fresh, readOn, finishChange, pagesStored, askStore, onPage, pagesFrom, apply, step, outcomes, final, zeroDigest, guard}
 use Rattle.machine.specs.Tree.{tree, digestsOf, lookup, goBack}
 use Rattle.machine.specs.Claim.{HonestAt, Honest}
+use Rattle.machine.specs.History.{pages, awaitsPage, pageIn, pageOut, storedPage, pageAdded}
+use Rattle.machine.specs.Seen.{shown, standing, pageReplied, pagesAfter, pagesSeen}
 use Rattle.machine.specs.Honest.{RightFor, Right}
 
 -- the first 32 bytes for a digest
@@ -104,6 +106,18 @@ lastAnswer as′ = getD as′ (length as′ - 1) (refused 0)
 abbrev pub forged : List Event
 forged = threeBytes ++ (c (6 ∷ 2 ∷ 0 ∷ 0 ∷ 0 ∷ 3 ∷ 0 ∷ 0 ∷ 0 ∷ []) ∷ r (replicate 1024 0) ∷ [])
 
+-- A file that grows: to two pages, inside the second, after a cut to the first by a page again. Two of the cuts add a page to the history.
+abbrev pub cutTo : (low high : ℕ) → Event
+cutTo l h = c (8 ∷ 2 ∷ 0 ∷ 0 ∷ 0 ∷ l ∷ h ∷ 0 ∷ 0 ∷ 0 ∷ 0 ∷ 0 ∷ 0 ∷ [])
+
+abbrev pub growths : List Event
+growths =
+    c (1 ∷ 7 ∷ 47 ∷ 97 ∷ []) ∷ r (2 ∷ 0 ∷ 0 ∷ 0 ∷ []) ∷ c (3 ∷ 3 ∷ 47 ∷ 97 ∷ []) ∷ r (status 0) ∷ cutTo 0 5 ∷ r (status 0) ∷ cutTo 9 5 ∷ r (status 0)
+    ∷ cutTo 0 4 ∷ r (status 0) ∷ cutTo 1 4 ∷ r (status 0) ∷ []
+
+abbrev pub zeroPages : List (List ℕ)
+zeroPages = replicate 1024 0 ∷ replicate 1024 0 ∷ []
+
 -- All that is computed here.
 pub record Computed : Type 0 where
   pub guard-does : answersOf (outcomes cheap (guard cheap) (fresh cheap (guard cheap)) honest) ≡ honestAnswers
@@ -115,9 +129,11 @@ pub record Computed : Type 0 where
   pub tree-stops : lastAnswer (answersOf (outcomes cheap (tree cheap) (fresh cheap (tree cheap)) stale)) ≡ stopped 5
   pub guard-taken-in : lastAnswer (answersOf (outcomes constant (guard constant) (fresh constant (guard constant)) forged)) ≡ done 3 (0 ∷ 0 ∷ 0 ∷ [])
   pub tree-not : lastAnswer (answersOf (outcomes constant (tree constant) (fresh constant (tree constant)) forged)) ≡ stopped 5
+  pub growths-kept : pages cheap (guard cheap) (fresh cheap (guard cheap)) growths ≡ zeroPages
+  pub growths-seen : pagesSeen cheap (fresh cheap (tree cheap)) (shown cheap (guard cheap) (fresh cheap (guard cheap)) growths) ≡ zeroPages
 
 pub computed : Computed
-unfolding Honest HonestAt Right RightFor final constant outcomes step judge eventChecks eventAction callChecks callAction readAction replyChecks replyAction isIdle callOr isNone decide pick noRoom apply readOn finishChange pagesStored askStore onPage pagesFrom answerLength requestLength storeLength signed isNumber isDescriptor closeRequest fetchRequest storeRequest pageAt overlay first last fetches fill sizeSent cuts sizeAfter cursorAfter numberOf callBytes byPath byNumberAndPath byHandle byHandleAndNumber byHandleAndBytes readFields readCall joined pathBytes componentForm onto split afterSlash readPath tooLong childAt walk walkChecks parentChecks parentOf lastOf coverTable covers pagesFor pageTotal nodeAt openAt findId findChild children findHandle findDescriptor setMode setSize setCursor bind front get₂ get-as get-all ended whole encode decode every any place select without tab equal cheap imageOr unique put-all nodeForm imageForm flatten divide climb pathLength inLimits parentsEarlier soundNodes sound print recordsLength imageLength parse pageOf bytesAt resized splice pagePart bytesAfter zeroDigest replaced digestsOf lookup goBack
+unfolding pages awaitsPage pageIn pageOut storedPage pageAdded addedBy pagesAfter pageReplied standing shown isFetch cutRequest truncating Honest HonestAt Right RightFor final constant outcomes step judge eventChecks eventAction callChecks callAction readAction replyChecks replyAction isIdle callOr isNone decide pick noRoom apply readOn finishChange pagesStored askStore onPage pagesFrom answerLength requestLength storeLength signed isNumber isDescriptor closeRequest fetchRequest storeRequest pageAt overlay first last fetches fill sizeSent cuts sizeAfter cursorAfter numberOf callBytes byPath byNumberAndPath byHandle byHandleAndNumber byHandleAndBytes readFields readCall joined pathBytes componentForm onto split afterSlash readPath tooLong childAt walk walkChecks parentChecks parentOf lastOf coverTable covers pagesFor pageTotal nodeAt openAt findId findChild children findHandle findDescriptor setMode setSize setCursor bind front get₂ get-as get-all ended whole encode decode every any place select without tab equal cheap imageOr unique put-all nodeForm imageForm flatten divide climb pathLength inLimits parentsEarlier soundNodes sound print recordsLength imageLength parse pageOf bytesAt resized splice pagePart bytesAfter zeroDigest replaced digestsOf lookup goBack
 computed = record {
   guard-does = refl;
   replies-right = (
@@ -134,4 +150,6 @@ computed = record {
   tree-stops = refl;
   guard-taken-in = refl;
   tree-not = refl;
+  growths-kept = refl;
+  growths-seen = refl;
 }

@@ -3,7 +3,7 @@
 use mathlib.Core.Bool.{Bool, not, _&&_}
 use Prim.Native.Nat.{ℕ}
 use lib.Dec.{eqb, leb}
+use Rattle.guard_state.specs.Calls.{IDLE, LAST}
 
--- the numbers of calls are 1 to 13
 unfoldable pub waits : ℕ → Bool
-waits n = not (eqb n 0) && leb n 13
+waits n = not (eqb n IDLE) && leb n LAST

@@ -42,7 +42,7 @@ fn is_pending(number: u64) -> bool
     if number == guard_state::calls::IDLE {
         return false;
     }
-    number <= guard_state::calls::CUTTING
+    number <= guard_state::calls::LAST
 }
 
 // Why an event is refused before what it hands in is looked at: 5, then `busy` where a call is pending and `quiet`

@@ -102,7 +102,8 @@ pub record Agrees (l : Life) : Type 0 where
 -- First half, whatever the host replies: each load that was done carried a digest that an earlier save gave.
 unfoldable pub FirstHalf : Type 0
 FirstHalf = (l : Life) → LoadsSeen [] (l .seen)
-    → Or (Collision sha256 (pagesSeen (l .seen)) ⊎ Collision sha256 (imagesSeen (l .seen))) (Agrees l)
+    → Or (Collision sha256 (pagesSeen delivered freshTree (l .seen)) ⊎ Collision sha256 (imagesSeen (l .seen)))
+    (Agrees l)
 
 -- Second half, under an honest host: nothing stops, and no collision is spoken of.
 unfoldable pub SecondHalf : Type 0
@@ -123,8 +124,8 @@ AgreeLives t (l ∷ ls) =
 unfoldable pub FirstHalfOfLives : Type 0
 FirstHalfOfLives =
     (ls : List Life) → Restarts (allSeen ls) → LoadsOfLives [] (allSeen ls)
-    → Or (Collision sha256 (pagesOfLives (allSeen ls)) ⊎ Collision sha256 (imagesOfLives (allSeen ls)))
-    (AgreeLives freshTree ls)
+    → Or (Collision sha256 (pagesOfLives delivered freshTree (allSeen ls))
+    ⊎ Collision sha256 (imagesOfLives (allSeen ls))) (AgreeLives freshTree ls)
 
 unfoldable pub SecondHalfOfLives : Type 0
 SecondHalfOfLives = (ls : List Life) → Restarts (allSeen ls) → HonestLives delivered freshTree (allSeen ls)

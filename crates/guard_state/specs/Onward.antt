@@ -1,10 +1,10 @@
 -- The header's numbers of a change of a file's bytes: as it begins, and as it goes on from page to page.
---   writeNumbers, shrinkNumbers    as a write, as a truncation begins
---   goesOn call page               as it waits for something else
+--   writeNumbers, truncateNumbers    as a write, as a truncation begins
+--   goesOn call page                 as it waits for something else
 -- Assumes nothing.
 use mathlib.Core.Bool.{false}
 use Prim.Native.Nat.{ℕ}
-use Rattle.guard_state.specs.Calls.{FETCHING, SHRINK-FETCHING}
+use Rattle.guard_state.specs.Calls.{FETCHING}
 use Rattle.guard_state.specs.declared.Guard.{Guard}
 
 -- a write of this many bytes, none of its pages asked yet
@@ -29,12 +29,12 @@ writeNumbers g k o p n = record {
 }
 
 -- a truncation to this size
-unfoldable pub shrinkNumbers : Guard → (node opened size : ℕ) → Guard
-shrinkNumbers g k o z = record {
+unfoldable pub truncateNumbers : Guard → (call node opened size : ℕ) → Guard
+truncateNumbers g call k o z = record {
   nodes = g .nodes;
   opens = g .opens;
   stopped = false;
-  call = SHRINK-FETCHING;
+  call = call;
   node = k;
   opened = o;
   parent = 0;

@@ -15,7 +15,7 @@ use Rattle.filesystem.specs.Tables.{NODES, PAGE-BYTES, FILE-BYTES, DATA-BYTES}
 use denote.Ref.{now}
 use Rattle.numbers.specs.Slices.{Slice}
 use Rattle.memory.specs.Layout.{memOf, openRows, newDigests}
-use Rattle.rules.specs.Pages.{writing, shrinking}
+use Rattle.rules.specs.Pages.{writing, shrinking, growing}
 use Rattle.rules.specs.Requests.{asked, Pending, idle, creating, opening, closing, removing, changing, listing, stating}
 use Rattle.rules.specs.Requests.{reading, fetching, storing, cutting}
 use Rattle.rules.specs.Skeleton.{Config}
@@ -77,12 +77,13 @@ pendings g s =
     ∷ fetching (g .node) (g .opened) (shrinking (g .size)) (g .page)
     ∷ storing (g .node) (g .opened) (shrinking (g .size)) (g .page)
     ∷ cutting (g .node) (g .opened) (shrinking (g .size))
+    ∷ cutting (g .node) (g .opened) (growing (g .size))
     ∷ []
 
 unfoldable pub pendingIn : Guard → List ℕ → Pending
 pendingIn g s = getD (pendings g s) (g .call) idle
 
--- a read (8) has gathered bytes, a change (9 to 13) new digests
+-- a read (8) has gathered bytes, a change that stores pages (9 to 13) new digests
 abbrev pub gatheredNone : Gathered
 gatheredNone = record { bytes = []; digests = [] }
 

@@ -22,9 +22,14 @@ pub const FETCHING: u64 = 9;
 
 pub const STORING: u64 = 10;
 
-// of a truncation: its page is fetched; its page is stored; the file is cut
+// of a truncation to fewer bytes: its page is fetched; its page is stored; the file is cut
 pub const SHRINK_FETCHING: u64 = 11;
 
 pub const SHRINK_STORING: u64 = 12;
 
 pub const CUTTING: u64 = 13;
+
+// of a truncation to more bytes: the file is cut
+pub const GROWING: u64 = 14;
+
+pub const LAST: u64 = GROWING;

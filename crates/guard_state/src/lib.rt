@@ -6,7 +6,7 @@ ghost use mathlib.Core.Path.{_≡_};
 ghost use Prim.Native.Nat.{_+_, _%_, _<_, _≤_};
 ghost use lib.ListN.{length, getD, take};
 ghost use Rattle.filesystem.specs.Tables.{NODES, NAME-BYTES, FILE-BYTES, DATA-BYTES};
-ghost use Rattle.rules.specs.Pages.{writing, shrinking};
+ghost use Rattle.rules.specs.Pages.{writing};
 ghost use Rattle.rules.specs.Requests.{asked, creating, closing, reading, fetching};
 ghost use Rattle.rules.specs.Skeleton.{Config};
 ghost use Rattle.machine.specs.Machine.{fresh, guard as digestStore};
@@ -14,8 +14,8 @@ ghost use Rattle.numbers.specs.Slices.{KeepsLength};
 ghost use Rattle.memory.specs.Layout.{headNumbers, openRows, newDigests, withHead};
 ghost use Rattle.memory.specs.Memories.{Becomes, IsMemory, was};
 ghost use Rattle.tables.specs.View.{viewOf};
-ghost use Rattle.guard_state.specs.Calls.{OnNode, questionOn, FETCHING, CUTTING};
-ghost use Rattle.guard_state.specs.Onward.{writeNumbers, shrinkNumbers, goesOn};
+ghost use Rattle.guard_state.specs.Calls.{OnNode, questionOn, Truncating, truncationOn, FETCHING, CUTTING};
+ghost use Rattle.guard_state.specs.Onward.{writeNumbers, truncateNumbers, goesOn};
 ghost use Rattle.guard_state.specs.State.{pendingIn, stateOf, clearedHead, clearedCall, clearedSpan, readingHead};
 ghost use Rattle.guard_state.specs.State.{gatheredNone, gatheredRead, filePages, numbersIn};
 ghost use Rattle.guard_state.specs.Waits.{waits, ends, stops, restingState, Turns, Waits};
@@ -130,6 +130,14 @@ fn number(m: &[u8], k: usize, most: usize) -> usize
         return x as usize;
     }
     (x % (most as u64 + 1)) as usize
+}
+
+// How many nodes there are, for those who need no other number.
+pub fn node_count(m: &[u8]) -> usize
+    requires { ⌜ IsMemory m ⌝ }
+    ensures { λ r. ⌜ r ≡ numbersIn (m .entry) .nodes ⌝ }
+{
+    number(m, header::NODES, limits::NODES)
 }
 
 // ---- the pending call
@@ -282,16 +290,16 @@ pub fn wait_write(m: &mut [u8], node: usize, opened: usize, position: usize, byt
     memory::put_head(m, header::BYTES, n as u64);
 }
 
-// A truncation to a smaller size waits: nothing is asked yet.
-pub fn wait_shrink(m: &mut [u8], node: usize, opened: usize, size: usize)
-    requires { ⌜ (node < NODES) × (opened < openRows) × (size ≤ FILE-BYTES) × IsMemory m ⌝ }
+// A truncation waits: for its page, which is not asked yet, or for the cut that makes the file longer (calls.rt).
+pub fn wait_truncate(m: &mut [u8], call: u64, node: usize, opened: usize, size: usize)
+    requires { ⌜ Truncating call × (node < NODES) × (opened < openRows) × (size ≤ FILE-BYTES) × IsMemory m ⌝ }
     ensures { λ _. ⌜ ((c : Config) → stateOf c (now (m .exit)) ≡ waits c (stateOf c (now (m .entry)))
-        (fetching node opened (shrinking size) 0) gatheredNone) ⌝ }
-    ensures { λ _. ⌜ numbersIn (m .exit) ≡ shrinkNumbers (numbersIn (m .entry)) node opened size ⌝ }
+        (truncationOn call node opened size) gatheredNone) ⌝ }
+    ensures { λ _. ⌜ numbersIn (m .exit) ≡ truncateNumbers (numbersIn (m .entry)) call node opened size ⌝ }
     ensures { λ _. ⌜ KeepsLength m ⌝ }
 {
     clear(m);
-    memory::put_head(m, header::CALL, calls::SHRINK_FETCHING);
+    memory::put_head(m, header::CALL, call);
     memory::put_head(m, header::NODE, node as u64);
     memory::put_head(m, header::OPENED, opened as u64);
     memory::put_head(m, header::SIZE, size as u64);

@@ -1,4 +1,5 @@
--- The history of a list of events (SPECIFICATION 10.3): the pages in stores and in replies to fetches, the images given out or handed in.
+-- The history of a list of events (SPECIFICATION 10.3): the pages in stores and in replies to fetches, a page that a growth adds, the images given out
+-- or handed in.
 -- Assumes nothing.
 use mathlib.Core.Path.{_≡_}
 use mathlib.Core.Bool.{Bool}
@@ -7,9 +8,10 @@ use Prim.Native.Nat.{ℕ}
 use lib.Dec.{eqb}
 use lib.ListN.{length, drop}
 use Rattle.lists.specs.Pick.{pick}
-use Rattle.filesystem.specs.Tables.{PAGE-BYTES}
+use Rattle.filesystem.specs.Tables.{PAGE-BYTES, Node, nodeAt}
+use Rattle.rules.specs.Pages.{addedBy}
 use Rattle.rules.specs.Requests.{asked, Pending, idle, reading, fetching, storing, cutting}
-use Rattle.rules.specs.Skeleton.{Config, Event, call, reply, save, load, Answer, done, ask, refused, stopped, Outcome}
+use Rattle.rules.specs.Skeleton.{Config, Event, call, reply, save, load, Answer, done, ask, refused, stopped, Outcome, Skeleton}
 use Rattle.machine.specs.Machine.{Store, State, step}
 
 -- is a page awaited?
@@ -33,11 +35,21 @@ unfoldable pub storedPage : List ℕ → List (List ℕ)
 storedPage [] = []
 storedPage (kind ∷ s) = pick (eqb kind 7) (drop 12 s ∷ []) []
 
-unfoldable pub pageOut : Answer → List (List ℕ)
-pageOut (done n b) = []
-pageOut (ask q) = storedPage q
-pageOut (refused n) = []
-pageOut (stopped n) = []
+-- the page of zeros, with the cut that a growth asks: the call that is then pending tells a growth, the node its old size
+unfoldable pub pageAdded : List Node → Pending → List (List ℕ)
+pageAdded ns idle = []
+pageAdded ns (asked x) = []
+pageAdded ns (reading k o p n i) = []
+pageAdded ns (fetching k o q i) = []
+pageAdded ns (storing k o q i) = []
+pageAdded ns (cutting k o q) = addedBy q (nodeAt ns k .size)
+
+-- the pages that an answer sends or adds; sk is what is held after it
+unfoldable pub pageOut : Skeleton → Answer → List (List ℕ)
+pageOut sk (done n b) = []
+pageOut sk (ask q) = storedPage q ++ pageAdded (sk .tables .nodes) (sk .pending)
+pageOut sk (refused n) = []
+pageOut sk (stopped n) = []
 
 unfoldable pub imageIn : Event → List (List ℕ)
 imageIn (call s a q) = []
@@ -61,7 +73,9 @@ imageOut (load i d) o = []
 module _ (c : Config) (S : Store) where
   unfoldable pub pages : State S → List Event → List (List ℕ)
   pages s [] = []
-  pages s (e ∷ es) = (pageIn (s .skeleton .pending) e ++ pageOut (step c S s e .outcome .answer)) ++ pages (step c S s e .state) es
+  pages s (e ∷ es) =
+      (pageIn (s .skeleton .pending) e ++ pageOut (step c S s e .state .skeleton) (step c S s e .outcome .answer))
+      ++ pages (step c S s e .state) es
 
   unfoldable pub images : State S → List Event → List (List ℕ)
   images s [] = []

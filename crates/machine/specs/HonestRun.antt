@@ -139,6 +139,15 @@ module _ (c : Config) (fit : Fit c) where
   sure t v (fSaving he w z) ho mq = tt
   sure t v {e = e} (fLoading {i = i} {image = image} {d = d} he z hd hp) ho mq = sure-load t v i image d hp ((rw he at ho) (rw (rw he at mq) tt))
 
+  -- one event of an honest list
+  pub together : (g : State (guard c)) (t : State (tree c)) (e : Event) → g ≡ guardOf c t → Holds c fit Any Any t → EventBytes e → HonestAt c g t e
+      → (step c (guard c) g e ≡ resultOf c (step c (tree c) t e)) × Holds c fit Any Any (step c (tree c) t e .state)
+  unfolding step
+  together g t e q h b ha =
+      let f = judge-fits c (t .skeleton) (h .valid) e b in
+      let (x, h₂, k) = advance c fit Any Any t h e b ((λ p m. tt), (λ q p m. tt)) (λ p m. tt) (sure t (h .kept) f (subst (λ s. HonestAt c s t e) q ha) refl) in
+      (ap (λ s. step c (guard c) s e) q ∙ x, h₂)
+
   -- from any tree on that is as it has to be
   pub quiet : (es : List Event) (g : State (guard c)) (t : State (tree c)) → g ≡ guardOf c t → Holds c fit Any Any t → All EventBytes es → Honest c g t es
       → All NoStop (outcomes c (guard c) g es)
@@ -148,8 +157,7 @@ module _ (c : Config) (fit : Fit c) where
   quiet (e ∷ es) g t q h bs (ha, ho) =
       let f = judge-fits c (t .skeleton) (h .valid) e (all-head bs) in
       let ha₂ : HonestAt c (guardOf c t) t e = subst (λ s. HonestAt c s t e) q ha in
-      let (x, h₂, k) = advance c fit Any Any t h e (all-head bs) ((λ p m. tt), (λ p m. tt)) (sure t (h .kept) f ha₂ refl) in
-      let y : step c (guard c) g e ≡ resultOf c (step c (tree c) t e) = ap (λ s. step c (guard c) s e) q ∙ x in
+      let (y, h₂) = together g t e q h (all-head bs) ha in
       let yo : step c (guard c) g e .outcome ≡ step c (tree c) t e .outcome = ap (λ r. r .outcome) y in
       let (ns, (eos, ef)) = quiet es (step c (guard c) g e .state) (step c (tree c) t e .state) (ap (λ r. r .state) y) h₂ (all-tail bs) ho in
       (both (ap (λ o. isStop (o .answer)) yo ∙ calm (guardOf c t) t (h .valid) f ha₂) ns, ((λ j. yo j ∷ eos j), ef))

@@ -2,8 +2,8 @@
 -- Assumes that the rules come to fitting moves and keep the tables valid.
 use mathlib.Core.Path.{_≡_, refl, ap, ap₂, sym, _∙_, subst}
 use mathlib.Core.Logic.{_⊎_, inl, inr}
-use mathlib.Core.Bool.{Bool, true, false}
-use mathlib.Core.List.{List, [], _∷_, _++_, map, map-append, List·Memᴰ, List·Memᴰ·head}
+use mathlib.Core.Bool.{Bool, true, false, true≢false}
+use mathlib.Core.List.{List, [], _∷_, _++_, map, map-append, List·Memᴰ, List·Memᴰ·head, List·Memᴰ·not-nil}
 use mathlib.Core.Option.{Option, some, none}
 use Prim.Native.Nat.{ℕ, suc, _+_, _-_, _*_, _≤_, _<_}
 use native.Mathlib.Omega.{arith}
@@ -19,15 +19,15 @@ use Rattle.lists.specs.LittleEndian.{encode}
 use Rattle.lists.specs.FormLaws.{some≢none}
 use Rattle.filesystem.specs.Tables.{Node, nodeAt, pagesFor, setSize}
 use Rattle.filesystem.specs.Image.{flatten, print}
-use Rattle.rules.specs.Pages.{pageOf, Change, first, last, fetches, cuts, bytesAfter, sizeAfter, FitsSize}
-use Rattle.rules.specs.PageLaws.{Where, low, mid, high, range, length-after, first-last, after-apart, apart-old}
-use Rattle.rules.specs.Requests.{asked, storeRequest, Pending, idle, reading, fetching, storing, cutting}
-use Rattle.rules.specs.Skeleton.{Config, Event, Answer}
+use Rattle.rules.specs.Pages.{pageOf, Change, writing, shrinking, growing, first, last, fetches, sizeSent, cuts, bytesAfter, sizeAfter, FitsSize, addedBy}
+use Rattle.rules.specs.PageLaws.{Where, low, mid, high, range, length-after, first-last, after-apart, apart-old, page-past}
+use Rattle.rules.specs.Requests.{asked, storeRequest, cutRequest, Pending, idle, reading, fetching, storing, cutting}
+use Rattle.rules.specs.Skeleton.{Config, Event}
 use Rattle.rules.specs.Rules.{Move}
-use Rattle.machine.specs.Machine.{Files, State, Result, files, readOn, finishChange, pagesStored, askStore, onPage, pagesFrom, cleared, apply}
+use Rattle.machine.specs.Machine.{Files, State, Result, files, sizeAt, descriptorAt, readOn, finishChange, pagesStored, askStore, onPage, pagesFrom, cleared, apply}
 use Rattle.rules.specs.Valid.{ValidNodes, Starts, Fits, fRefuse, fHalt, fSend, fFinish, fAdd, fDelete, fReadPage, fBegin, fFillPage, fStored, fCutDone, fSaving, fLoading}
 use Rattle.machine.specs.Tree.{Saved, lookup, goBack, digestsOf, tree}
-use Rattle.machine.specs.History.{storedPage, pageOut, imageGiven, imageOut}
+use Rattle.machine.specs.History.{storedPage, pageAdded, pageOut, imageGiven, imageOut}
 use Rattle.machine.specs.Simulation.{Aligned, aligned-at}
 
 pub stored-page : (d i size : ℕ) (p : List ℕ) → storedPage (storeRequest d i size p) ≡ p ∷ []
@@ -56,13 +56,17 @@ module _ (c : Config) (M N : List ℕ → Type 0) where
   abbrev pub StoredTo : List ℕ → Change → ℕ → Type 0
   StoredTo b q end = (j : ℕ) → first q ≤ j → j < end → M (pageOf (bytesAfter q b) j)
 
+  -- and the page that a growth adds
+  abbrev pub Added : Change → ℕ → Type 0
+  Added q size = (p : List ℕ) → List·Memᴰ p (addedBy q size) → M p
+
   abbrev pub SoFar : List (List ℕ) → Pending → Type 0
   SoFar xs idle = Unit {0}
   SoFar xs (asked x) = Unit {0}
   SoFar xs (reading k o p n i) = Unit {0}
   SoFar xs (fetching k o q i) = StoredTo (getD xs k []) q i
   SoFar xs (storing k o q i) = StoredTo (getD xs k []) q (suc i)
-  SoFar xs (cutting k o q) = StoredTo (getD xs k []) q (last q)
+  SoFar xs (cutting k o q) = StoredTo (getD xs k []) q (last q) × Added q (length (getD xs k []))
 
   pub record Kept (t : State (tree c)) : Type 0 where
     pub good : Good (files c (tree c) t)
@@ -70,11 +74,11 @@ module _ (c : Config) (M N : List ℕ → Type 0) where
     pub saves : All GoodSave (t .saves)
 
   -- the history has the page that an answer sends
-  abbrev pub Sent : Answer → Type 0
-  Sent a = (p : List ℕ) → List·Memᴰ p (pageOut a) → M p
+  abbrev pub Sent : Result (tree c) → Type 0
+  Sent r = (p : List ℕ) → List·Memᴰ p (pageOut (r .state .skeleton) (r .outcome .answer)) → M p
 
   abbrev Keeps : Result (tree c) → Type 0
-  Keeps r = Sent (r .outcome .answer) → Kept (r .state)
+  Keeps r = Sent r → Kept (r .state)
 
   starts-sofar : (xs : List (List ℕ)) (p : Pending) → Starts p → SoFar xs p
   starts-sofar xs idle s = absurd s
@@ -104,9 +108,9 @@ module _ (c : Config) (M N : List ℕ → Type 0) where
     known = all-append (all-take k (g .known)) (all-drop (suc k) (g .known));
   }
 
-  -- a page of what a change leaves is a stored one or an old one
-  known-after : (q : Change) (b : List ℕ) → FitsSize q (length b) → Known b → StoredTo b q (last q) → Known (bytesAfter q b)
-  known-after q b f old new j h = go (range (first q) (last q - first q) j)
+  -- a page of what a change leaves is a stored one, an old one or an added one
+  known-after : (q : Change) (b : List ℕ) → FitsSize q (length b) → Known b → StoredTo b q (last q) → Added q (length b) → Known (bytesAfter q b)
+  known-after q b f old new more j h = go (range (first q) (last q - first q) j)
     where
       h′ : j < pagesFor (sizeAfter q (length b))
       h′ = rw length-after at h
@@ -115,7 +119,11 @@ module _ (c : Config) (M N : List ℕ → Type 0) where
       fl = first-last q (length b) f
 
       other : (j < first q) ⊎ (last q ≤ j) → M (pageOf (bytesAfter q b) j)
-      other o = rw (after-apart q b j f o h′) (old j (apart-old q (length b) j f o h′))
+      other o = rw (after-apart q b j f o h′) (was (apart-old q (length b) j f o h′))
+        where
+          was : (j < pagesFor (length b)) ⊎ ((pagesFor (length b) ≤ j) × (addedBy q (length b) ≡ pageOf [] 0 ∷ [])) → M (pageOf b j)
+          was (inl l) = old j l
+          was (inr (l, e)) = rw (page-past b j l) (more (pageOf [] 0) (rw e (List·Memᴰ·head refl)))
 
       go : Where (first q) (last q - first q) j → M (pageOf (bytesAfter q b) j)
       go (low a e) = other (inl a)
@@ -123,37 +131,50 @@ module _ (c : Config) (M N : List ℕ → Type 0) where
       go (high a l e) = other (inr (omega arith))
 
   finish-kept : (t : State (tree c)) → Kept t → (k o : ℕ) (q : Change) → FitsSize q (nodeAt (t .skeleton .tables .nodes) k .size)
-      → StoredTo (getD (t .contents) k []) q (last q) → Kept (finishChange c (tree c) t k o q .state)
+      → StoredTo (getD (t .contents) k []) q (last q) → Added q (length (getD (t .contents) k [])) → Kept (finishChange c (tree c) t k o q .state)
   unfolding finishChange setSize
-  finish-kept t v k o q f new =
+  finish-kept t v k o q f new more =
       let ns = t .skeleton .tables .nodes in
       let x = getD (t .contents) k [] in
       let e : nodeAt ns k .size ≡ length x = aligned-at c ns (t .contents) (v .good .aligned) k in
       record {
         good = record {
           aligned = map-set (λ n. n .size) ns k _ ∙ (ap₂ (λ a n. set a k n) (v .good .aligned) (rw e (sym (length-after q x))) ∙ sym (map-set length (t .contents) k _));
-          known = all-set k _ (known-after q x (rw e at f) (known-at (t .contents) k (v .good .known)) new) (v .good .known);
+          known = all-set k _ (known-after q x (rw e at f) (known-at (t .contents) k (v .good .known)) new more) (v .good .known);
         };
         sofar = tt;
         saves = v .saves;
       }
 
+  -- what is not cut adds none
+  uncut-adds : (q : Change) (size : ℕ) → cuts q ≡ false → addedBy q size ≡ []
+  unfolding cuts addedBy
+  uncut-adds (writing p d) size e = refl
+  uncut-adds (shrinking n) size e = refl
+  uncut-adds (growing n) size e = absurd (true≢false e)
+
   pages-stored-kept : (t : State (tree c)) → Kept t → (k o : ℕ) (q : Change) → FitsSize q (nodeAt (t .skeleton .tables .nodes) k .size)
       → StoredTo (getD (t .contents) k []) q (last q) → Keeps (pagesStored c (tree c) t k o q)
-  unfolding pagesStored
+  unfolding pagesStored pageOut storedPage pageAdded cutRequest pick
   pages-stored-kept t v k o q f new =
-      pick-ind Keeps (cuts q) (λ e s. record { good = v .good; sofar = new; saves = v .saves }) (λ e s. finish-kept t v k o q f new)
+      let ns = t .skeleton .tables .nodes in
+      let e₂ : nodeAt ns k .size ≡ length (getD (t .contents) k []) = aligned-at c ns (t .contents) (v .good .aligned) k in
+      pick-ind Keeps (cuts q)
+      (λ e s. record { good = v .good; sofar = (new, λ p m. s p (subst (λ n. List·Memᴰ p (addedBy q n)) (sym e₂) m)); saves = v .saves })
+      (λ e s. finish-kept t v k o q f new (λ p m. absurd (List·Memᴰ·not-nil (rw (uncut-adds q _ e) at m))))
 
   store-kept : (t : State (tree c)) → Kept t → (k o : ℕ) (q : Change) (i : ℕ) (r : List ℕ) → StoredTo (getD (t .contents) k []) q i
       → Keeps (askStore c (tree c) t k o q i r)
-  unfolding askStore pageOut
+  unfolding askStore pageOut pageAdded
   store-kept t v k o q i r old s = record { good = v .good; sofar = λ j a b. go j a b (is (eqb j i)); saves = v .saves }
     where
       page : List ℕ
       page = pageOf (bytesAfter q (getD (t .contents) k [])) i
 
       go : (j : ℕ) → first q ≤ j → j < suc i → Is (eqb j i) → M (pageOf (bytesAfter q (getD (t .contents) k [])) j)
-      go j a b (isT e) = rw (eqb-true j i e) (s page (rw stored-page (List·Memᴰ·head refl)))
+      go j a b (isT e) =
+          rw (eqb-true j i e)
+          (s page (rw (stored-page (descriptorAt c (tree c) t o) i (sizeSent q (sizeAt c (tree c) t k) i) page) (List·Memᴰ·head refl)))
       go j a b (isF e) = let z : j ≡ i → ⊥ = eqb-false j i e in old j a (omega arith)
 
   pages-kept : (t : State (tree c)) → Kept t → (k o : ℕ) (q : Change) (i : ℕ) → FitsSize q (nodeAt (t .skeleton .tables .nodes) k .size) → i ≤ last q
@@ -205,7 +226,9 @@ module _ (c : Config) (M N : List ℕ → Type 0) where
       (λ e s. record { good = v .good; sofar = tt; saves = v .saves }) s
   keeps t v h (fStored {k = k} {o = o} {q = q} {i = i} pl w x) n s =
       pages-kept t v k o q (suc i) (x .change .fits) (let z = x .to in omega arith) (subst (SoFar (t .contents)) w (v .sofar)) s
-  keeps t v h (fCutDone {k = k} {o = o} {q = q} pl w x) n s = finish-kept t v k o q (x .fits) (subst (SoFar (t .contents)) w (v .sofar))
+  keeps t v h (fCutDone {k = k} {o = o} {q = q} pl w x) n s =
+      let (new, more) = subst (SoFar (t .contents)) w (v .sofar) in
+      finish-kept t v k o q (x .fits) new more
   keeps t v h (fSaving he w z) n s = record { good = v .good; sofar = tt; saves = both (record { good = v .good; valid = h; image = n _ (rw he (List·Memᴰ·head refl)); sealed = refl }) (v .saves) }
   keeps t v h (fLoading {d = d} he z hd hp) n s =
       record { good = back-good (lookup (t .saves) d) (files c (tree c) t) (λ x e. lookup-good (t .saves) d (v .saves) x e .0) (v .good); sofar = tt; saves = v .saves }

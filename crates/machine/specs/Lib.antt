@@ -10,6 +10,7 @@ pub mod StepLengths
 pub mod Consistent
 pub mod Trials
 pub mod Tree
+pub mod GrowthLaws
 pub mod History
 pub mod Honest
 pub mod Claim
@@ -22,5 +23,6 @@ pub mod TreeProperties
 pub mod Truthful
 pub mod Seen
 pub mod SeenLaws
+pub mod SeenPages
 pub mod Restart
 pub mod RestartRun

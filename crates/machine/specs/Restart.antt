@@ -42,11 +42,7 @@ unfoldable pub Restarts : List (List Seen) → Type 0
 Restarts [] = Unit {0}
 Restarts (first ∷ later) = All Begins later
 
--- the history of all lives
-unfoldable pub pagesOfLives : List (List Seen) → List (List ℕ)
-pagesOfLives [] = []
-pagesOfLives (xs ∷ ls) = pagesSeen xs ++ pagesOfLives ls
-
+-- the images of all lives
 unfoldable pub imagesOfLives : List (List Seen) → List (List ℕ)
 imagesOfLives [] = []
 imagesOfLives (xs ∷ ls) = imagesSeen xs ++ imagesOfLives ls
@@ -74,6 +70,11 @@ module _ (c : Config) where
   abbrev pub treeAfter : State (tree c) → List Seen → State (tree c)
   treeAfter t xs = final c (tree c) (restarted t) (events xs)
 
+  -- the pages of all lives, by one tree
+  unfoldable pub pagesOfLives : State (tree c) → List (List Seen) → List (List ℕ)
+  pagesOfLives t [] = []
+  pagesOfLives t (xs ∷ ls) = pagesSeen c (restarted t) xs ++ pagesOfLives (treeAfter t xs) ls
+
   -- in each life every outcome is the tree's, and so is the final state, digests for bytes
   unfoldable pub AgreeLives : State (tree c) → List (List Seen) → Type 0
   AgreeLives t [] = Unit {0}
@@ -86,7 +87,7 @@ module _ (c : Config) where
   unfoldable pub FirstHalfOfLives : Type 0
   FirstHalfOfLives =
       (lives : List (List Seen)) → All OfFresh lives → All BytesSeen lives → Restarts lives → LoadsOfLives [] lives
-      → Or (Collision (c .digest) (pagesOfLives lives) ⊎ Collision (c .digest) (imagesOfLives lives)) (AgreeLives (fresh c (tree c)) lives)
+      → Or (Collision (c .digest) (pagesOfLives (fresh c (tree c)) lives) ⊎ Collision (c .digest) (imagesOfLives lives)) (AgreeLives (fresh c (tree c)) lives)
 
   -- the host is honest throughout, and each load that was done is of the latest save of all lives, the tree unchanged since
   unfoldable pub HonestLives : State (tree c) → List (List Seen) → Type 0

@@ -5,24 +5,26 @@ use mathlib.Core.Path.{_≡_, refl, ap, ap₂, sym, _∙_, subst}
 use mathlib.Core.Logic.{_⊎_, inl, inr}
 use mathlib.Core.List.{List, [], _∷_, _++_, map, List·Memᴰ, Memᴰ·append-left, Memᴰ·append-right}
 use Prim.Native.Nat.{ℕ}
-use Rattle.lists.specs.All.{All, both, none as all-none, all-tail}
+use Rattle.lists.specs.All.{All, both, none as all-none, all-head, all-tail}
 use Rattle.lists.specs.Or.{Or, ok, _>>=_}
 use Rattle.lists.specs.Checks.{decide-ind}
 use Rattle.filesystem.specs.Image.{parse}
 use Rattle.rules.specs.Requests.{isFetch}
 use Rattle.rules.specs.Skeleton.{Config, Event, call, reply, save, load, EventBytes, Answer, done, ask, refused, stopped}
 use Rattle.rules.specs.Rules.{Move, refuse, loading, imageOr, eventChecks, eventAction, judge}
-use Rattle.rules.specs.TableLaws.{bare-valid}
+use Rattle.rules.specs.TableLaws.{bare-valid, fresh-valid}
+use Rattle.rules.specs.Valid.{Valid}
+use Rattle.rules.specs.FitLaws.{judge-fits}
+use Rattle.machine.specs.Simulation.{resultOf}
 use Rattle.machine.specs.Machine.{Files, Store, State, Result, files, apply, step, fresh, outcomes, final, guard}
 use Rattle.machine.specs.Tree.{tree, progressOf, guardOf}
-use Rattle.machine.specs.History.{awaitsPage, pageIn, pageOut, pages, imageIn, imageOut, images, Collision}
+use Rattle.machine.specs.History.{awaitsPage, pageOut, imageIn, imageOut, images, Collision}
 use Rattle.machine.specs.Claim.{Fit, isDone, isStop, NoStop, OfLatest, given, LoadOf, LoadsOfSaves, HonestAt, Honest}
-use Rattle.machine.specs.StateProperties.{fresh-holds as guard-holds}
-use Rattle.machine.specs.Run.{Bad, Holds, Simulated, simulate, fresh-holds, fresh-guard}
+use Rattle.machine.specs.Run.{Bad, Holds, History, Simulated, simulate, fresh-holds, fresh-guard}
 use Rattle.machine.specs.HonestRun.{Any, quiet}
 use Rattle.machine.specs.TreeProperties.{run-holds}
-use Rattle.machine.specs.Seen.{Seen, events, shown, pagesSeen, imagesSeen, givenAfter, LoadsSeen, HonestSeen}
-use Rattle.machine.specs.SeenLaws.{shown-is, images-shown, loads-shown, honest-shown, pages-shown}
+use Rattle.machine.specs.Seen.{Seen, events, shown, standing, pageReplied, pagesAfter, pagesSeen, imagesSeen, givenAfter, LoadsSeen, HonestSeen}
+use Rattle.machine.specs.SeenLaws.{shown-is, images-shown, loads-shown, honest-shown, Stands, move-stands, page-replied}
 use Rattle.machine.specs.Restart.{switchedOn, BeginsWith, Begins, Restarts, pagesOfLives, imagesOfLives, LoadsOfLives, BytesSeen, Quiet, OfFresh, restarted, treeAfter, AgreeLives, FirstHalfOfLives, HonestLives, SecondHalfOfLives}
 
 -- A load in a machine that was just switched on.
@@ -130,23 +132,58 @@ module _ (c : Config) (fit : Fit c) where
   kept t = map (λ s. s .digest) (t .saves)
 
   module _ (M N : List ℕ → Type 0) where
-    abbrev Within : State (guard c) → List Event → Type 0
-    Within g es = ((p : List ℕ) → List·Memᴰ p (pages c (guard c) g es) → M p) × ((p : List ℕ) → List·Memᴰ p (images c (guard c) g es) → N p)
+    -- the pages that are seen of a run of the guard, by the tree's run, where a request stands at first
+    abbrev PagesIn : State (guard c) → State (tree c) → List Event → Type 0
+    PagesIn g t es = (q : List ℕ) × Stands c q g × ((p : List ℕ) → List·Memᴰ p (pagesAfter c q t (shown c (guard c) g es)) → M p)
+
+    seen-history : History c fit M N PagesIn
+    unfolding pagesAfter shown resultOf guardOf step
+    seen-history = record {
+      here = λ g t e es (r, st, np) q. (
+        (λ p m. np p (Memᴰ·append-left _ (Memᴰ·append-left _
+            (subst (List·Memᴰ p) (sym (page-replied c r (t .skeleton .pending) e (subst (Stands c r) q st))) m)))),
+        (λ x p m. np p (Memᴰ·append-left _ (Memᴰ·append-right (pageReplied r e)
+            (subst (λ (y : Result (guard c)). List·Memᴰ p (pageOut (step c (tree c) t e .state .skeleton) (y .outcome .answer)))
+            (sym (ap (λ s. step c (guard c) s e) q ∙ x)) m)))),
+      );
+      rest = λ g t e es (r, st, np) q h b. (
+        standing r (step c (guard c) g e .outcome .answer),
+        move-stands c r g st (judge-fits c (g .skeleton) (subst (λ (s : State (guard c)). Valid (c .width) (s .skeleton)) (sym q) (h .valid)) e b),
+        λ p m. np p (Memᴰ·append-right (pageReplied r e ++ pageOut (step c (tree c) t e .state .skeleton) (step c (guard c) g e .outcome .answer)) m),
+      );
+    }
+
+    abbrev Within : State (guard c) → State (tree c) → List Event → Type 0
+    Within g t es = PagesIn g t es × ((p : List ℕ) → List·Memᴰ p (images c (guard c) g es) → N p)
+
+    -- a load that is refused leaves a guard that awaits no page
+    stays : (i d r : List ℕ) → Stands c r from → EventBytes (load i d) → started c i d .state ≡ from
+        → Stands c (standing r (started c i d .outcome .answer)) from
+    unfolding step
+    stays i d r st b g = subst (Stands c (standing r (started c i d .outcome .answer))) g
+        (move-stands c r from st (judge-fits c (from .skeleton) (fresh-valid (c .width) (fit .wide)) (load i d) b))
 
     -- one life that is not the first
     later-life : (t : State (tree c)) → Holds c fit M N t → (es : List Event) → Begins (shown c (guard c) from es)
-        → All EventBytes es → LoadsOfSaves c (kept t) from es → Within from es → Or (Bad c fit M N) (Simulated c fit M N from (restarted c t) es)
-    unfolding LoadsOfSaves given pages pageIn images outcomes final givenAfter shown restarted guardOf
+        → All EventBytes es → LoadsOfSaves c (kept t) from es → Within from (restarted c t) es
+        → Or (Bad c fit M N) (Simulated c fit M N from (restarted c t) es)
+    unfolding LoadsOfSaves given pagesAfter images outcomes final givenAfter shown restarted guardOf
     later-life t h = life-ind c t F begun tried
       where
         F : List Event → Type 0
-        F es = All EventBytes es → LoadsOfSaves c (kept t) from es → Within from es → Or (Bad c fit M N) (Simulated c fit M N from (restarted c t) es)
+        F es =
+            All EventBytes es → LoadsOfSaves c (kept t) from es → Within from (restarted c t) es
+            → Or (Bad c fit M N) (Simulated c fit M N from (restarted c t) es)
 
         begun : Begun c t F
-        begun i d es z bs lo (np, ni) = do
-          s ← simulate c fit M N (load i d ∷ es) (guardOf c (restarted c t)) (restarted c t) refl (restarted-holds M N t h) bs
-              (subst (λ r. LoadOf (kept t) (load i d) (r .outcome) × LoadsOfSaves c (kept t) (r .state) es) z lo)
-              (subst (λ r. (p : List ℕ) → List·Memᴰ p (pageOut (r .outcome .answer) ++ pages c (guard c) (r .state) es) → M p) z np)
+        begun i d es z bs lo ((r, st, np), ni) = do
+          s ← simulate c fit M N PagesIn seen-history (load i d ∷ es) (guardOf c (restarted c t)) (restarted c t) refl (restarted-holds M N t h) bs
+              (subst (λ r. LoadOf (kept t) (load i d) (r .outcome) × LoadsOfSaves c (kept t) (r .state) es) z lo) (
+                r,
+                st,
+                subst (λ y. (p : List ℕ) → List·Memᴰ p (pagesAfter c r (restarted c t) (record { event = load i d; outcome = y .outcome }
+                    ∷ shown c (guard c) (y .state) es)) → M p) z np,
+              )
               (subst (λ r. (p : List ℕ) → List·Memᴰ p ((imageIn (load i d) ++ imageOut (load i d) (r .outcome)) ++ images c (guard c) (r .state) es) → N p) z ni)
           ok (record {
             same = ap (λ r. r .outcome ∷ outcomes c (guard c) (r .state) es) z ∙ s .same;
@@ -156,9 +193,18 @@ module _ (c : Config) (fit : Fit c) where
           })
 
         tried : Tried c t F
-        tried i d es o g u ih bs lo (np, ni) = do
+        tried i d es o g u ih bs lo ((r, st, np), ni) = do
           s ← ih (all-tail bs) (subst (λ y. LoadsOfSaves c (kept t) y es) g (lo .1)) (
-            (λ p m. np p (Memᴰ·append-right (pageOut (started c i d .outcome .answer)) (subst (λ y. List·Memᴰ p (pages c (guard c) y es)) (sym g) m))),
+            (
+              standing r (started c i d .outcome .answer),
+              stays i d r st (all-head bs) g,
+              λ p m. np p
+                  (Memᴰ·append-right (pageReplied r (load i d) ++ pageOut (resumed c t i d .state .skeleton) (started c i d .outcome .answer))
+                  (subst (λ y. List·Memᴰ p (pagesAfter c (standing r (started c i d .outcome .answer)) y (shown c (guard c) (started c i d .state) es)))
+                  (sym u)
+                  (subst (λ y. List·Memᴰ p (pagesAfter c (standing r (started c i d .outcome .answer)) (restarted c t) (shown c (guard c) y es)))
+                  (sym g) m))),
+            ),
             (λ p m. ni p (Memᴰ·append-right (imageIn (load i d) ++ imageOut (load i d) (started c i d .outcome))
                 (subst (λ y. List·Memᴰ p (images c (guard c) y es)) (sym g) m))),
           )
@@ -173,12 +219,11 @@ module _ (c : Config) (fit : Fit c) where
     as-run : (xs : List Seen) → OfFresh c xs → xs ≡ shown c (guard c) from (events xs)
     as-run xs q = shown-is c (guard c) from xs q
 
-    within : (xs : List Seen) → OfFresh c xs → BytesSeen xs
-        → ((p : List ℕ) → List·Memᴰ p (pagesSeen xs) → M p) → ((p : List ℕ) → List·Memᴰ p (imagesSeen xs) → N p) → Within from (events xs)
+    within : (t : State (tree c)) (xs : List Seen) → OfFresh c xs
+        → ((p : List ℕ) → List·Memᴰ p (pagesSeen c t xs) → M p) → ((p : List ℕ) → List·Memᴰ p (imagesSeen xs) → N p) → Within from t (events xs)
     unfolding awaitsPage isFetch
-    within xs q bs np ni = (
-      subst (λ l. (p : List ℕ) → List·Memᴰ p l → M p)
-          (ap pagesSeen (as-run xs q) ∙ pages-shown c (λ s. (fit .long s, fit .bytes s)) [] from (events xs) refl (guard-holds c (fit .wide)) bs) np,
+    within t xs q np ni = (
+      ([], refl, subst (λ l. (p : List ℕ) → List·Memᴰ p (pagesAfter c [] t l) → M p) (as-run xs q) np),
       subst (λ l. (p : List ℕ) → List·Memᴰ p l → N p) (ap imagesSeen (as-run xs q) ∙ images-shown c from (events xs)) ni,
     )
 
@@ -191,44 +236,44 @@ module _ (c : Config) (fit : Fit c) where
     unfolding restarted
     given-kept t xs q s = ap (givenAfter (kept t)) (as-run xs q) ∙ sym (s .saved)
 
-    abbrev Known : List (List Seen) → Type 0
-    Known ls = ((p : List ℕ) → List·Memᴰ p (pagesOfLives ls) → M p) × ((p : List ℕ) → List·Memᴰ p (imagesOfLives ls) → N p)
+    abbrev Known : State (tree c) → List (List Seen) → Type 0
+    Known t ls = ((p : List ℕ) → List·Memᴰ p (pagesOfLives c t ls) → M p) × ((p : List ℕ) → List·Memᴰ p (imagesOfLives ls) → N p)
 
     -- one life and those that follow it
-    module _ (xs : List Seen) (ls : List (List Seen)) (q : OfFresh c xs) (bs : BytesSeen xs) (k : Known (xs ∷ ls)) where
-      known-here : Within from (events xs)
+    module _ (t : State (tree c)) (xs : List Seen) (ls : List (List Seen)) (q : OfFresh c xs) (k : Known t (xs ∷ ls)) where
+      known-here : Within from (restarted c t) (events xs)
       unfolding pagesOfLives imagesOfLives
-      known-here = within xs q bs (λ p m. k .0 p (Memᴰ·append-left _ m)) (λ p m. k .1 p (Memᴰ·append-left _ m))
+      known-here = within (restarted c t) xs q (λ p m. k .0 p (Memᴰ·append-left _ m)) (λ p m. k .1 p (Memᴰ·append-left _ m))
 
-      known-later : Known ls
+      known-later : Known (treeAfter c t xs) ls
       unfolding pagesOfLives imagesOfLives
-      known-later = ((λ p m. k .0 p (Memᴰ·append-right (pagesSeen xs) m)), (λ p m. k .1 p (Memᴰ·append-right (imagesSeen xs) m)))
+      known-later = ((λ p m. k .0 p (Memᴰ·append-right (pagesSeen c (restarted c t) xs) m)), (λ p m. k .1 p (Memᴰ·append-right (imagesSeen xs) m)))
 
     later-lives : (ls : List (List Seen)) (t : State (tree c)) → Holds c fit M N t → All (OfFresh c) ls → All BytesSeen ls → All Begins ls
-        → LoadsOfLives (kept t) ls → Known ls → Or (Bad c fit M N) (AgreeLives c t ls)
+        → LoadsOfLives (kept t) ls → Known t ls → Or (Bad c fit M N) (AgreeLives c t ls)
     unfolding AgreeLives LoadsOfLives
     later-lives [] t h qs bs st lo k = ok tt
     later-lives (xs ∷ ls) t h (both q qs) (both b bs) (both st sts) (lo, los) k = do
-      s ← later-life t h (events xs) (subst Begins (as-run xs q) st) b (loads-as-run (kept t) xs q lo) (known-here xs ls q b k)
-      r ← later-lives ls (treeAfter c t xs) (s .holds) qs bs sts (subst (λ ds. LoadsOfLives ds ls) (given-kept t xs q s) los) (known-later xs ls q b k)
+      s ← later-life t h (events xs) (subst Begins (as-run xs q) st) b (loads-as-run (kept t) xs q lo) (known-here t xs ls q k)
+      r ← later-lives ls (treeAfter c t xs) (s .holds) qs bs sts (subst (λ ds. LoadsOfLives ds ls) (given-kept t xs q s) los) (known-later t xs ls q k)
       ok (q ∙ s .same, s .left, r)
 
     -- the first life begins fresh
-    all-lives : (ls : List (List Seen)) → All (OfFresh c) ls → All BytesSeen ls → Restarts ls → LoadsOfLives [] ls → Known ls
+    all-lives : (ls : List (List Seen)) → All (OfFresh c) ls → All BytesSeen ls → Restarts ls → LoadsOfLives [] ls → Known (fresh c (tree c)) ls
         → Or (Bad c fit M N) (AgreeLives c (fresh c (tree c)) ls)
     unfolding AgreeLives LoadsOfLives Restarts restarted
     all-lives [] qs bs st lo k = ok tt
     all-lives (xs ∷ ls) (both q qs) (both b bs) st (lo, los) k = do
       let t = fresh c (tree c)
-      let (np, ni) = known-here xs ls q b k
-      s ← simulate c fit M N (events xs) from t (fresh-guard c fit) (fresh-holds c fit M N) b (loads-as-run [] xs q lo) np ni
-      r ← later-lives ls (treeAfter c t xs) (s .holds) qs bs st (subst (λ ds. LoadsOfLives ds ls) (given-kept t xs q s) los) (known-later xs ls q b k)
+      let (np, ni) = known-here t xs ls q k
+      s ← simulate c fit M N PagesIn seen-history (events xs) from t (fresh-guard c fit) (fresh-holds c fit M N) b (loads-as-run [] xs q lo) np ni
+      r ← later-lives ls (treeAfter c t xs) (s .holds) qs bs st (subst (λ ds. LoadsOfLives ds ls) (given-kept t xs q s) los) (known-later t xs ls q k)
       ok (q ∙ s .same, s .left, r)
 
   pub first-half-of-lives : FirstHalfOfLives c
   unfolding FirstHalfOfLives Collision
   first-half-of-lives ls qs bs st lo =
-      all-lives (λ p. List·Memᴰ p (pagesOfLives ls)) (λ p. List·Memᴰ p (imagesOfLives ls)) ls qs bs st lo ((λ p m. m), (λ p m. m))
+      all-lives (λ p. List·Memᴰ p (pagesOfLives c (fresh c (tree c)) ls)) (λ p. List·Memᴰ p (imagesOfLives ls)) ls qs bs st lo ((λ p m. m), (λ p m. m))
 
   -- The honest host.
   abbrev Good : State (tree c) → Type 0

@@ -213,24 +213,35 @@ module _ (c : Config) (fit : Fit c) (M N : List ℕ → Type 0) where
     pub valid : Valid (c .width) (t .skeleton)
     pub kept : Kept c M N t
 
-  -- what a step adds to the history is in M and N
-  abbrev Adds : State (guard c) → Event → Type 0
-  Adds g e =
-      ((p : List ℕ) → List·Memᴰ p (pageIn (g .skeleton .pending) e ++ pageOut (step c (guard c) g e .outcome .answer)) → M p)
-      × ((p : List ℕ) → List·Memᴰ p (imageIn e ++ imageOut e (step c (guard c) g e .outcome)) → N p)
+  -- the page that a step brings is in M, and where guard and tree agree on it those that it sends or adds
+  abbrev pub Coming : State (tree c) → Event → Type 0
+  Coming t e =
+      ((p : List ℕ) → List·Memᴰ p (pageIn (t .skeleton .pending) e) → M p)
+      × (step c (guard c) (guardOf c t) e ≡ resultOf c (step c (tree c) t e)
+      → (p : List ℕ) → List·Memᴰ p (pageOut (step c (tree c) t e .state .skeleton) (step c (tree c) t e .outcome .answer)) → M p)
+
+  -- its images are in N
+  abbrev pub Images : State (guard c) → Event → Type 0
+  Images g e = (p : List ℕ) → List·Memᴰ p (imageIn e ++ imageOut e (step c (guard c) g e .outcome)) → N p
+
+  -- What is known of the history before a run of both, whoever's run it follows: it says so of the first event, and as much of the rest.
+  pub record History (P : State (guard c) → State (tree c) → List Event → Type 0) : Type 0 where
+    pub here : (g : State (guard c)) (t : State (tree c)) (e : Event) (es : List Event) → P g t (e ∷ es) → g ≡ guardOf c t → Coming t e
+    pub rest : (g : State (guard c)) (t : State (tree c)) (e : Event) (es : List Event) → P g t (e ∷ es) → g ≡ guardOf c t → Holds t → EventBytes e
+        → P (step c (guard c) g e .state) (step c (tree c) t e .state) es
 
   -- one event, where guard and tree agree on its move
-  pub advance : (t : State (tree c)) → Holds t → (e : Event) → EventBytes e → Adds (guardOf c t) e → Agree c t (judge c (t .skeleton) e)
+  pub advance : (t : State (tree c)) → Holds t → (e : Event) → EventBytes e → Coming t e → Images (guardOf c t) e → Agree c t (judge c (t .skeleton) e)
       → (step c (guard c) (guardOf c t) e ≡ resultOf c (step c (tree c) t e)) × Holds (step c (tree c) t e .state) × Remembers t e (step c (tree c) t e)
   unfolding step guardOf resultOf
-  advance t h e b (np, ni) ag =
+  advance t h e b co ni ag =
       let f = judge-fits c (t .skeleton) (h .valid) e b in
       let q : step c (guard c) (guardOf c t) e ≡ resultOf c (step c (tree c) t e) = commute c t (h .kept .good .aligned) f ag in
       let qo : step c (guard c) (guardOf c t) e .outcome ≡ step c (tree c) t e .outcome = ap (λ r. r .outcome) q in (
         q,
         record {
           valid = keeps-valid c (tree c) t (h .valid) _ e f (λ i d _. back-valid t (h .kept) (h .valid .tables .nodes-valid) d);
-          kept = keeps c M N t (h .kept) (h .valid .tables .nodes-valid) f (λ p m. ni p (Memᴰ·append-right (imageIn e) (rw qo m))) (λ p m. np p (Memᴰ·append-right (pageIn (t .skeleton .pending) e) (rw qo m)));
+          kept = keeps c M N t (h .kept) (h .valid .tables .nodes-valid) f (λ p m. ni p (Memᴰ·append-right (imageIn e) (rw qo m))) (co .1 q);
         },
         remembers t f,
       )
@@ -243,25 +254,27 @@ module _ (c : Config) (fit : Fit c) (M N : List ℕ → Type 0) where
     pub holds : Holds (final c (tree c) t es)
     pub saved : digestsKept (final c (tree c) t es .saves) ≡ givenAfter (digestsKept (t .saves)) (shown c (guard c) g es)
 
-  pub simulate : (es : List Event) (g : State (guard c)) (t : State (tree c)) → g ≡ guardOf c t → Holds t → All EventBytes es
+  pub simulate : (P : State (guard c) → State (tree c) → List Event → Type 0) → History P
+      → (es : List Event) (g : State (guard c)) (t : State (tree c)) → g ≡ guardOf c t → Holds t → All EventBytes es
       → LoadsOfSaves c (digestsKept (t .saves)) g es
-      → ((p : List ℕ) → List·Memᴰ p (pages c (guard c) g es) → M p) → ((p : List ℕ) → List·Memᴰ p (images c (guard c) g es) → N p)
+      → P g t es → ((p : List ℕ) → List·Memᴰ p (images c (guard c) g es) → N p)
       → Or Bad (Simulated g t es)
-  unfolding outcomes final LoadsOfSaves pages images resultOf guardOf step givenAfter shown
-  simulate [] g t q h bs lo np ni = ok (record { same = refl; left = q; holds = h; saved = refl })
-  simulate (e ∷ es) g t q h bs lo np ni = do
-    let ad : Adds g e = ((λ p m. np p (Memᴰ·append-left _ m)), (λ p m. ni p (Memᴰ·append-left _ m)))
-    let ad₂ : Adds (guardOf c t) e = subst (λ s. Adds s e) q ad
+  unfolding outcomes final LoadsOfSaves images resultOf guardOf step givenAfter shown
+  simulate P hi [] g t q h bs lo np ni = ok (record { same = refl; left = q; holds = h; saved = refl })
+  simulate P hi (e ∷ es) g t q h bs lo np ni = do
+    let co : Coming t e = hi .here g t e es np q
+    let im : Images g e = λ p m. ni p (Memᴰ·append-left _ m)
+    let im₂ : Images (guardOf c t) e = subst (λ s. Images s e) q im
     let lo₂ = subst (λ s. LoadOf (digestsKept (t .saves)) e (step c (guard c) s e .outcome)) q (lo .0)
-    ag ← agree t (h .kept) (judge-fits c (t .skeleton) (h .valid) e (all-head bs)) (λ p m. ad₂ .0 p (Memᴰ·append-left _ m)) (λ p m. ad₂ .1 p (Memᴰ·append-left _ m)) lo₂
-    let (x, h₂, k) = advance t h e (all-head bs) ad₂ ag
+    ag ← agree t (h .kept) (judge-fits c (t .skeleton) (h .valid) e (all-head bs)) (co .0) (λ p m. im₂ p (Memᴰ·append-left _ m)) lo₂
+    let (x, h₂, k) = advance t h e (all-head bs) co im₂ ag
     let y : step c (guard c) g e ≡ resultOf c (step c (tree c) t e) = ap (λ s. step c (guard c) s e) q ∙ x
     let yo : step c (guard c) g e .outcome ≡ step c (tree c) t e .outcome = ap (λ r. r .outcome) y
     let ds : given e (step c (guard c) g e .outcome) ++ digestsKept (t .saves) ≡ digestsKept (step c (tree c) t e .state .saves) =
         ap (λ o. given e o ++ digestsKept (t .saves)) yo ∙ sym k
-    s ← simulate es (step c (guard c) g e .state) (step c (tree c) t e .state) (ap (λ r. r .state) y) h₂ (all-tail bs)
+    s ← simulate P hi es (step c (guard c) g e .state) (step c (tree c) t e .state) (ap (λ r. r .state) y) h₂ (all-tail bs)
         (subst (λ l. LoadsOfSaves c l (step c (guard c) g e .state) es) ds (lo .1))
-        (λ p m. np p (Memᴰ·append-right (pageIn (g .skeleton .pending) e ++ pageOut (step c (guard c) g e .outcome .answer)) m))
+        (hi .rest g t e es np q h (all-head bs))
         (λ p m. ni p (Memᴰ·append-right (imageIn e ++ imageOut e (step c (guard c) g e .outcome)) m))
     ok (record {
       same = λ j. yo j ∷ s .same j;
@@ -271,6 +284,19 @@ module _ (c : Config) (fit : Fit c) (M N : List ℕ → Type 0) where
     })
 
 module _ (c : Config) (fit : Fit c) where
+  -- the guard's own history
+  pub guard-history : (M N : List ℕ → Type 0) → History c fit M N (λ g t es. (p : List ℕ) → List·Memᴰ p (pages c (guard c) g es) → M p)
+  unfolding pages resultOf guardOf
+  guard-history M N = record {
+    here = λ g t e es np q. (
+      (λ p m. np p (Memᴰ·append-left _ (Memᴰ·append-left _ (subst (λ (s : State (guard c)). List·Memᴰ p (pageIn (s .skeleton .pending) e)) (sym q) m)))),
+      (λ x p m. np p (Memᴰ·append-left _ (Memᴰ·append-right (pageIn (g .skeleton .pending) e)
+          (subst (λ (r : Result (guard c)). List·Memᴰ p (pageOut (r .state .skeleton) (r .outcome .answer))) (sym (ap (λ s. step c (guard c) s e) q ∙ x)) m)))),
+    );
+    rest = λ g t e es np q h b p m. np p
+        (Memᴰ·append-right (pageIn (g .skeleton .pending) e ++ pageOut (step c (guard c) g e .state .skeleton) (step c (guard c) g e .outcome .answer)) m);
+  }
+
   pub fresh-holds : (M N : List ℕ → Type 0) → Holds c fit M N (fresh c (tree c))
   fresh-holds M N = record {
     valid = fresh-valid (c .width) (fit .wide);
@@ -284,6 +310,7 @@ module _ (c : Config) (fit : Fit c) where
   pub first-half : FirstHalf c
   unfolding FirstHalf Agrees Collision
   first-half es bs lo = do
-    s ← simulate c fit (λ p. List·Memᴰ p (pages c (guard c) (fresh c (guard c)) es)) (λ p. List·Memᴰ p (images c (guard c) (fresh c (guard c)) es)) es
+    s ← simulate c fit (λ p. List·Memᴰ p (pages c (guard c) (fresh c (guard c)) es)) (λ p. List·Memᴰ p (images c (guard c) (fresh c (guard c)) es))
+        _ (guard-history _ _) es
         (fresh c (guard c)) (fresh c (tree c)) fresh-guard (fresh-holds _ _) bs lo (λ p m. m) (λ p m. m)
     ok (s .same, s .left)

@@ -44,13 +44,18 @@ pageReplied q (reply r a b) = pick (isFetch q) (pick (eqb (length r) PAGE-BYTES)
 pageReplied q (save n) = []
 pageReplied q (load i d) = []
 
--- the pages of the history (SPECIFICATION 10.3), where this request stands at first
-unfoldable pub pagesAfter : (request : List ℕ) → List Seen → List (List ℕ)
-pagesAfter q [] = []
-pagesAfter q (x ∷ xs) = (pageReplied q (x .event) ++ pageOut (x .outcome .answer)) ++ pagesAfter (standing q (x .outcome .answer)) xs
+-- The pages of the history (SPECIFICATION 10.3), where this request stands at first. The bytes of a cut do not tell a growth from a shrinking: there
+-- the history follows the tree's run.
+module _ (c : Config) where
+  unfoldable pub pagesAfter : (request : List ℕ) → State (tree c) → List Seen → List (List ℕ)
+  pagesAfter q t [] = []
+  pagesAfter q t (x ∷ xs) =
+      (pageReplied q (x .event) ++ pageOut (step c (tree c) t (x .event) .state .skeleton) (x .outcome .answer))
+      ++ pagesAfter (standing q (x .outcome .answer)) (step c (tree c) t (x .event) .state) xs
 
-abbrev pub pagesSeen : List Seen → List (List ℕ)
-pagesSeen xs = pagesAfter [] xs
+  -- from this tree on
+  abbrev pub pagesSeen : State (tree c) → List Seen → List (List ℕ)
+  pagesSeen t xs = pagesAfter [] t xs
 
 -- and its images
 unfoldable pub imagesSeen : List Seen → List (List ℕ)

@@ -8,10 +8,8 @@ use lib.Dec.{eqb, ltb, leb}
 use lib.ListN.{length, getD}
 use Rattle.lists.specs.Pick.{pick, pick-ind}
 use Rattle.lists.specs.Equal.{equal}
-use Rattle.lists.specs.All.{All, all-head, all-tail}
 use Rattle.lists.specs.Checks.{decide-ind}
 use Rattle.filesystem.specs.Tables.{PAGE-BYTES}
-use Rattle.filesystem.specs.ImageLaws.{Digest}
 use Rattle.rules.specs.Pages.{Change, first, last, fetches, cuts}
 use Rattle.rules.specs.Requests.{isFetch, fetchRequest, storeRequest, cutRequest, asked, Pending, idle, reading, fetching, storing, cutting}
 use Rattle.rules.specs.Skeleton.{Config, Event, call, reply, save, load, EventBytes, Outcome, done, refused, plain}
@@ -20,10 +18,9 @@ use Rattle.rules.specs.Valid.{Valid, Asks, Starts, Fits, fRefuse, fHalt, fSend,
 use Rattle.rules.specs.FitLaws.{judge-fits}
 use Rattle.machine.specs.Machine.{Store, State, Result, contentAt, sizeAt, imageOf, readOn, finishChange, pagesStored, askStore, onPage, pagesFrom, cleared, apply, step, outcomes, guard}
 use Rattle.machine.specs.Tree.{tree}
-use Rattle.machine.specs.History.{awaitsPage, pageIn, pageOut, imageIn, imageOut, pages, images}
+use Rattle.machine.specs.History.{awaitsPage, pageIn, imageIn, imageOut, images}
 use Rattle.machine.specs.Claim.{LoadOf, LoadsOfSaves, HonestAt, Honest, given}
-use Rattle.machine.specs.StateProperties.{Holds, step-holds}
-use Rattle.machine.specs.Seen.{Seen, events, answers, shown, standing, pageReplied, pagesAfter, imagesSeen, LoadsSeen, HonestIn, HonestSeen}
+use Rattle.machine.specs.Seen.{Seen, events, answers, shown, standing, pageReplied, imagesSeen, LoadsSeen, HonestIn, HonestSeen}
 
 -- what was handed in, with the outcomes of a run, is what the run shows
 pub shown-is : (c : Config) (S : Store) (s : State S) (xs : List Seen) → answers xs ≡ outcomes c S s (events xs) → xs ≡ shown c S s (events xs)
@@ -94,7 +91,7 @@ module _ (c : Config) where
       (λ _. pick-ind (StandsAfter q) (fetches x (sizeAt c (guard c) g k) i) (λ _. refl) (λ _. refl))
       (λ _. pick-ind (StandsAfter q) (cuts x) (λ _. refl) (λ _. refl))
 
-  move-stands : (q : List ℕ) (g : State (guard c)) → Stands q g → {m : Move} {e : Event} → Fits c (g .skeleton) e m → StandsAfter q (apply c (guard c) g m)
+  pub move-stands : (q : List ℕ) (g : State (guard c)) → Stands q g → {m : Move} {e : Event} → Fits c (g .skeleton) e m → StandsAfter q (apply c (guard c) g m)
   unfolding apply readOn askStore finishChange standing isFetch awaitsPage fetchRequest storeRequest
   move-stands q g h fRefuse = h
   move-stands q g h (fHalt he f) = refl
@@ -114,23 +111,12 @@ module _ (c : Config) where
   move-stands q g h (fSaving he w z) = refl
   move-stands q g h (fLoading he z hd hp) = refl
 
-  page-replied : (q : List ℕ) (p : Pending) (e : Event) → isFetch q ≡ awaitsPage p → pageReplied q e ≡ pageIn p e
+  pub page-replied : (q : List ℕ) (p : Pending) (e : Event) → isFetch q ≡ awaitsPage p → pageReplied q e ≡ pageIn p e
   unfolding pageReplied pageIn
   page-replied q p (call s a b) h = refl
   page-replied q p (reply r a b) h = ap (λ w. pick w (pick (eqb (length r) PAGE-BYTES) (r ∷ []) []) []) h
   page-replied q p (save n) h = refl
   page-replied q p (load i d) h = refl
-
-  module _ (digest-fits : (s : List ℕ) → Digest (c .digest s)) where
-    pub pages-shown : (q : List ℕ) (g : State (guard c)) (es : List Event) → Stands q g → Holds c g → All EventBytes es
-        → pagesAfter q (shown c (guard c) g es) ≡ pages c (guard c) g es
-    unfolding shown pagesAfter pages step
-    pages-shown q g [] h v bs = refl
-    pages-shown q g (e ∷ es) h v bs =
-        let r = step c (guard c) g e in
-        ap₂ (λ a b. (a ++ pageOut (r .outcome .answer)) ++ b) (page-replied q (g .skeleton .pending) e h)
-        (pages-shown (standing q (r .outcome .answer)) (r .state) es
-        (move-stands q g h (judge-fits c (g .skeleton) (v .valid) e (all-head bs))) (step-holds c digest-fits g e (all-head bs) v) (all-tail bs))
 
 -- A digest comes with a save that is done, and with nothing else.
 abbrev pub NoSave : Event → Type 0

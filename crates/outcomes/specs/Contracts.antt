@@ -21,7 +21,7 @@ use Rattle.rules.specs.Calls.{Call}
 use Rattle.rules.specs.Skeleton.{Config, answerLength}
 use Rattle.machine.specs.Machine.{State, guard as digestStore}
 use Rattle.machine.specs.Consistent.{Consistent}
-use Rattle.guard_state.specs.Calls.{CUTTING}
+use Rattle.guard_state.specs.Calls.{LAST}
 use Rattle.guard_state.specs.State.{numbersIn, stateOf}
 use Rattle.outcomes.specs.declared.Outcome.{Outcome}
 use Rattle.outcomes.specs.Sent.{Sends, Fills, Leaves}
@@ -63,7 +63,7 @@ AcceptsBoth m p a q r =
 
 abbrev pub AcceptsPending : (m p a q : Lent) → Outcome → Type 0
 AcceptsPending m p a q r =
-    Rightly m (λ c s. 1 ≤ numbersIn (m .entry) .call → numbersIn (m .entry) .call ≤ CUTTING
+    Rightly m (λ c s. 1 ≤ numbersIn (m .entry) .call → numbersIn (m .entry) .call ≤ LAST
     → answerLength c ≤ length (now (a .entry))
     → Leaves c (answered c s (now (p .entry))) r (now (m .exit)) (now (a .entry)) (now (a .exit)) (now (q .entry))
     (now (q .exit)))

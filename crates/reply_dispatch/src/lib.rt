@@ -5,7 +5,7 @@ ghost use Prim.Native.Nat.{_≤_};
 ghost use lib.ListN.{length};
 ghost use Rattle.filesystem.specs.Tables.{DATA-BYTES};
 ghost use Rattle.memory.specs.Memories.{IsMemory};
-ghost use Rattle.guard_state.specs.Calls.{CREATING, CHANGING, FETCHING, CUTTING};
+ghost use Rattle.guard_state.specs.Calls.{CREATING, CHANGING, FETCHING, LAST};
 ghost use Rattle.guard_state.specs.State.{numbersIn};
 ghost use Rattle.outcomes.specs.Contracts.{Accepts, AcceptsAsking, AcceptsPending};
 ghost use Rattle.requests.specs.Room.{HoldsRequest};
@@ -26,14 +26,14 @@ fn accept_change(m: &mut [u8], call: u64, reply: &[u8]) -> outcomes::Outcome
     }
 }
 
-// A write's page fetched or stored; a truncation's page fetched or stored, its file cut.
+// A write's page fetched or stored; a truncation's page fetched or stored, its file cut, to fewer bytes or to more.
 fn accept_page_change(
     m: &mut [u8],
     call: u64,
     reply: &[u8],
     request: &mut [u8],
 ) -> outcomes::Outcome
-    requires { ⌜ (call ≡ numbersIn m .call) × (FETCHING ≤ call) × (call ≤ CUTTING) × IsMemory m
+    requires { ⌜ (call ≡ numbersIn m .call) × (FETCHING ≤ call) × (call ≤ LAST) × IsMemory m
         × HoldsRequest request ⌝ }
     ensures { λ r. ⌜ AcceptsAsking m reply request r ⌝ }
 {
@@ -42,7 +42,8 @@ fn accept_page_change(
         calls::STORING => writes::accept_stored(m, reply, request),
         calls::SHRINK_FETCHING => truncations::accept_fetched(m, reply, request),
         calls::SHRINK_STORING => truncations::accept_stored(m, reply, request),
-        _ => truncations::accept_cut(m, reply),
+        calls::CUTTING => truncations::accept_cut(m, reply),
+        _ => truncations::accept_growth(m, reply),
     }
 }
 
@@ -63,7 +64,7 @@ pub fn accept_reply(
         calls::LISTING => listings::accept_listing(m, reply, answer),
         calls::STATING => attributes::accept_stat(m, reply, answer),
         calls::READING => reads::accept_page(m, reply, answer, request),
-        calls::FETCHING..=calls::CUTTING => accept_page_change(m, call, reply, request),
+        calls::FETCHING..=calls::LAST => accept_page_change(m, call, reply, request),
         _ => outcomes::Outcome::Refused(61),
     }
 }

@@ -60,11 +60,13 @@ rows =
     ∷ one "22: seek, 8 bytes are read" w (seek 2 4294967297) (isRefused 22)
     ∷ one "22: seek, the eighth byte" w (seek 2 72057594037927937) (isRefused 22)
     ∷ one "9 before 22: seek" w (seek 5 2) (isRefused 9)
-    ∷ one "22: truncate beyond the size" w (truncate 4 4) (isRefused 22)
-    ∷ one "22: truncate, 8 bytes are read" w (truncate 4 4294967297) (isRefused 22)
-    ∷ one "22: truncate, the eighth byte" w (truncate 4 72057594037927937) (isRefused 22)
-    ∷ one "9 before 22: truncate" w (truncate 5 2) (isRefused 9)
-    ∷ one "9 before 22: truncate without right 2" w (truncate 2 4) (isRefused 9)
+    -- a truncation beyond the size cuts to it; 27 asks all 8 bytes; 9 comes first
+    ∷ one "truncate beyond the size" w (truncate 4 4) (cutsTo 12 4)
+    ∷ one "27: truncate, 8 bytes are read" w (truncate 4 4294967301) (isRefused 27)
+    ∷ one "27: truncate, the eighth byte" w (truncate 4 72057594037927940) (isRefused 27)
+    ∷ one "27: truncate to 2^64 - 1" w (truncate 4 18446744073709551615) (isRefused 27)
+    ∷ one "9 before 27: truncate" w (truncate 5 65537) (isRefused 9)
+    ∷ one "9 before 27: truncate without right 2" w (truncate 2 65537) (isRefused 9)
     -- a read or write of no bytes and a truncation to the same size send nothing (SPECIFICATION 5.2); done with 0
     ∷ row "read of no bytes" w (read 2 0 ⇒ isDone 0 nothing then holds items opens then end)
     ∷ row "read at the end" w (read 4 7 ⇒ isDone 0 nothing then holds items opens then end)

@@ -69,11 +69,14 @@ rows =
     ∷ row "truncate: a cut" w
     (truncate a 64512 ⇒ asks (8 ∷ 1 ∷ 2 ∷ 0 ∷ 0 ∷ 0 ∷ 252 ∷ 0 ∷ 0 ∷ [])
     then says 0 ⇒ isDone 0 nothing then holds (items 64512) (opens 40000) then end)
+    ∷ row "truncate: a cut to more" (given (items 64512) (opens 40000))
+    (truncate a 65536 ⇒ asks (8 ∷ 1 ∷ 2 ∷ 0 ∷ 0 ∷ 0 ∷ 0 ∷ 1 ∷ 0 ∷ [])
+    then says 0 ⇒ isDone 0 nothing then holds (items 65536) (opens 40000) then end)
     -- positions and sizes
     ∷ row "seek to 65,536" w (seek a 65536 ⇒ isDone 65536 nothing then holds (items 65536) (opens 65536) then end)
     ∷ one "22: seek to 65,537" w (seek a 65537) (isRefused 22)
     ∷ one "22: seek to 2^24" w (seek a 16777216) (isRefused 22)
-    ∷ one "22: truncate to 65,537" w (truncate a 65537) (isRefused 22)
+    ∷ one "27: truncate to 65,537" w (truncate a 65537) (isRefused 27)
     ∷ row "truncate to 65,536, the same size" w
     (truncate a 65536 ⇒ isDone 0 nothing then holds (items 65536) (opens 40000) then end)
     -- handles: all four bytes

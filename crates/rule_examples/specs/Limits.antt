@@ -9,8 +9,8 @@ use Rattle.filesystem.specs.Tables.{ID-BYTES, Node}
 use Rattle.filesystem.specs.Image.{sound}
 use Rattle.rule_examples.specs.Bytes.{bytesOf, many, nothing, under}
 use Rattle.rule_examples.specs.Given.{file, sized, rootOf, root, opened, Given, given, node}
-use Rattle.rule_examples.specs.Events.{create, mkdir, openFor, write}
-use Rattle.rule_examples.specs.Rows.{isDone, isRefused, fetches, stores, Row, one, passes}
+use Rattle.rule_examples.specs.Events.{create, mkdir, openFor, write, truncate}
+use Rattle.rule_examples.specs.Rows.{isDone, isRefused, fetches, stores, cutsTo, Row, one, passes}
 use Rattle.rule_examples.specs.Evaluation.{wrong}
 
 -- n nodes in all: a root of this mode, and files
@@ -75,6 +75,21 @@ rows =
     ∷ one "a store of the size 65,536" (stocked 0 64512 64512) (write 2 (many 1024 1)) (stores 5 63 65536)
     ∷ one "no 28: one page more, to 1,024" nearly (write 2 (many 1024 1)) (stores 5 0 1024)
     ∷ one "28: two pages more, to 1,025" nearly (write 2 (many 1025 1)) (isRefused 28)
+    -- a truncation: 27 above 65,536; 9 comes first, 28 after it
+    ∷ one "no 27: a growth to 65,536" (stocked 0 700 0) (truncate 2 65536) (cutsTo 5 65536)
+    ∷ one "27: a growth to 65,537" (stocked 0 700 0) (truncate 2 65537) (isRefused 27)
+    ∷ one "27: a growth of a full file" (stocked 0 65536 0) (truncate 2 65537) (isRefused 27)
+    ∷ one "27 before 28: a growth" (stocked 16 0 0) (truncate 2 65537) (isRefused 27)
+    -- 28 with over 1,024 pages, as they would be after it; one that adds no page passes
+    ∷ one "no 28: a growth to 1,024 pages" (stocked 15 1 0) (truncate 2 65536) (cutsTo 5 65536)
+    ∷ one "28: a growth to 1,025 pages" (stocked 16 0 0) (truncate 2 1) (isRefused 28)
+    ∷ one "9 before 28: a growth" (readOnly 16 0 0) (truncate 2 1) (isRefused 9)
+    ∷ one "9 before 28: a growth, not open" (given (stocked 16 0 0 .items) []) (truncate 2 1) (isRefused 9)
+    ∷ one "no 28: a growth inside the last of 1,024 pages" (stocked 15 64513 0) (truncate 2 65536) (cutsTo 5 65536)
+    ∷ one "no 28: a shrinking beside 1,024 pages" (stocked 15 65536 0) (truncate 2 1024) (cutsTo 5 1024)
+    ∷ one "no 28: to the same size beside 1,024 pages" (stocked 16 0 0) (truncate 2 0) (isDone 0 nothing)
+    ∷ one "no 28: a growth of one page, to 1,024" nearly (truncate 2 1024) (cutsTo 5 1024)
+    ∷ one "28: a growth of two pages, to 1,025" nearly (truncate 2 1025) (isRefused 28)
     ∷ []
 
 -- the limits of an image: not 257 nodes (that 256 may be stands in `filesystem`, `LongestImage`); 1,024 pages, not 1,025

@@ -19,7 +19,7 @@ use Rattle.lists.specs.Places.{place-none}
 use Rattle.lists.specs.Signed.{signed}
 use Rattle.lists.specs.LittleEndian.{decode, decode-below}
 use Rattle.lists.specs.Checks.{Check, Passed, decide-ind}
-use Rattle.filesystem.specs.Tables.{OPEN-FILES, FILE-BYTES, NAME-BYTES, PATH-BYTES, Node, OpenFile, Tables, isFile, isDirectory, hasBit, hasHandle, pagesFor, pageTotal, noNode, noOpenFile, nodeAt, openAt, absent, present, findId, findHandle, children, setMode, setSize}
+use Rattle.filesystem.specs.Tables.{OPEN-FILES, FILE-BYTES, NAME-BYTES, PATH-BYTES, Node, OpenFile, Tables, isFile, isDirectory, hasBit, hasHandle, noNode, noOpenFile, nodeAt, openAt, absent, present, findId, findHandle, children, setMode}
 use Rattle.filesystem.specs.Rights.{covers}
 use Rattle.filesystem.specs.Paths.{Path, pathBytes, joined, componentForm, tooLong, childAt, walk, walkChecks, parentChecks, parentOf, lastOf}
 use Rattle.filesystem.specs.PathLaws.{walk-place, walk-last, parent-place}
@@ -28,7 +28,7 @@ use Rattle.filesystem.specs.Sound.{gone, Sound, to-sound, limits-at, by-kind, f
 use Rattle.filesystem.specs.SoundLaws.{root-parent-length, file-children}
 use Rattle.rules.specs.Calls.{Call, create, mkdir, openAs, close, seek, read, write, truncate, remove, rmdir, chmod, readdir, stat, callBytes, readCall}
 use Rattle.rules.specs.CallLaws.{PathFits, CallFits, call-was-written}
-use Rattle.rules.specs.Pages.{pageAt, writing, shrinking, sizeAfter}
+use Rattle.rules.specs.Pages.{pageAt, writing, truncating, sizeAfter}
 use Rattle.rules.specs.Requests.{asked, closeRequest, fetchRequest, isFetch, Pending, idle, creating, opening, closing, removing, changing, listing, stating, reading, fetching, storing, cutting}
 use Rattle.rules.specs.Skeleton.{Config, Event, call, reply, save, load, EventBytes, Skeleton}
 use Rattle.rules.specs.Rules.{Move, refuse, halt, loading, target, holder, isOpen, openPlace, filePlace, opened, file, noRoom, newChecks, callChecks, readAction, callAction, signedOf, isDescriptor, replyChecks, replyAction, isIdle, callOr, imageOr, isNone, eventChecks, eventAction, judge}
@@ -55,13 +55,6 @@ last-short : (c : List ℕ) (cs : Path) → any (λ c. ltb NAME-BYTES (length c)
 unfolding any lastOf
 last-short c [] e = ltb-false _ _ (or-fst _ _ e)
 last-short c (d ∷ cs) e = last-short d cs (or-snd (ltb NAME-BYTES (length c)) _ e)
-
--- fewer bytes need no more pages
-fewer-pages : (ns : List Node) (k n : ℕ) → n ≤ nodeAt ns k .size → pageTotal (setSize ns k n) ≤ pageTotal ns
-unfolding pageTotal setSize nodeAt
-fewer-pages [] k n h = omega arith
-fewer-pages (m ∷ ns) zero n h = unfold pagesFor in omega arith
-fewer-pages (m ∷ ns) (suc k) n h = let z = fewer-pages ns k n h in omega arith
 
 pub none-left : {A : Type 0} (l : List A) → length l ≤ 0 → l ≡ []
 none-left [] h = refl
@@ -171,17 +164,15 @@ module _ (c : Config) (sk : Skeleton) (v : ValidTables (c .width) (sk .tables)) 
       (λ x y. omega arith) in
       record { opened = o; fits = (cur, omega arith); most = omega arith; room = ltb-false _ _ b }
 
-  pub shrink-fits : (h n : ℕ) → findHandle os h < length os → (n ≡ file t h .size → ⊥) → ltb (file t h .size) n ≡ false
-      → ChangeFits ns os (filePlace t h) (openPlace t h) (shrinking n)
-  unfolding sizeAfter
-  shrink-fits h n l d a =
+  pub truncate-fits : (h n : ℕ) → findHandle os h < length os → (n ≡ file t h .size → ⊥) → ltb FILE-BYTES n ≡ false → noRoom t (filePlace t h) n ≡ false
+      → ChangeFits ns os (filePlace t h) (openPlace t h) (truncating (file t h .size) n)
+  unfolding sizeAfter noRoom truncating
+  truncate-fits h n l d a b =
       let (o, cur) = handle-opened h l in
-      let m : n ≤ file t h .size = ltb-false _ _ a in
-      let s : file t h .size ≤ FILE-BYTES = by-kind (file t h .size ≤ FILE-BYTES) (limits-at w ns is-sound (filePlace t h) (o .known)) (λ x y. y)
-      (λ x y. omega arith) in
-      let r = fewer-pages ns (filePlace t h) n m in
-      let z = is-sound .pages in
-      record { opened = o; fits = omega arith; most = omega arith; room = omega arith }
+      let m : n ≤ FILE-BYTES = ltb-false _ _ a in
+      pick-ind (ChangeFits ns os (filePlace t h) (openPlace t h)) (ltb n (file t h .size))
+      (λ x. record { opened = o; fits = ltb-true n (file t h .size) x; most = m; room = ltb-false _ _ b })
+      (λ x. let z : file t h .size ≤ n = ltb-false n (file t h .size) x in record { opened = o; fits = omega arith; most = m; room = ltb-false _ _ b })
 
   removing-fits : (p : Path) → Passed (walkChecks ns 0 p) → isDirectory (target t p) ≡ false → present os (findHandle os (target t p .id)) ≡ false
       → RemovingFits ns os (walk ns 0 p)
@@ -240,8 +231,9 @@ module _ (c : Config) (sk : Skeleton) (v : ValidTables (c .width) (sk .tables)) 
   call-fits e pl (read h n) f (both o _) = read-fits e pl h _ (there os _ (or-fst _ _ o)) (omega arith)
   call-fits e pl (write h d) f (both o (both big (both room _))) =
       pick-ind (Fit e) (eqb (length d) 0) (λ _. fFinish pl v refl) (λ x. fBegin pl (grow-fits h d (there os _ (or-fst _ _ o)) (eqb-false _ _ x) big room))
-  call-fits e pl (truncate h n) f (both o (both s _)) =
-      pick-ind (Fit e) (eqb n (file t h .size)) (λ _. fFinish pl v refl) (λ x. fBegin pl (shrink-fits h n (there os _ (or-fst _ _ o)) (eqb-false _ _ x) s))
+  call-fits e pl (truncate h n) f (both o (both big (both room _))) =
+      pick-ind (Fit e) (eqb n (file t h .size)) (λ _. fFinish pl v refl)
+      (λ x. fBegin pl (truncate-fits h n (there os _ (or-fst _ _ o)) (eqb-false _ _ x) big room))
   call-fits e pl (remove p) f a = let (x, y) = reach-walk p _ a in fSend (remove-fits p x y) tt refl
   call-fits e pl (rmdir p) f a = let (x, y) = reach-walk p _ a in fSend (rmdir-fits p x y) tt refl
   call-fits e pl (chmod m p) (h, f) (both _ a) =

@@ -26,7 +26,7 @@ use Rattle.filesystem.specs.LongestImage.{leafName, leaf, full, full-sound, ful
 use Rattle.filesystem.specs.Sound.{Sound, to-sound, limits-at, root-parent, name-short}
 use Rattle.rules.specs.Calls.{Call, create, mkdir, openAs, close, seek, read, write, truncate, remove, rmdir, chmod, readdir, stat, callBytes, readCall}
 use Rattle.rules.specs.CallLaws.{CallFits, call-was-written}
-use Rattle.rules.specs.Pages.{pageAt, bytesAt, pagePart, overlay, Change, writing, shrinking, fill}
+use Rattle.rules.specs.Pages.{pageAt, bytesAt, pagePart, overlay, Change, writing, shrinking, growing, fill}
 use Rattle.rules.specs.Requests.{storeLength, asked, closeRequest, fetchRequest, storeRequest, Pending, idle, creating, opening, closing, removing, changing, listing, stating, reading, fetching, storing, cutting}
 use Rattle.rules.specs.Skeleton.{Config, Event, call, reply, save, load, EventBytes, answerLength, requestLength, Skeleton}
 use Rattle.rules.specs.Rules.{Move, refuse, halt, send, finish, add, delete, readPage, begin, fillPage, stored, cutDone, saving, loading, openPlace, filePlace, opened, file, Entry, entryForm, entryOf, callChecks, readAction, callAction, replyChecks, replyAction, callOr, isNone, eventChecks, eventAction, judge}
@@ -196,6 +196,7 @@ pub page-long : (q : Change) (i : ℕ) (r : List ℕ) → length (fill q i r) �
 unfolding fill overlay
 page-long (writing p d) i r = length-tab _ _
 page-long (shrinking n) i r = length-tab _ _
+page-long (growing n) i r = length-tab _ _
 
 -- what a read has gathered, with one page more
 pub gather-more : (b r : List ℕ) (p n i : ℕ) → length b ≡ max p (i * 1024) - p → pageAt p ≤ i → i * 1024 < p + n

@@ -76,7 +76,7 @@ module _ (t : Tables) where
   call-known (seek h n) = both refl (both refl all-none)
   call-known (read h n) = both refl all-none
   call-known (write h d) = both refl (both refl (both refl all-none))
-  call-known (truncate h n) = both refl (both refl all-none)
+  call-known (truncate h n) = both refl (both refl (both refl all-none))
   call-known (remove p) = both refl (all-append (walk-known p) (both refl (both refl (both refl all-none))))
   call-known (rmdir p) = both refl (all-append (walk-known p) (both refl (both refl (both refl (both refl all-none)))))
   call-known (chmod m p) = both refl (walk-known p)

@@ -3,7 +3,7 @@
 use mathlib.Core.Path.{_≡_, ap, sym, _∙_}
 use mathlib.Core.Logic.{_⊎_, inl, inr}
 use mathlib.Core.Bool.{true≢false, true, false}
-use mathlib.Core.List.{List, [], _++_}
+use mathlib.Core.List.{List, [], _∷_, _++_}
 use Prim.Native.Nat.{ℕ, suc, _+_, _-_, _*_, _/_, _≤_, _<_, min, max}
 use native.Mathlib.Omega.{arith}
 use lib.Dec.{ltb}
@@ -14,7 +14,7 @@ use Rattle.lists.specs.Equal.{Is, isT, isF, is, and-fst}
 pub use Rattle.lists.specs.Cells.{Where, low, mid, high, range}
 use Rattle.lists.specs.Cells.{inside, tab, length-tab, getD-tab, tab-cong, tab-append}
 use Rattle.filesystem.specs.Tables.{pagesFor}
-use Rattle.rules.specs.Pages.{pageAt, pageOf, bytesAt, resized, splice, overlay, pagePart, Change, writing, shrinking, first, last, fetches, fill, bytesAfter, sizeAfter, FitsSize}
+use Rattle.rules.specs.Pages.{pageAt, pageOf, bytesAt, resized, splice, overlay, pagePart, Change, writing, shrinking, growing, first, last, fetches, fill, bytesAfter, sizeAfter, FitsSize, addedBy}
 
 -- a cell of a list of cells, zero past its end
 pub getD-cells : (n : ℕ) (f : ℕ → ℕ) (j : ℕ) → getD (tab n f) j 0 ≡ pick (ltb j n) (f j) 0
@@ -70,17 +70,21 @@ pub length-after : (q : Change) (b : List ℕ) → length (bytesAfter q b) ≡ s
 unfolding bytesAfter sizeAfter resized
 length-after (writing p d) b = length-splice b p d
 length-after (shrinking n) b = length-tab n _
+length-after (growing n) b = length-tab n _
 
 pub first-last : (q : Change) (size : ℕ) → FitsSize q size → first q ≤ last q
 unfolding first last pagesFor pageAt
 first-last (writing p d) size h = omega arith
 first-last (shrinking n) size h = omega arith
+first-last (growing n) size h = omega arith
 
 -- the page that it leaves, from the page that was
 pub fill-page : (q : Change) (b : List ℕ) (i : ℕ) → fill q i (pageOf b i) ≡ pageOf (bytesAfter q b) i
 unfolding fill bytesAfter pageOf overlay resized
 fill-page (writing p d) b i = tab-cong 1024 _ _ (λ j h. sym (getD-splice b p d (i * 1024 + j) ∙ rw (getD-tab 1024 (λ k. getD b (i * 1024 + k) 0) j 0 h)))
 fill-page (shrinking n) b i =
+    tab-cong 1024 _ _ (λ j h. sym (getD-cells n (λ k. getD b k 0) (i * 1024 + j) ∙ rw (getD-tab 1024 (λ k. getD b (i * 1024 + k) 0) j 0 h)))
+fill-page (growing n) b i =
     tab-cong 1024 _ _ (λ j h. sym (getD-cells n (λ k. getD b k 0) (i * 1024 + j) ∙ rw (getD-tab 1024 (λ k. getD b (i * 1024 + k) 0) j 0 h)))
 
 -- the same where nothing is fetched
@@ -93,6 +97,23 @@ fill-blank (writing p d) b i e = tab-cong 1024 _ _ (λ j h. cell j h (is (inside
     cell j h (isT q) = pick-true _ _ _ q ∙ sym (pick-true _ _ _ q)
     cell j h (isF q) = pick-false _ _ _ q ∙ (sym (List·getD-eq-default b 0 {n = i * 1024 + j} (unfetched (length b) p d i j e h q)) ∙ sym (pick-false _ _ _ q))
 fill-blank (shrinking n) b i e = absurd (true≢false (unfold fetches in e))
+fill-blank (growing n) b i e = absurd (true≢false (unfold fetches in e))
+
+-- bytes with zeros behind: a byte of them is the old one, zero past the old end
+pub resized-more : (b : List ℕ) (n : ℕ) → length b < n → (j : ℕ) → getD (resized b n) j 0 ≡ getD b j 0
+unfolding resized
+resized-more b n f j = getD-cells n (λ k. getD b k 0) j ∙ go (is (ltb j n))
+  where
+    go : Is (ltb j n) → pick (ltb j n) (getD b j 0) 0 ≡ getD b j 0
+    go (isT e) = pick-true _ _ _ e
+    go (isF e) =
+        let z : n ≤ j = ltb-false j n e in
+        pick-false _ _ _ e ∙ sym (List·getD-eq-default b 0 {n = j} (omega arith))
+
+-- a page past the end is zero
+pub page-past : (b : List ℕ) (i : ℕ) → pagesFor (length b) ≤ i → pageOf b i ≡ pageOf [] 0
+unfolding pageOf pagesFor
+page-past b i h = tab-cong 1024 _ _ (λ j l. List·getD-eq-default b 0 {n = i * 1024 + j} (omega arith))
 
 -- the other pages are as they were, zeros past the end
 pub after-apart : (q : Change) (b : List ℕ) (i : ℕ) → FitsSize q (length b) → (i < first q) ⊎ (last q ≤ i) → i < pagesFor (sizeAfter q (length b))
@@ -112,20 +133,30 @@ after-apart (shrinking n) b i f o m =
     below : (i < n / 1024) ⊎ ((n + 1023) / 1024 ≤ i) → (j : ℕ) → j < 1024 → i * 1024 + j < n
     below (inl x) j h = omega arith
     below (inr x) j h = absurd (omega arith)
+after-apart (growing n) b i f o m = tab-cong 1024 _ _ (λ j h. resized-more b n f (i * 1024 + j))
 
--- and were there before
-pub apart-old : (q : Change) (size i : ℕ) → FitsSize q size → (i < first q) ⊎ (last q ≤ i) → i < pagesFor (sizeAfter q size) → i < pagesFor size
+-- and were there before, or a growth adds them
+pub apart-old : (q : Change) (size i : ℕ) → FitsSize q size → (i < first q) ⊎ (last q ≤ i) → i < pagesFor (sizeAfter q size)
+    → (i < pagesFor size) ⊎ ((pagesFor size ≤ i) × (addedBy q size ≡ pageOf [] 0 ∷ []))
 unfolding first last pagesFor pageAt sizeAfter
-apart-old (writing p d) size i f (inl x) m = omega arith
-apart-old (writing p d) size i f (inr x) m = omega arith
-apart-old (shrinking n) size i f (inl x) m = omega arith
+apart-old (writing p d) size i f (inl x) m = inl (omega arith)
+apart-old (writing p d) size i f (inr x) m = inl (omega arith)
+apart-old (shrinking n) size i f (inl x) m = inl (omega arith)
 apart-old (shrinking n) size i f (inr x) m = absurd (omega arith)
+apart-old (growing n) size i f o m = go (is (ltb i (pagesFor size)))
+  where
+    go : Is (ltb i (pagesFor size)) → (i < pagesFor size) ⊎ ((pagesFor size ≤ i) × (addedBy (growing n) size ≡ pageOf [] 0 ∷ []))
+    go (isT e) = inl (ltb-true _ _ e)
+    go (isF e) =
+        let z : pagesFor size ≤ i = ltb-false _ _ e in
+        inr (z, unfold addedBy in pick-true _ _ _ (lt-ltb (pagesFor size) (pagesFor n) (omega arith)))
 
 -- what is fetched is in the file
 pub fetch-in : (q : Change) (size i : ℕ) → FitsSize q size → first q ≤ i → i < last q → fetches q size i ≡ true → i * 1024 < size
 unfolding first last fetches pagesFor pageAt
 fetch-in (writing p d) size i f l h e = ltb-true (i * 1024) size (and-fst _ _ e)
 fetch-in (shrinking n) size i f l h e = omega arith
+fetch-in (growing n) size i f l h e = absurd (omega arith)
 
 -- A read: what the pages so far have given, and the part of one more. It runs from `from` to below `to`.
 bytesAt-from : (b : List ℕ) (p i from to : ℕ) → p ≤ from → i * 1024 ≤ from → to ≤ i * 1024 + 1024

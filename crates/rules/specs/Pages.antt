@@ -1,7 +1,7 @@
 -- A file's bytes by pages of 1,024, zero past the end (SPECIFICATION 2.4), and the calls that change them (4.3 to 4.6, 5.6 to 5.8), as data.
 -- Assumes nothing.
 use mathlib.Core.Bool.{Bool, true, false, _&&_, _||_}
-use mathlib.Core.List.{List}
+use mathlib.Core.List.{List, [], _∷_}
 use Prim.Native.Nat.{ℕ, _+_, _-_, _*_, _/_, _≤_, _<_, min, max}
 use lib.Dec.{ltb}
 use lib.ListN.{length, getD}
@@ -40,58 +40,80 @@ unfoldable pub pagePart : (page : List ℕ) (position n i : ℕ) → List ℕ
 pagePart page position n i =
     bytesAt page (max position (i * PAGE-BYTES) - i * PAGE-BYTES) (min (position + n) (i * PAGE-BYTES + PAGE-BYTES) - max position (i * PAGE-BYTES))
 
--- A call that changes a file's bytes: a write at the cursor, or a truncation to fewer bytes.
+-- A call that changes a file's bytes: a write at the cursor, a truncation to fewer bytes, or one to more.
 pub data Change : Type 0 where
   writing : (position : ℕ) (bytes : List ℕ) → Change
   shrinking : (size : ℕ) → Change
+  growing : (size : ℕ) → Change
 
--- it stores the pages from `first` to below `last`
+-- a truncation of a file of this size to n bytes
+unfoldable pub truncating : (size n : ℕ) → Change
+truncating size n = pick (ltb n size) (shrinking n) (growing n)
+
+-- it stores the pages from `first` to below `last`; a growth stores none
 unfoldable pub first : Change → ℕ
 first (writing p d) = pageAt p
 first (shrinking n) = pageAt n
+first (growing n) = 0
 
 unfoldable pub last : Change → ℕ
 last (writing p d) = pagesFor (p + length d)
 last (shrinking n) = pagesFor n
+last (growing n) = 0
 
 -- a write fetches a page of which a byte before the old end is not replaced (SPECIFICATION 5.6); a truncation the page that it ends in (5.2)
 unfoldable pub fetches : Change → (size i : ℕ) → Bool
 fetches (writing p d) size i = ltb (i * PAGE-BYTES) size && (ltb (i * PAGE-BYTES) p || ltb (p + length d) (min size (i * PAGE-BYTES + PAGE-BYTES)))
 fetches (shrinking n) size i = true
+fetches (growing n) size i = true
 
 -- page i as it is stored, from the page that was fetched (SPECIFICATION 5.7, 5.8)
 unfoldable pub fill : Change → ℕ → List ℕ → List ℕ
 fill (writing p d) i page = overlay page p d i
 fill (shrinking n) i page = tab PAGE-BYTES (λ j. pick (ltb (i * PAGE-BYTES + j) n) (getD page j 0) 0)
+fill (growing n) i page = tab PAGE-BYTES (λ j. pick (ltb (i * PAGE-BYTES + j) n) (getD page j 0) 0)
 
 -- the size sent with page i: the old one, or the end of what is written with this page where that is larger (SPECIFICATION 5.7); the old one (5.8)
 unfoldable pub sizeSent : Change → (size i : ℕ) → ℕ
 sizeSent (writing p d) size i = max size (min (p + length d) (i * PAGE-BYTES + PAGE-BYTES))
 sizeSent (shrinking n) size i = size
+sizeSent (growing n) size i = size
 
 -- a truncation ends with a cut
 unfoldable pub cuts : Change → Bool
 cuts (writing p d) = false
 cuts (shrinking n) = true
+cuts (growing n) = true
 
 -- what it leaves: the bytes, the size, the cursor; and the number that it is done with
 unfoldable pub bytesAfter : Change → List ℕ → List ℕ
 bytesAfter (writing p d) b = splice b p d
 bytesAfter (shrinking n) b = resized b n
+bytesAfter (growing n) b = resized b n
 
 unfoldable pub sizeAfter : Change → ℕ → ℕ
 sizeAfter (writing p d) size = max size (p + length d)
 sizeAfter (shrinking n) size = n
+sizeAfter (growing n) size = n
 
 unfoldable pub cursorAfter : Change → ℕ → ℕ
 cursorAfter (writing p d) cursor = p + length d
 cursorAfter (shrinking n) cursor = min cursor n
+cursorAfter (growing n) cursor = cursor
 
 unfoldable pub numberOf : Change → ℕ
 numberOf (writing p d) = length d
 numberOf (shrinking n) = 0
+numberOf (growing n) = 0
 
--- a change that a file of this size can have: a write at a position in it, of a byte at least; a truncation to fewer bytes
+-- a change that a file of this size can have: a write at a position in it, of a byte at least; a truncation to fewer bytes; to more
 abbrev pub FitsSize : Change → ℕ → Type 0
 FitsSize (writing p d) size = (p ≤ size) × (0 < length d)
 FitsSize (shrinking n) size = n < size
+FitsSize (growing n) size = size < n
+
+-- the page that a growth adds: where the number of pages rises, one of zeros (SPECIFICATION 10.3)
+unfoldable pub addedBy : Change → (size : ℕ) → List (List ℕ)
+addedBy (writing p d) size = []
+addedBy (shrinking n) size = []
+addedBy (growing n) size = pick (ltb (pagesFor size) (pagesFor n)) (pageOf [] 0 ∷ []) []

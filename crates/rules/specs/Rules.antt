@@ -24,7 +24,7 @@ use Rattle.filesystem.specs.Rights.{covers}
 use Rattle.filesystem.specs.Paths.{Path, tooLong, walk, walkChecks, parentChecks, parentOf, lastOf}
 use Rattle.filesystem.specs.Image.{Image, imageLength, parse}
 use Rattle.rules.specs.Calls.{Call, create, mkdir, openAs, close, seek, read, write, truncate, remove, rmdir, chmod, readdir, stat, callBytes, readCall}
-use Rattle.rules.specs.Pages.{pageAt, Change, writing, shrinking}
+use Rattle.rules.specs.Pages.{pageAt, Change, writing, truncating}
 use Rattle.rules.specs.Requests.{asked, closeRequest, fetchRequest, Pending, idle, creating, opening, closing, removing, changing, listing, stating, reading, fetching, storing, cutting}
 use Rattle.rules.specs.Skeleton.{Config, Event, call, reply, save, load, answerLength, requestLength, Skeleton}
 
@@ -114,7 +114,7 @@ module _ (t : Tables) where
   callChecks (read h n) = rightCheck 1 h ∷ []
   callChecks (write h d) =
       rightCheck 2 h ∷ (27, ltb FILE-BYTES (writeEnd h d)) ∷ (28, noRoom (filePlace h) (max (file h .size) (writeEnd h d))) ∷ []
-  callChecks (truncate h n) = rightCheck 2 h ∷ (22, ltb (file h .size) n) ∷ []
+  callChecks (truncate h n) = rightCheck 2 h ∷ (27, ltb FILE-BYTES n) ∷ (28, noRoom (filePlace h) n) ∷ []
   callChecks (remove p) = reach p ++ ((21, isDirectory (target p)) ∷ (13, not (hasBit 2 (holder p))) ∷ (16, isOpen (target p)) ∷ [])
   -- 16 is the root's alone; 13 asks the parent, here and above
   callChecks (rmdir p) =
@@ -142,7 +142,7 @@ module _ (t : Tables) where
     callAction (seek h n) = finish (record { nodes = t .nodes; opens = setCursor (t .opens) (openPlace h) n }) n []
     callAction (read h n) = readAction h (min n (file h .size - opened h .cursor))
     callAction (write h d) = pick (eqb (length d) 0) (finish t 0 []) (begin (filePlace h) (openPlace h) (writing (opened h .cursor) d))
-    callAction (truncate h n) = pick (eqb n (file h .size)) (finish t 0 []) (begin (filePlace h) (openPlace h) (shrinking n))
+    callAction (truncate h n) = pick (eqb n (file h .size)) (finish t 0 []) (begin (filePlace h) (openPlace h) (truncating (file h .size) n))
     callAction (remove p) = send (asked (removing (walk (t .nodes) 0 p))) (callBytes w (remove p))
     callAction (rmdir p) = send (asked (removing (walk (t .nodes) 0 p))) (callBytes w (rmdir p))
     callAction (chmod m p) = send (asked (changing (walk (t .nodes) 0 p) m)) (callBytes w (chmod m p))

@@ -16,7 +16,7 @@ use Rattle.filesystem.specs.Tables.{Node, noNode, OpenFile, noOpenFile, Tables,
 use Rattle.filesystem.specs.Image.{soundNodes}
 use Rattle.filesystem.specs.Sound.{to-sound, findId-only, findId-has, nodeAt-append}
 use Rattle.filesystem.specs.SoundLaws.{sound-root, sound-setMode, sound-setSize, sound-without, empty-childless, Addable, sound-add}
-use Rattle.rules.specs.Pages.{Change, writing, shrinking, sizeAfter, cursorAfter}
+use Rattle.rules.specs.Pages.{Change, writing, shrinking, growing, sizeAfter, cursorAfter, FitsSize}
 use Rattle.rules.specs.Skeleton.{freshSkeleton}
 use Rattle.rules.specs.Valid.{ValidOpen, sameHandle, sameDescriptor, ValidNodes, ValidTables, CreatingFits, OpeningFits, RemovingFits, ChangingFits, Opened, ChangeFits, Valid}
 
@@ -99,10 +99,11 @@ cursor-valid w t k o p v x l =
     moved w t v (t .nodes) o p (v .nodes-valid)
     (all-set o _ (record { known = z .known; is-file = z .is-file; cursor-inside = subst (λ j. p ≤ nodeAt (t .nodes) j .size) (sym (x .same)) l; low = z .low }) (v .opened))
 
-cursor-most : (q : Change) (size cursor : ℕ) → cursorAfter q cursor ≤ sizeAfter q size
+cursor-most : (q : Change) (size cursor : ℕ) → FitsSize q size → cursor ≤ size → cursorAfter q cursor ≤ sizeAfter q size
 unfolding cursorAfter sizeAfter
-cursor-most (writing p d) size cursor = omega arith
-cursor-most (shrinking n) size cursor = omega arith
+cursor-most (writing p d) size cursor f h = omega arith
+cursor-most (shrinking n) size cursor f h = omega arith
+cursor-most (growing n) size cursor f h = omega arith
 
 pub change-valid : (w : ℕ) (t : Tables) (k o : ℕ) (q : Change) → ValidTables w t → ChangeFits (t .nodes) (t .opens) k o q
     → ValidTables w (record { nodes = setSize (t .nodes) k (sizeAfter q (nodeAt (t .nodes) k .size)); opens = setCursor (t .opens) o (cursorAfter q (openAt (t .opens) o .cursor)) })
@@ -110,7 +111,8 @@ unfolding setSize setCursor nodeAt openAt
 change-valid w t k o q v x =
     moved w t v ms o c valid
     (all-put noOpenFile os o _
-    (of-place w ms (valid .sound) _ k (place-set ns k n refl refl (openAt os o) c k z (rw (getD-set-same ns k n noNode (x .opened .known)) (cursor-most q (nodeAt ns k .size) (openAt os o .cursor)))))
+    (of-place w ms (valid .sound) _ k (place-set ns k n refl refl (openAt os o) c k z
+    (rw (getD-set-same ns k n noNode (x .opened .known)) (cursor-most q (nodeAt ns k .size) (openAt os o .cursor) (x .fits) (z .inside)))))
     (λ i h d. others i h (λ e. d (handles-apart w t v i o h (x .opened .open-known) (sym (find i h .is-id) ∙ (ap (λ j. nodeAt ns j .id) e ∙ z .is-id))))))
   where
     ns : List Node

@@ -3,13 +3,18 @@
 --   tablesIn n o m            the tables alone
 --   stagedDigests             new digests in the staging area
 --   withNode, withoutNode, withOpen, withoutOpen, modeAt, cursorAt, withChange    changes of a view
---   Changeable, Room, Spans   what a change of a file asks of the rows, and where a file's pages stand
+--   Changeable, Growable      what a change of a file needs, and a growth
+--   Spans                     where a file's pages stand
+--   Resizes, Bounded, Room    where its rows stand before and after a change of its size, and what that asks of them
+--   changedRows               what it makes of them
 --   Others                    none of some rows has this parent
 -- Assumes nothing.
 use mathlib.Core.List.{List, [], _∷_, _++_}
 use mathlib.Core.Path.{_≡_}
 use Prim.Native.Nat.{ℕ, _+_, _-_, _*_, _/_, _%_, _<_, _≤_, max}
+use lib.Dec.{eqb}
 use lib.ListN.{length, getD, take, set}
+use Rattle.lists.specs.Pick.{pick}
 use Rattle.lists.specs.Parts.{part, overwrite}
 use Rattle.lists.specs.Rows.{rows}
 use Rattle.lists.specs.Search.{without}
@@ -19,6 +24,7 @@ use Rattle.filesystem.specs.Image.{divide}
 use Rattle.filesystem.specs.Digests.{replaced}
 use Rattle.memory.specs.Layout.{Mem, digestWidth, dataSize, newDigests, withNodes, withDigests}
 use Rattle.tables.specs.declared.Span.{Span}
+use Rattle.tables.specs.declared.Resize.{Resize}
 
 -- The rows in use: of n nodes and o open files. A node's digests stand behind those of the nodes before it.
 pub record View : Type 0 where
@@ -45,6 +51,7 @@ tablesIn n o m = record { nodes = take n (m .nodes); opens = take o (m .opens) }
 unfoldable pub stagedDigests : ℕ → List ℕ → List (List ℕ)
 stagedDigests n s = rows digestWidth n (part dataSize (n * digestWidth) s)
 
+-- the page of zeros
 -- Changes of the view: other nodes and contents, other open files, other staged bytes.
 abbrev pub withFiles : List Node → List (List (List ℕ)) → View → View
 withFiles ns x v = record { head = v .head; nodes = ns; contents = x; opens = v .opens; staged = v .staged }
@@ -89,6 +96,13 @@ pub record Changeable (ns : List Node) (k size from count : ℕ) : Type 0 where
   pub covered : pagesFor size ≤ max (pagesFor (nodeAt ns k .size)) (from + count)
   pub few : count ≤ newDigests
 
+-- what a growth of file k among these nodes needs: room before and after, and no fewer pages than before
+pub record Growable (ns : List Node) (k size : ℕ) : Type 0 where
+  pub known : k < length ns
+  pub room-before : pageTotal ns ≤ PAGES
+  pub room-after : pageTotal (setSize ns k size) ≤ PAGES
+  pub grows : pagesFor (nodeAt ns k .size) ≤ pagesFor size
+
 -- the pages of node k and those of the first n
 pub record Spans (ns : List Node) (n k : ℕ) (s : Span) : Type 0 where
   pub known : k < n
@@ -98,20 +112,35 @@ pub record Spans (ns : List Node) (n k : ℕ) (s : Span) : Type 0 where
   pub within : s .end ≤ s .total
   pub all : s .total ≡ pageTotal (take n ns)
 
--- what a change asks of the rows: of `behind` that stand behind the file's, and where its pages begin and how many they
--- are before and after it
-pub record Room (first old new behind from count : ℕ) : Type 0 where
-  pub before-fits : first + old + behind ≤ PAGES
-  pub after-fits : first + new + behind ≤ PAGES
-  pub begins : from ≤ old
-  pub ends : from + count ≤ new
+-- node k of the first n given this size: the rows behind its own move, but where it keeps its count of pages
+pub record Resizes (ns : List Node) (n k size : ℕ) (s : Resize) : Type 0 where
+  pub known : k < n
+  pub fits : n ≤ NODES
+  pub begins : s .first ≡ pageTotal (take k ns)
+  pub is-old : s .old ≡ pagesFor (nodeAt ns k .size)
+  pub is-new : s .new ≡ pagesFor size
+  pub moves : s .behind ≡ pick (eqb (s .old) (s .new)) 0 (pageTotal (take n ns) - (s .first + s .old))
+
+-- counts small enough to be summed
+pub record Bounded (s : Resize) : Type 0 where
+  pub few-first : s .first ≤ 1073741824
+  pub few-old : s .old ≤ 4194304
+  pub few-new : s .new ≤ 4194304
+  pub few-behind : s .behind ≤ 1073741824
+
+-- what a change asks of the rows, with `count` new ones from the file's row `from` on
+pub record Room (s : Resize) (from count : ℕ) : Type 0 where
+  pub before-fits : s .first + s .old + s .behind ≤ PAGES
+  pub after-fits : s .first + s .new + s .behind ≤ PAGES
+  pub begins : from ≤ s .old
+  pub ends : from + count ≤ s .new
   pub few : count ≤ newDigests
 
--- and what it makes of them: file k, of which the digests end at `end`, has `new` pages
-unfoldable pub changedRows : (k size from : ℕ) → List (List ℕ) → (first end new behind : ℕ) → Mem → Mem
-changedRows k size from ds first end new behind m =
-    withNodes (setSize (m .nodes) k size)
-    (withDigests (overwrite (overwrite (m .digests) (first + new) (part end behind (m .digests))) (first + from) ds) m)
+-- and what it makes of them: file k has this size, and these new digests from its row `from` on
+unfoldable pub changedRows : (k size from : ℕ) → List (List ℕ) → Resize → Mem → Mem
+changedRows k size from ds s m =
+    let moved = overwrite (m .digests) (s .first + s .new) (part (s .first + s .old) (s .behind) (m .digests)) in
+    withNodes (setSize (m .nodes) k size) (withDigests (overwrite moved (s .first + from) ds) m)
 
 -- no node from place a on and before b has this parent
 abbrev pub Others : List Node → (parent a b : ℕ) → Type 0

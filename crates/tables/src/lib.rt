@@ -5,19 +5,22 @@ ghost use mathlib.Core.List.{List, []};
 ghost use mathlib.Core.Path.{_≡_};
 ghost use Prim.Native.Nat.{ℕ, _+_, _-_, _*_, _≤_, _<_};
 ghost use lib.Dec.{eqb};
-ghost use lib.ListN.{length, getD, take};
+ghost use lib.ListN.{length, getD, take, replicate};
 ghost use Rattle.lists.specs.Equal.{equal};
+ghost use Rattle.lists.specs.Parts.{overwrite};
 ghost use Rattle.lists.specs.Pick.{pick};
 ghost use Rattle.filesystem.specs.Image.{soundNodes, divide};
 ghost use Rattle.filesystem.specs.Tables.{NODES, PAGES, findId, findChild, children, findHandle, findDescriptor};
 ghost use Rattle.filesystem.specs.Tables.{nodeAt, pagesFor, pageTotal, setSize};
 ghost use Rattle.numbers.specs.Slices.{KeepsLength};
 ghost use Rattle.digest.specs.Sha256.{sha256};
-ghost use Rattle.memory.specs.Layout.{memOf, openRows};
-ghost use Rattle.memory.specs.Memories.{IsMemory, nodesOf, opensOf, was};
+ghost use Rattle.zero_page.specs.ZeroPage.{zeroPage};
+ghost use Rattle.memory.specs.Layout.{memOf, openRows, withDigests};
+ghost use Rattle.memory.specs.Memories.{IsMemory, nodesOf, opensOf, was, Becomes};
 ghost use Rattle.memory.specs.Records.{nodeOf, openOf};
 ghost use Rattle.tables.specs.View.{viewOf, withNode, withoutNode, withOpen, withoutOpen, withChange};
-ghost use Rattle.tables.specs.View.{stagedDigests, Changeable, Spans, Room, Others, FirstPlaces, hashOf};
+ghost use Rattle.tables.specs.View.{stagedDigests, Changeable, Growable, Spans, Resizes, Bounded, Room};
+ghost use Rattle.tables.specs.View.{Others, FirstPlaces, hashOf};
 
 // ---- searches
 
@@ -410,25 +413,50 @@ fn rows_moved(m: &[u8], n: usize, k: usize, end: usize, old: usize, new: usize) 
     pages_on(m, k + 1, end, n) - end
 }
 
-// Whether the rows have room for a change.
-fn has_room(first: usize, old: usize, new: usize, behind: usize, from: usize, count: usize) -> bool
-    requires { ⌜ (first ≤ 1073741824) × (old ≤ 4194304) × (new ≤ 4194304) × (behind ≤ 1073741824) ⌝ }
-    ensures { λ r. ⌜ (r ≡ true → Room first old new behind from count) × (Room first old new behind from count
-        → r ≡ true) ⌝ }
+// The rows of a file whose size changes: where they begin, how many they are before and after, and how many behind them
+// move.
+struct Resize {
+    first: usize,
+    old: usize,
+    new: usize,
+    behind: usize,
+}
+
+// The same of file k among the first n.
+fn rows_of(m: &[u8], n: usize, k: usize, size: u32) -> Resize
+    requires { ⌜ (k < n) × (n ≤ NODES) × IsMemory m ⌝ }
+    ensures { λ r. ⌜ Resizes (was m .nodes) n k size r × Bounded r ⌝ }
 {
-    if limits::PAGES < first + old + behind {
+    let first = first_page(m, k);
+    let old = pages_for(memory::node_size(m, k));
+    let new = pages_for(size);
+    let behind = rows_moved(m, n, k, first + old, old, new);
+    Resize {
+        first,
+        old,
+        new,
+        behind,
+    }
+}
+
+// Whether the rows have room for a change.
+fn has_room(s: Resize, from: usize, count: usize) -> bool
+    requires { ⌜ Bounded s ⌝ }
+    ensures { λ r. ⌜ (r ≡ true → Room s from count) × (Room s from count → r ≡ true) ⌝ }
+{
+    if limits::PAGES < s.first + s.old + s.behind {
         return false;
     }
-    if limits::PAGES < first + new + behind {
+    if limits::PAGES < s.first + s.new + s.behind {
         return false;
     }
-    if old < from {
+    if s.old < from {
         return false;
     }
     if memory::NEW_DIGESTS < count {
         return false;
     }
-    from + count <= new
+    from + count <= s.new
 }
 
 // A change of file k that can be done: its size, and the `count` staged digests for its pages from `from` on. The rows
@@ -445,16 +473,53 @@ pub fn change_file(m: &mut [u8], n: usize, k: usize, size: u32, from: usize, cou
     if n <= k {
         return false;
     }
-    let first = first_page(m, k);
-    let old = pages_for(memory::node_size(m, k));
-    let new = pages_for(size);
-    let end = first + old;
-    let behind = rows_moved(m, n, k, end, old, new);
-    if !has_room(first, old, new, behind, from, count) {
+    let s = rows_of(m, n, k, size);
+    if !has_room(s, from, count) {
         return false;
     }
-    memory::move_digests(m, end, first + new, behind);
-    memory::keep_digests(m, first + from, count);
+    memory::move_digests(m, s.first + s.old, s.first + s.new, s.behind);
+    memory::keep_digests(m, s.first + from, count);
+    memory::set_size(m, k, size);
+    true
+}
+
+// The same digest in `count` rows from `at` on.
+fn put_rows(m: &mut [u8], at: usize, count: usize, d: [u8; limits::DIGEST_BYTES])
+    requires { ⌜ (at + count ≤ PAGES) × IsMemory m ⌝ }
+    ensures { λ _. ⌜ Becomes m (withDigests (overwrite (was m .digests) at (replicate count d))) ⌝ }
+{
+    let mut i = 0;
+    // i of them are written
+    while i < count {
+        memory::put_digest(m, at + i, d);
+        i += 1;
+    }
+}
+
+// File k grown to this size: each added page has the digest of the page of zeros. The rows behind its pages move to
+// where these end; inside the last page no row is looked at.
+pub fn grow_file(m: &mut [u8], n: usize, k: usize, size: u32) -> bool
+    requires { ⌜ (n ≤ NODES) × IsMemory m ⌝ }
+    ensures { λ r. ⌜ (Growable (nodesOf n m) k size → (r ≡ true)
+        × ((o : ℕ) → viewOf n o (memOf (now (m .exit))) ≡ withChange (sha256 zeroPage) k size 0 []
+        (viewOf n o (was m)))) ⌝ }
+    ensures { λ r. ⌜ (r ≡ false → now (m .exit) ≡ now (m .entry)) ⌝ }
+    ensures { λ _. ⌜ KeepsLength m ⌝ }
+{
+    if n <= k {
+        return false;
+    }
+    if pages_for(size) == pages_for(memory::node_size(m, k)) {
+        memory::set_size(m, k, size);
+        return true;
+    }
+    let s = rows_of(m, n, k, size);
+    if !has_room(s, s.old, 0) {
+        return false;
+    }
+    memory::move_digests(m, s.first + s.old, s.first + s.new, s.behind);
+    let blank = zero_page::digest();
+    put_rows(m, s.first + s.old, s.new - s.old, blank);
     memory::set_size(m, k, size);
     true
 }

@@ -1,33 +1,45 @@
-// A truncation by handle to fewer bytes: inside a page that page is fetched, stored with zeros from the new end on,
-// then the file is cut; on a page's edge
-// it is only cut. To the same size it is done at once.
+// A truncation by handle. To fewer bytes: inside a page that page is fetched, stored with zeros from the new end on,
+// then the file is cut; on a page's edge it is only cut. To more bytes it is only cut, wherever its old end lies. To
+// the same size it is done at once.
 ghost use mathlib.Core.Path.{_≡_};
-ghost use Prim.Native.Nat.{_<_, _≤_, _/_};
+ghost use Prim.Native.Nat.{ℕ, _<_, _≤_, _/_};
 ghost use lib.ListN.{length};
-ghost use Rattle.filesystem.specs.Tables.{NODES, PAGE-BYTES};
+ghost use Rattle.filesystem.specs.Tables.{NODES, PAGE-BYTES, FILE-BYTES, openAt};
 ghost use Rattle.rules.specs.Calls.{truncate};
+ghost use Rattle.rules.specs.Pages.{growing};
+ghost use Rattle.rules.specs.Requests.{cutting, cutRequest};
 ghost use Rattle.machine.specs.Machine.{guard as digestStore, askStore, pagesFrom, pagesStored};
 ghost use Rattle.memory.specs.Layout.{openRows, newDigests};
-ghost use Rattle.memory.specs.Memories.{IsMemory};
-ghost use Rattle.guard_state.specs.Calls.{CUTTING, SHRINK-FETCHING, SHRINK-STORING};
+ghost use Rattle.memory.specs.Memories.{IsMemory, was};
+ghost use Rattle.guard_state.specs.Calls.{CUTTING, GROWING, SHRINK-FETCHING, SHRINK-STORING};
 ghost use Rattle.guard_state.specs.State.{numbersIn};
 ghost use Rattle.outcomes.specs.Contracts.{Accepts, AcceptsAsking, Begins};
+ghost use Rattle.outcomes.specs.Sent.{Asks};
 ghost use Rattle.requests.specs.Room.{HoldsRequest};
 ghost use Rattle.handle_calls.specs.Judged.{Judgement};
+ghost use Rattle.handle_calls.specs.declared.Handled.the-variants.{Open};
 ghost use Rattle.page_changes.specs.Contracts.{Goes, Moves, StartsAt};
 ghost use Rattle.truncations.specs.Shrinking.{Shrinking, shrinkIn};
 use guard_state::Guard;
 
-// truncate: 9 without right 2, 22 past the end.
+// truncate: 9 without right 2, 27, 28. A size that passes is a file's.
 fn judge_truncate(m: &[u8], n: usize, o: usize, handle: u64, size: u64) -> handle_calls::Handled
     requires { ⌜ (n ≤ NODES) × (o ≤ openRows) × IsMemory m ⌝ }
     ensures { λ r. ⌜ Judgement (now (m .entry)) n o handle (truncate handle size) r ⌝ }
+    ensures { λ r. ⌜ ((i j : ℕ) → r ≡ Open i j → size ≤ FILE-BYTES) ⌝ }
 {
     let k = tables::find_handle(m, o, handle);
     if handle_calls::lacks_right(m, o, k, 2) {
         return handle_calls::Handled::Refused(9);
     }
-    handle_calls::judge_end(m, n, handle, k, size)
+    if (Guard::FILE_BYTES as u64) < size {
+        return handle_calls::Handled::Refused(27);
+    }
+    let node = handle_calls::file_place(m, n, k, handle);
+    if handle_calls::is_full(m, n, node, size as u32) {
+        return handle_calls::Handled::Refused(28);
+    }
+    handle_calls::Handled::Open { opened: k, node }
 }
 
 // The pending truncation asks for the cut.
@@ -76,6 +88,24 @@ fn start(m: &mut [u8], request: &mut [u8]) -> outcomes::Outcome
     )
 }
 
+// A truncation to more bytes asks for its cut, and for nothing else.
+fn ask_growth(
+    m: &mut [u8],
+    opened: usize,
+    node: usize,
+    size: usize,
+    request: &mut [u8],
+) -> outcomes::Outcome
+    requires { ⌜ (opened < openRows) × (node < NODES) × (size ≤ FILE-BYTES) × IsMemory m × HoldsRequest request ⌝ }
+    ensures { λ r. ⌜ Asks m request (cutting node opened (growing size))
+        (cutRequest (openAt (was m .opens) opened .descriptor) size) r ⌝ }
+{
+    let d = memory::open_descriptor(m, opened);
+    guard_state::wait_truncate(m, guard_state::calls::GROWING, node, opened, size);
+    let l = requests::write_cut(request, d, size as u32);
+    outcomes::Outcome::Ask(l)
+}
+
 // A truncation that passed, by the places of its open file and node.
 fn truncate_at(
     m: &mut [u8],
@@ -84,24 +114,25 @@ fn truncate_at(
     size: usize,
     request: &mut [u8],
 ) -> outcomes::Outcome
-    requires { ⌜ (opened < openRows) × IsMemory m × HoldsRequest request ⌝ }
+    requires { ⌜ (opened < openRows) × (size ≤ FILE-BYTES) × IsMemory m × HoldsRequest request ⌝ }
     ensures { λ r. ⌜ StartsAt m request (λ handle. truncate handle size) opened node r ⌝ }
 {
-    // no valid table has such a place or such a size
+    // no valid table has such a place
     if Guard::NODES <= node {
         return outcomes::Outcome::Refused(9);
     }
-    if size == memory::node_size(m, node) as usize {
+    let old = memory::node_size(m, node) as usize;
+    if size == old {
         guard_state::finish(m);
         return outcomes::Outcome::Done {
             number: 0,
             length: 0,
         };
     }
-    if Guard::FILE_BYTES < size {
-        return outcomes::Outcome::Refused(22);
+    if old < size {
+        return ask_growth(m, opened, node, size, request);
     }
-    guard_state::wait_shrink(m, node, opened, size);
+    guard_state::wait_truncate(m, guard_state::calls::SHRINK_FETCHING, node, opened, size);
     start(m, request)
 }
 
@@ -150,7 +181,28 @@ pub fn accept_stored(m: &mut [u8], reply: &[u8], request: &mut [u8]) -> outcomes
     ask_cut(m, request)
 }
 
-// The file is cut: the truncation is done.
+// The file is cut to more bytes: its added pages are zero, the cursor stays, the truncation is done.
+pub fn accept_growth(m: &mut [u8], reply: &[u8]) -> outcomes::Outcome
+    requires { ⌜ (numbersIn m .call ≡ GROWING) × IsMemory m ⌝ }
+    ensures { λ r. ⌜ Accepts m reply r ⌝ }
+{
+    let b = replies::judge_status(reply, 0);
+    if b != 0 {
+        return outcomes::Outcome::Stopped(b);
+    }
+    let g = Guard::load(m);
+    // no consistent state has a growth that its tables cannot take
+    if !tables::grow_file(m, g.nodes, g.node, g.size as u32) {
+        return outcomes::Outcome::Stopped(2);
+    }
+    guard_state::rest(m, g.nodes, g.opens);
+    outcomes::Outcome::Done {
+        number: 0,
+        length: 0,
+    }
+}
+
+// The file is cut to fewer bytes: the truncation is done.
 pub fn accept_cut(m: &mut [u8], reply: &[u8]) -> outcomes::Outcome
     requires { ⌜ (numbersIn m .call ≡ CUTTING) × IsMemory m ⌝ }
     ensures { λ r. ⌜ Accepts m reply r ⌝ }

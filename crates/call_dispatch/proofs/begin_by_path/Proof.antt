@@ -1,10 +1,8 @@
 -- `call_dispatch::begin_by_path` meets its contract. Assumes nothing.
 use native.Mathlib.Omega.{arith}
-use mathlib.Core.Path.{_≡_, refl, ap}
-use Rattle.memory.specs.Layout.{memOf}
-use Rattle.guard_state.specs.declared.Guard.{Guard}
-use Rattle.guard_state.specs.State.{numbersOf, stateOf}
-use Rattle.guard_state.specs.laws.LoadedLaws.{nodes-loaded}
+use mathlib.Core.Path.{refl}
+use Rattle.guard_state.specs.State.{stateOf}
+use Rattle.guard_state.specs.laws.LoadedLaws.{nodes-count}
 use Rattle.call_dispatch.specs.laws.CalledLaws.{some-node, open-made, remove-made, rmdir-made, chmod-made}
 use Rattle.call_dispatch.specs.laws.CalledLaws.{readdir-made, stat-made, last-kind}
 use borrow.Author.Needs.{needs}
@@ -14,11 +12,12 @@ use Rattle.call_dispatch.proofs.begin_by_path.Tie as tie
 -- no consistent state is without a node
 returns : tie.Need-returns
 returns c =
-    let l = c .before .before in
+    let l = c .before in
     let a = l .before .before .before .before .before .args in (
       λ q sha w h. absurd (omega (
         arith,
-        nodes-loaded (a .m .now) _ (l .load .ensures) q,
+        nodes-count q (a .m .now),
+        l .node-count .ensures,
         some-node q
             (stateOf q (a .m .now)) h,
         c .if1 .taken,
@@ -29,10 +28,9 @@ returns c =
 begin-new-requires : tie.Need-begin-new-requires
 begin-new-requires c κs =
     let i = c .before .before .before in
-    let l = i .before .before in
+    let l = i .before in
     let b = l .before .before .before .before .before in
-    let e : l .load .result .nodes ≡ numbersOf (memOf (b .args .m .now) .head) .nodes = ap (λ (x : Guard). x .nodes)
-    (l .load .ensures) in (
+    let e = l .node-count .ensures in (
       omega (arith, c .before .before .match .keys1),
       omega (arith, c .before .before .match .keys1),
       omega
@@ -44,10 +42,9 @@ begin-new-requires c κs =
 begin-new-requires-2 : tie.Need-begin-new-requires-2
 begin-new-requires-2 c κs =
     let i = c .before .before .before in
-    let l = i .before .before in
+    let l = i .before in
     let b = l .before .before .before .before .before in
-    let e : l .load .result .nodes ≡ numbersOf (memOf (b .args .m .now) .head) .nodes = ap (λ (x : Guard). x .nodes)
-    (l .load .ensures) in (
+    let e = l .node-count .ensures in (
       omega (arith, c .before .before .match .keys2),
       omega (arith, c .before .before .match .keys2),
       omega
@@ -59,62 +56,56 @@ begin-new-requires-2 c κs =
 begin-open-requires : tie.Need-begin-open-requires
 begin-open-requires c κs =
     let i = c .before .before .before in
-    let l = i .before .before in
+    let l = i .before in
     let b = l .before .before .before .before .before in
-    let e : l .load .result .nodes ≡ numbersOf (memOf (b .args .m .now) .head) .nodes = ap (λ (x : Guard). x .nodes)
-    (l .load .ensures) in
+    let e = l .node-count .ensures in
     (omega (arith, e, i .if1 .left), omega arith, omega (arith, b .pre .2))
 
 begin-remove-requires : tie.Need-begin-remove-requires
 begin-remove-requires c κs =
     let i = c .before .before .before in
-    let l = i .before .before in
+    let l = i .before in
     let b = l .before .before .before .before .before in
-    let e : l .load .result .nodes ≡ numbersOf (memOf (b .args .m .now) .head) .nodes = ap (λ (x : Guard). x .nodes)
-    (l .load .ensures) in
+    let e = l .node-count .ensures in
     (omega (arith, e, i .if1 .left), omega arith, omega (arith, b .pre .2))
 
 begin-rmdir-requires : tie.Need-begin-rmdir-requires
 begin-rmdir-requires c κs =
     let i = c .before .before .before in
-    let l = i .before .before in
+    let l = i .before in
     let b = l .before .before .before .before .before in
-    let e : l .load .result .nodes ≡ numbersOf (memOf (b .args .m .now) .head) .nodes = ap (λ (x : Guard). x .nodes)
-    (l .load .ensures) in
+    let e = l .node-count .ensures in
     (omega (arith, e, i .if1 .left), omega arith, omega (arith, b .pre .2))
 
 begin-chmod-requires : tie.Need-begin-chmod-requires
 begin-chmod-requires c κs =
     let i = c .before .before .before in
-    let l = i .before .before in
+    let l = i .before in
     let b = l .before .before .before .before .before in
-    let e : l .load .result .nodes ≡ numbersOf (memOf (b .args .m .now) .head) .nodes = ap (λ (x : Guard). x .nodes)
-    (l .load .ensures) in
+    let e = l .node-count .ensures in
     (omega (arith, e, i .if1 .left), omega arith, omega (arith, b .pre .2))
 
 begin-readdir-requires : tie.Need-begin-readdir-requires
 begin-readdir-requires c κs =
     let i = c .before .before .before in
-    let l = i .before .before in
+    let l = i .before in
     let b = l .before .before .before .before .before in
-    let e : l .load .result .nodes ≡ numbersOf (memOf (b .args .m .now) .head) .nodes = ap (λ (x : Guard). x .nodes)
-    (l .load .ensures) in
+    let e = l .node-count .ensures in
     (omega (arith, e, i .if1 .left), omega arith, omega (arith, b .pre .2))
 
 begin-stat-requires : tie.Need-begin-stat-requires
 begin-stat-requires c κs =
     let i = c .before .before .before in
-    let l = i .before .before in
+    let l = i .before in
     let b = l .before .before .before .before .before in
-    let e : l .load .result .nodes ≡ numbersOf (memOf (b .args .m .now) .head) .nodes = ap (λ (x : Guard). x .nodes)
-    (l .load .ensures) in
+    let e = l .node-count .ensures in
     (omega (arith, e, i .if1 .left), omega arith, omega (arith, b .pre .2))
 
 returns-2 : tie.Need-returns-2
 returns-2 c =
     let p = c .before .before .before .before in
     let k = p .before .before .before in
-    let b = k .before .before .before .before .before .before .before .before in
+    let b = k .before .before .before .before .before .before .before in
     let a = b .args in
     (p .begin-new .ensures .0, omega arith)
 
@@ -122,7 +113,7 @@ returns-3 : tie.Need-returns-3
 returns-3 c =
     let p = c .before .before .before .before in
     let k = p .before .before .before in
-    let b = k .before .before .before .before .before .before .before .before in
+    let b = k .before .before .before .before .before .before .before in
     let a = b .args in
     (p .begin-new2 .ensures .0, omega arith)
 
@@ -130,7 +121,7 @@ returns-4 : tie.Need-returns-4
 returns-4 c =
     let p = c .before .before .before .before in
     let k = p .before .before .before in
-    let b = k .before .before .before .before .before .before .before .before in
+    let b = k .before .before .before .before .before .before .before in
     let a = b .args in (
       λ q sha w h. open-made q (stateOf q (a .m .now)) (a .path .now) _ _ (a .request .now) _ (a .number)
           (k .match .keys3) (p .begin-open .ensures .0 q sha w h),
@@ -141,7 +132,7 @@ returns-5 : tie.Need-returns-5
 returns-5 c =
     let p = c .before .before .before .before in
     let k = p .before .before .before in
-    let b = k .before .before .before .before .before .before .before .before in
+    let b = k .before .before .before .before .before .before .before in
     let a = b .args in (
       λ q sha w h. remove-made q (stateOf q (a .m .now)) (a .path .now) _ _ (a .request .now) _ (a .number)
           (k .match .keys4) (p .begin-remove .ensures .0 q sha w h),
@@ -152,7 +143,7 @@ returns-6 : tie.Need-returns-6
 returns-6 c =
     let p = c .before .before .before .before in
     let k = p .before .before .before in
-    let b = k .before .before .before .before .before .before .before .before in
+    let b = k .before .before .before .before .before .before .before in
     let a = b .args in (
       λ q sha w h. rmdir-made q (stateOf q (a .m .now)) (a .path .now) _ _ (a .request .now) _ (a .number)
           (k .match .keys5) (p .begin-rmdir .ensures .0 q sha w h),
@@ -163,7 +154,7 @@ returns-7 : tie.Need-returns-7
 returns-7 c =
     let p = c .before .before .before .before in
     let k = p .before .before .before in
-    let b = k .before .before .before .before .before .before .before .before in
+    let b = k .before .before .before .before .before .before .before in
     let a = b .args in (
       λ q sha w h. chmod-made q (stateOf q (a .m .now)) (a .path .now) _ _ (a .request .now) _ (a .number)
           (k .match .keys6) (p .begin-chmod .ensures .0 q sha w h),
@@ -174,7 +165,7 @@ returns-8 : tie.Need-returns-8
 returns-8 c =
     let p = c .before .before .before .before in
     let k = p .before .before .before in
-    let b = k .before .before .before .before .before .before .before .before in
+    let b = k .before .before .before .before .before .before .before in
     let a = b .args in (
       λ q sha w h. readdir-made q (stateOf q (a .m .now)) (a .path .now) _ _ (a .request .now) _ (a .number)
           (k .match .keys7) (p .begin-readdir .ensures .0 q sha w h),
@@ -185,7 +176,7 @@ returns-9 : tie.Need-returns-9
 returns-9 c =
     let p = c .before .before .before .before in
     let k = p .before .before .before in
-    let b = k .before .before .before .before .before .before .before .before in
+    let b = k .before .before .before .before .before .before .before in
     let a = b .args in
     let r = k .match .rest in
     let e = last-kind (a .kind) (a .number) (b .pre .0) (r .0 .0 .0 .0 .0 .0 .1) (r .0 .0 .0 .0 .0 .1)

@@ -16,7 +16,7 @@ use Rattle.tables.specs.View.{viewOf}
 use Rattle.rules.specs.Requests.{Pending, idle}
 use Rattle.rules.specs.Skeleton.{Config}
 use Rattle.rules.specs.Rules.{isIdle}
-use Rattle.guard_state.specs.Calls.{IDLE, CREATING, CUTTING}
+use Rattle.guard_state.specs.Calls.{IDLE, CREATING, LAST}
 use Rattle.guard_state.specs.declared.Guard.{Guard}
 use Rattle.guard_state.specs.State.{numbersOf, pendings, pendingIn, stateIn, stateOf}
 use Rattle.guard.specs.Numbers.{waits}
@@ -28,26 +28,26 @@ module _ (F : Pending → Type 0) where
   there (p ∷ l) (both e a) zero h = e
   there (p ∷ l) (both e a) (suc k) h = there l a k (omega arith)
 
-pub waits-between : (n : ℕ) → waits n ≡ true → (CREATING ≤ n) × (n ≤ CUTTING)
+pub waits-between : (n : ℕ) → waits n ≡ true → (CREATING ≤ n) × (n ≤ LAST)
 unfolding waits
 waits-between n e =
     let z : n ≡ 0 → ⊥ = eqb-false n 0 (not-true _ (and-fst _ _ e)) in
-    (omega arith, leb-true n 13 (and-snd (not (eqb n 0)) _ e))
+    (omega arith, leb-true n LAST (and-snd (not (eqb n 0)) _ e))
 
 pub waits-idle : (n : ℕ) → n ≡ 0 → false ≡ waits n
 unfolding waits
-waits-idle n e = sym (ap (λ (k : ℕ). not (eqb k 0) && leb k 13) e)
+waits-idle n e = sym (ap (λ (k : ℕ). not (eqb k 0) && leb k LAST) e)
 
-pub waits-some : (n : ℕ) → (n ≡ 0 → ⊥) → leb n 13 ≡ waits n
+pub waits-some : (n : ℕ) → (n ≡ 0 → ⊥) → leb n LAST ≡ waits n
 unfolding waits
-waits-some n h = sym (ap (λ b. not b && leb n 13) (ne-eqb n 0 h))
+waits-some n h = sym (ap (λ b. not b && leb n LAST) (ne-eqb n 0 h))
 
-waits-not : (n : ℕ) → waits n ≡ false → (n ≡ 0) ⊎ (14 ≤ n)
+waits-not : (n : ℕ) → waits n ≡ false → (n ≡ 0) ⊎ (LAST < n)
 unfolding waits
 waits-not zero e = inl refl
 waits-not (suc n) e =
     let z : not (eqb (suc n) 0) ≡ true = ap not (ne-eqb (suc n) 0 (λ q. absurd (omega arith))) in
-    let h = leb-false (suc n) 13 (sym (ap (λ b. b && leb (suc n) 13) z) ∙ e) in
+    let h = leb-false (suc n) LAST (sym (ap (λ b. b && leb (suc n) LAST) z) ∙ e) in
     inr (omega arith)
 
 module _ (c : Config) (m : List ℕ) where
@@ -58,20 +58,20 @@ module _ (c : Config) (m : List ℕ) where
   unfolding stateOf stateIn viewOf pendingIn pendings isIdle
   busy-number e = go (g .call) (waits-between (g .call) e)
     where
-      go : (n : ℕ) → (CREATING ≤ n) × (n ≤ CUTTING) → isIdle (getD (pendings g (memOf m .staged)) n idle) ≡ false
+      go : (n : ℕ) → (CREATING ≤ n) × (n ≤ LAST) → isIdle (getD (pendings g (memOf m .staged)) n idle) ≡ false
       go zero h = absurd (omega arith)
       go (suc k) h =
           there (λ p. isIdle p ≡ false) _
           (both refl (both refl
           (both refl (both refl
           (both refl (both refl
-          (both refl (both refl (both refl (both refl (both refl (both refl (both refl none))))))))))))) k
+          (both refl (both refl (both refl (both refl (both refl (both refl (both refl (both refl none)))))))))))))) k
           (omega arith)
 
   pub idle-number : waits (g .call) ≡ false → isIdle (stateOf c m .skeleton .pending) ≡ true
   unfolding stateOf stateIn viewOf pendingIn pendings isIdle
   idle-number e = go (waits-not (g .call) e)
     where
-      go : (g .call ≡ IDLE) ⊎ (14 ≤ g .call) → isIdle (getD (pendings g (memOf m .staged)) (g .call) idle) ≡ true
+      go : (g .call ≡ IDLE) ⊎ (LAST < g .call) → isIdle (getD (pendings g (memOf m .staged)) (g .call) idle) ≡ true
       go (inl z) = ap (λ (n : ℕ). isIdle (getD (pendings g (memOf m .staged)) n idle)) z
       go (inr h) = ap isIdle (List·getD-eq-default (pendings g (memOf m .staged)) idle {n = g .call} (omega arith))

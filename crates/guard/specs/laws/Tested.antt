@@ -11,7 +11,7 @@ use Rattle.memory.specs.Layout.{memOf}
 use Rattle.rules.specs.Skeleton.{Skeleton}
 use Rattle.rules.specs.Rules.{isIdle}
 use Rattle.configuration.specs.Delivered.{delivered}
-use Rattle.guard_state.specs.Calls.{CREATING, CUTTING}
+use Rattle.guard_state.specs.Calls.{CREATING, LAST}
 use Rattle.guard_state.specs.declared.Guard.{Guard}
 use Rattle.guard_state.specs.State.{numbersOf, stateIn, stateOf}
 use Rattle.guard.specs.Promise.{held, firstOf}
@@ -53,10 +53,10 @@ module _ (m : List ℕ) (t : firstOf 0 61 (held m .skeleton) ≡ 0) where
   unfolding firstOf
   none-pending i = sym (ap (λ (n : ℕ). pick (here .stopped) 5 n) (pick-true _ _ _ i)) ∙ t
 
-  pub pending-number : (CREATING ≤ call) × (call ≤ CUTTING)
+  pub pending-number : (CREATING ≤ call) × (call ≤ LAST)
   pending-number = go (is (waits call))
     where
-      go : Is (waits call) → (CREATING ≤ call) × (call ≤ CUTTING)
+      go : Is (waits call) → (CREATING ≤ call) × (call ≤ LAST)
       go (isT e) = waits-between _ e
       go (isF e) = absurd (pick-ind (λ (n : ℕ). n ≡ 0 → ⊥) (here .stopped) (λ _ q. omega arith) (λ _ q. omega arith)
           (none-pending (idle-number delivered m e)))

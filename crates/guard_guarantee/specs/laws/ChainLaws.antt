@@ -180,10 +180,10 @@ module _ (l : Life) where
   one-agrees (same, left, _) = record { same = same; left = left }
 
 pub chain-agrees : FirstHalf
-unfolding FirstHalf FirstHalfOfLives Restarts LoadsOfLives pagesOfLives imagesOfLives
+unfolding FirstHalf FirstHalfOfLives Restarts LoadsOfLives pagesOfLives imagesOfLives restarted
 chain-agrees l lo = subst (λ p. Or (Collision sha256 p ⊎ Collision sha256 (imagesSeen (l .seen))) (Agrees l))
-    (append-nil (pagesSeen (l .seen)))
-    (subst (λ i. Or (Collision sha256 (pagesSeen (l .seen) ++ []) ⊎ Collision sha256 i) (Agrees l))
+    (append-nil (pagesSeen delivered freshTree (l .seen)))
+    (subst (λ i. Or (Collision sha256 (pagesSeen delivered freshTree (l .seen) ++ []) ⊎ Collision sha256 i) (Agrees l))
     (append-nil (imagesSeen (l .seen))) (do
       a ← chains-agree (l ∷ []) none (lo, tt)
       ok (one-agrees l a)))

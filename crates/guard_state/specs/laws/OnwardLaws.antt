@@ -9,6 +9,8 @@ use native.Mathlib.Omega.{arith}
 use lib.ListN.{length, getD, set}
 use lib.Seq.{getD-drop, getD-set-same, getD-set-other}
 use Rattle.lists.specs.Cells.{tab}
+use Rattle.lists.specs.Pick.{pick}
+use Rattle.lists.specs.Rows.{rows}
 use Rattle.lists.specs.Parts.{overwrite}
 use Rattle.filesystem.specs.Tables.{NODES, FILE-BYTES, DATA-BYTES}
 use Rattle.memory.specs.Layout.{Mem, memOf, headNumbers, openRows, newDigests, digestWidth, dataSize, memorySize}
@@ -16,18 +18,18 @@ use Rattle.memory.specs.Layout.{withHead, withStaged}
 use Rattle.memory.specs.laws.MemLaws.{length-head, length-staged}
 use Rattle.rules.specs.Requests.{asked, Pending, idle, creating, opening, closing, removing, changing, listing, stating}
 use Rattle.rules.specs.Requests.{reading, fetching, storing, cutting}
-use Rattle.rules.specs.Pages.{writing, shrinking}
+use Rattle.rules.specs.Pages.{writing, shrinking, growing}
 use Rattle.rules.specs.Skeleton.{Config}
 use Rattle.machine.specs.Machine.{Gathered}
 use Rattle.tables.specs.View.{viewOf, stagedDigests}
-use Rattle.guard_state.specs.Calls.{FETCHING, SHRINK-FETCHING, CUTTING}
+use Rattle.guard_state.specs.Calls.{FETCHING, CUTTING, GROWING, Truncating, forShrink, forGrowth, truncationOn}
 use Rattle.guard_state.specs.declared.Guard.{Guard}
 use Rattle.guard_state.specs.State.{filePages, numbersOf, pendings, pendingIn, gatheredIn, gatheredNone}
 use Rattle.guard_state.specs.State.{gatheredBytes, gatheredDigests, stagedBytes, stateWith, stateIn, stateOf}
 use Rattle.guard_state.specs.State.{clearedHead}
 use Rattle.guard_state.specs.laws.StageLaws.{bytes-kept, digests-more}
 use Rattle.guard_state.specs.Waits.{waits}
-use Rattle.guard_state.specs.Onward.{writeNumbers, shrinkNumbers, goesOn}
+use Rattle.guard_state.specs.Onward.{writeNumbers, truncateNumbers, goesOn}
 use Rattle.guard_state.specs.laws.WaitLaws.{kept, head-cells, waits-as}
 
 -- as it begins
@@ -55,14 +57,14 @@ module _ (h : List ℕ) (k o : ℕ) (f : k < NODES) (g : o < openRows) where
     digests = 0;
   }
 
-  pub shrink-numbers : (z : ℕ) → z ≤ FILE-BYTES
-      → numbersOf (set (set (set (set (clearedHead h) 3 11) 4 k) 5 o) 12 z) ≡ shrinkNumbers (numbersOf h) k o z
-  unfolding numbersOf clearedHead shrinkNumbers
-  shrink-numbers z a = λ i. record {
+  pub truncate-numbers : (call z : ℕ) → z ≤ FILE-BYTES
+      → numbersOf (set (set (set (set (clearedHead h) 3 call) 4 k) 5 o) 12 z) ≡ truncateNumbers (numbersOf h) call k o z
+  unfolding numbersOf clearedHead truncateNumbers
+  truncate-numbers call z a = λ i. record {
     nodes = getD h 0 0 % (NODES + 1);
     opens = getD h 1 0 % (openRows + 1);
     stopped = false;
-    call = SHRINK-FETCHING;
+    call = call;
     node = kept k NODES f i;
     opened = kept o openRows g i;
     parent = 0;
@@ -77,6 +79,19 @@ module _ (h : List ℕ) (k o : ℕ) (f : k < NODES) (g : o < openRows) where
     digests = 0;
   }
 
+-- a truncation that begins: what it waits for, and that it has gathered nothing
+module _ (g : Guard) (s : List ℕ) (k o z : ℕ) where
+  pub truncate-pending : {call : ℕ} → Truncating call
+      → pendingIn (truncateNumbers g call k o z) s ≡ truncationOn call k o z
+  unfolding pendingIn pendings truncateNumbers truncationOn pick
+  truncate-pending forShrink = refl
+  truncate-pending forGrowth = refl
+
+  pub truncate-gathered : {call : ℕ} → Truncating call → gatheredIn (truncateNumbers g call k o z) s ≡ gatheredNone
+  unfolding gatheredIn truncateNumbers stagedDigests rows
+  truncate-gathered forShrink = refl
+  truncate-gathered forGrowth = refl
+
 -- what it has gathered
 five : {A : Type 0} (x d : A) (n : ℕ) → n ≤ 4 → getD (x ∷ x ∷ x ∷ x ∷ x ∷ []) n d ≡ x
 five x d zero h = refl
@@ -86,15 +101,24 @@ five x d (suc (suc (suc zero))) h = refl
 five x d (suc (suc (suc (suc zero)))) h = refl
 five x d (suc (suc (suc (suc (suc n))))) h = absurd (omega arith)
 
+abbrev gathereds : Guard → List ℕ → List Gathered
+gathereds g s =
+    let n = gatheredNone in
+    let d = gatheredDigests g s in
+    n ∷ n ∷ n ∷ n ∷ n ∷ n ∷ n ∷ n ∷ gatheredBytes g s ∷ d ∷ d ∷ d ∷ d ∷ d ∷ []
+
 pub gathered-change : (g : Guard) (s : List ℕ) → FETCHING ≤ g .call → g .call ≤ CUTTING
     → gatheredIn g s ≡ gatheredDigests g s
 unfolding gatheredIn
 gathered-change g s a b =
     let e : g .call ≡ 9 + (g .call - 9) = omega arith in
-    let d = gatheredDigests g s in
-    let n = gatheredNone in
-    let l = n ∷ n ∷ n ∷ n ∷ n ∷ n ∷ n ∷ n ∷ gatheredBytes g s ∷ d ∷ d ∷ d ∷ d ∷ d ∷ [] in
-    ap (λ (i : ℕ). getD l i n) e ∙ sym (getD-drop 9 l (g .call - 9) n) ∙ five d n (g .call - 9) (omega arith)
+    ap (λ (i : ℕ). getD (gathereds g s) i gatheredNone) e ∙ sym (getD-drop 9 (gathereds g s) (g .call - 9) gatheredNone)
+    ∙ five (gatheredDigests g s) gatheredNone (g .call - 9) (omega arith)
+
+-- a growth stores no page
+pub gathered-growth : (g : Guard) (s : List ℕ) → g .call ≡ GROWING → gatheredIn g s ≡ gatheredNone
+unfolding gatheredIn
+gathered-growth g s e = ap (λ (i : ℕ). getD (gathereds g s) i gatheredNone) e
 
 -- of the staging area, what is pending holds the call's bytes
 pub pending-kept : (g : Guard) (s t : List ℕ) → stagedBytes g s ≡ stagedBytes g t → pendingIn g s ≡ pendingIn g t
@@ -117,6 +141,7 @@ pending-kept g s t e =
     ∷ fetching (g .node) (g .opened) (shrinking (g .size)) (g .page)
     ∷ storing (g .node) (g .opened) (shrinking (g .size)) (g .page)
     ∷ cutting (g .node) (g .opened) (shrinking (g .size))
+    ∷ cutting (g .node) (g .opened) (growing (g .size))
     ∷ [])
     (g .call) idle)
     e

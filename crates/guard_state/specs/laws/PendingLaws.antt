@@ -4,13 +4,13 @@ use mathlib.Core.Path.{_≡_}
 use mathlib.Core.List.{List}
 use Prim.Native.Nat.{ℕ}
 use lib.ListN.{take}
-use Rattle.rules.specs.Pages.{writing, shrinking}
+use Rattle.rules.specs.Pages.{writing, shrinking, growing}
 use Rattle.rules.specs.Requests.{asked, creating, opening, closing, removing, changing, listing, stating, reading}
 use Rattle.rules.specs.Requests.{fetching, storing, cutting}
 use Rattle.rules.specs.Skeleton.{Config}
 use Rattle.memory.specs.Layout.{memOf}
 use Rattle.guard_state.specs.Calls.{CREATING, OPENING, CLOSING, REMOVING, CHANGING, LISTING, STATING, READING}
-use Rattle.guard_state.specs.Calls.{FETCHING, STORING, SHRINK-FETCHING, SHRINK-STORING, CUTTING}
+use Rattle.guard_state.specs.Calls.{FETCHING, STORING, SHRINK-FETCHING, SHRINK-STORING, CUTTING, GROWING}
 use Rattle.guard_state.specs.declared.Guard.{Guard}
 use Rattle.guard_state.specs.State.{numbersOf, stagedBytes, pendings, stateOf}
 use Rattle.guard_state.specs.laws.WaitLaws.{pending-at}
@@ -79,3 +79,8 @@ module _ (c : Config) (m : List ℕ) where
       (shrinking (g .size))
   unfolding pendings
   cut-pending e = pending-at c m 13 e
+
+  pub grow-pending : g .call ≡ GROWING → stateOf c m .skeleton .pending ≡ cutting (g .node) (g .opened)
+      (growing (g .size))
+  unfolding pendings
+  grow-pending e = pending-at c m 14 e

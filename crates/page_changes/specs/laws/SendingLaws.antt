@@ -19,7 +19,7 @@ use Rattle.machine.specs.Machine.{Gathered}
 use Rattle.machine.specs.Consistent.{Consistent, Counts}
 use Rattle.guard_state.specs.declared.Guard.{Guard}
 use Rattle.guard_state.specs.State.{numbersOf, stateIn, stateOf, gatheredDigests}
-use Rattle.guard_state.specs.laws.Changes.{change-changeable}
+use Rattle.guard_state.specs.laws.Changes.{Covered, change-changeable}
 use Rattle.guard_state.specs.laws.LoadedLaws.{nodes-count, opens-count}
 use Rattle.guard_state.specs.laws.OnwardLaws.{gathered-change}
 use Rattle.page_changes.specs.Asked.{Changing}
@@ -47,10 +47,11 @@ module _ (c : Config) (m : List ℕ) where
     open-within = omega (arith, h .fits .opened .open-known, opens-count c m)
 
     pub sending-ended : (size cursor from number : ℕ) → Changing (g .call) → last q ≤ i → last q - first q ≤ newDigests
+        → Covered q (nodeAt (t .nodes) (g .node) .size)
         → size ≡ sizeAfter q (nodeAt (t .nodes) (g .node) .size)
         → cursor ≡ cursorAfter q (openAt (t .opens) (g .opened) .cursor) → from ≡ first q → number ≡ numberOf q
         → Ended c m q (g .node) (g .opened) size cursor from (g .digests) number
-    sending-ended size cursor from number k l few u v w x = record {
+    sending-ended size cursor from number k l few all u v w x = record {
       can =
           subst (λ (j : ℕ). Changeable (t .nodes) (g .node) j from (g .digests)) (sym u)
           (subst (λ (j : ℕ). Changeable (t .nodes) (g .node) (sizeAfter q (nodeAt (t .nodes) (g .node) .size)) j
@@ -58,7 +59,7 @@ module _ (c : Config) (m : List ℕ) where
           (subst (λ (j : ℕ). Changeable (t .nodes) (g .node) (sizeAfter q (nodeAt (t .nodes) (g .node) .size)) (first q)
           j) (omega (arith, h .sent, h .to, l))
           (change-changeable (t .nodes) (g .node) q (h .fits .opened .known) (h .fits .fits) (h .room) (h .fits .room)
-          few)));
+          few all)));
       opened = open-within;
       sized = u;
       moved = v;

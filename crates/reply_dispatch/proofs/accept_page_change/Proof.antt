@@ -25,10 +25,17 @@ returns-5 c =
     let a = p .before .before .before .before .before .before .args in
     (λ d h w held. p .accept-cut .ensures .0 d h w held (a .request .now), omega arith)
 
+returns-6 : tie.Need-returns-6
+returns-6 c =
+    let p = c .before .before in
+    let a = p .before .before .before .before .before .before .args in
+    (λ d h w held. p .accept-growth .ensures .0 d h w held (a .request .now), omega arith)
+
 pub accept-page-change-spec : {M : Type 1} → statement M
 accept-page-change-spec =
     tie.close (tie.spec (λ c κs. search needs) (λ c κs. search needs) (λ c κs. search needs) (λ c κs. search needs)
-    (λ c κs. search needs) (λ c. search needs)
+    (λ c κs. search needs) (λ c κs. search needs) (λ c. search needs)
     (λ c. search needs) returns (λ c. search needs) (λ c. search needs) (λ c. search needs) (λ c. search needs)
     (λ c. search needs) returns-3
-    (λ c. search needs) (λ c. search needs) returns-4 (λ c. search needs) returns-5)
+    (λ c. search needs) (λ c. search needs) returns-4 (λ c. search needs) returns-5
+    (λ c. search needs) returns-6)

@@ -7,24 +7,26 @@ use Prim.Native.Nat.{ℕ, zero, suc, _+_, _-_, _*_, _≤_, _<_, max}
 use native.Mathlib.Nat.{add-zero}
 use native.Mathlib.Omega.{arith}
 use lib.Dec.{eqb, leb, ltb}
-use lib.ListN.{length, getD, take, drop, set}
+use lib.ListN.{length, getD, take, drop, set, replicate, length-replicate, getD-replicate, List·getD-eq-default}
 use lib.Seq.{ext-getD, set-split, take-take, take-set-lt, getD-take}
-use borrow.Author.Tests.{eqb-true, leb-true, leb-false, ltb-true, ltb-false, le-leb, lt-ltb}
+use borrow.Author.Tests.{eqb-true, eq-eqb, leb-true, leb-false, ltb-true, ltb-false, le-leb, lt-ltb}
 use Rattle.lists.specs.Pick.{pick, pick-ind, pick-true, pick-false}
 use Rattle.lists.specs.Equal.{Is, isT, isF, is, and-both}
-use Rattle.lists.specs.Cells.{inside, length-tab, getD-tab}
+use Rattle.lists.specs.Cells.{Where, low, mid, high, range, inside, length-tab, getD-tab, tab-cong}
 use Rattle.lists.specs.Parts.{part, overwrite}
 use Rattle.lists.specs.PartLaws.{length-part, length-overwrite, getD-part, part-before, part-after, part-within}
-use Rattle.lists.specs.PartLaws.{overwrite-all, move-none, move-same}
+use Rattle.lists.specs.PartLaws.{overwrite-all, overwrite-none, move-none, move-same}
 use Rattle.lists.specs.RowLaws.{length-rows}
 use Rattle.filesystem.specs.Tables.{Node, noNode, nodeAt, withSize, setSize, pagesFor, pageTotal, NODES, PAGES}
 use Rattle.filesystem.specs.SoundLaws.{pageTotal-append}
 use Rattle.filesystem.specs.Image.{divide}
 use Rattle.filesystem.specs.Digests.{replaced}
-use Rattle.memory.specs.Layout.{memOf, digestWidth, dataSize}
+use Rattle.memory.specs.Layout.{memOf, digestWidth, dataSize, newDigests, withNodes, withDigests}
 use Rattle.memory.specs.laws.MemLaws.{length-nodes, length-digests}
 use Rattle.tables.specs.declared.Span.{Span}
-use Rattle.tables.specs.View.{viewOf, withFiles, withChange, stagedDigests, Changeable, Spans, Room, changedRows}
+use Rattle.tables.specs.declared.Resize.{Resize}
+use Rattle.tables.specs.View.{viewOf, withFiles, withChange, stagedDigests, Changeable, Growable, Spans, Resizes}
+use Rattle.tables.specs.View.{Room, changedRows}
 use Rattle.tables.specs.laws.RowsInUse.{count-nodes, node-front}
 use Rattle.tables.specs.laws.ContentLaws.{total-split, total-part, divide-at, divide-set, front-kept, moved-there}
 
@@ -86,6 +88,26 @@ module _ (blank : List ℕ) (x y : List (List ℕ)) (size from : ℕ) (new : Lis
               ∙ sym (at-cell ∙ pick-true (inside from (length new) i) _ _ (and-both _ _ a b))
           go (isT a) (isF b) = over-behind x from new [] f i (ltb-false _ _ b) ∙ out (rw (a, b))
           go (isF a) b = over-before x from new [] f i (leb-false _ _ a) ∙ out (rw a)
+
+-- new rows that are what stands there without them
+module _ (blank : List ℕ) (y : List (List ℕ)) where
+  same-cell : (from : ℕ) (new : List (List ℕ)) (i : ℕ)
+      → (from ≤ i → i < from + length new → getD new (i - from) [] ≡ getD y i blank)
+      → pick (inside from (length new) i) (getD new (i - from) []) (getD y i blank) ≡ getD y i blank
+  same-cell from new i same = go (range from (length new) i)
+    where
+      go : Where from (length new) i
+          → pick (inside from (length new) i) (getD new (i - from) []) (getD y i blank) ≡ getD y i blank
+      go (low _ e) = pick-false _ _ _ e
+      go (mid h g e) = pick-true _ _ _ e ∙ same h g
+      go (high _ _ e) = pick-false _ _ _ e
+
+  replaced-same : (size from : ℕ) (new : List (List ℕ))
+      → ((i : ℕ) → from ≤ i → i < from + length new → getD new (i - from) [] ≡ getD y i blank)
+      → replaced blank y size from new ≡ replaced blank y size 0 []
+  unfolding replaced
+  replaced-same size from new same = tab-cong (pagesFor size) _ _
+      (λ i _. same-cell from new i (same i) ∙ sym (same-cell 0 [] i (λ _ h. absurd (omega arith))))
 
 -- the rows behind file k moved to where its pages will end, and the new rows put among its own
 module _ (blank : List ℕ) (ns : List Node) (ds : List (List ℕ)) (k size from : ℕ) (new : List (List ℕ)) (f p q r : ℕ)
@@ -194,8 +216,13 @@ unfolding setSize nodeAt
 front-size l n k size h = take-set-lt n l k _ h ∙ ap (λ (y : Node). set (take n l) k (withSize size y))
     (sym (getD-take n l k noNode h))
 
+-- how many staged digests there are
+length-staged : (count : ℕ) (s : List ℕ) → length (stagedDigests count s) ≡ count
+unfolding stagedDigests
+length-staged count s = length-rows digestWidth count (part dataSize (count * digestWidth) s)
+
 -- The span of node k, by where its pages begin and how many they are.
-pub spans-at : (m : List ℕ) (n k : ℕ) {f p : ℕ} → k < n → n ≤ NODES → f ≡ pageTotal (take k (memOf m .nodes))
+spans-at : (m : List ℕ) (n k : ℕ) {f p : ℕ} → k < n → n ≤ NODES → f ≡ pageTotal (take k (memOf m .nodes))
     → p ≡ pagesFor (nodeAt (memOf m .nodes) k .size)
     → Spans (memOf m .nodes) n k (record { first = f; end = f + p; total = pageTotal (take n (memOf m .nodes)) })
 spans-at m n k h g ef ep =
@@ -236,74 +263,165 @@ module _ (m : List ℕ) {n k : ℕ} {s : Span} (h : Spans (memOf m .nodes) n k s
   pub total-with : s .first + pagesFor size + (s .total - s .end) ≡ pageTotal (setSize ns k size)
   total-with = omega (arith, total-set ns k size in-use, is-first, is-rest)
 
-  -- A change of it that can be done, where b rows behind its pages are moved, or none as these keep their count: what
-  -- it asks of the rows, and what it
-  -- makes of the view.
-  module _ (from count : ℕ) (g : Changeable ns k size from count) (old new b : ℕ)
-      (is-old : old ≡ pagesFor (nodeAt (memOf m .nodes) k .size))
-      (is-new : new ≡ pagesFor size) (moves : b ≡ pick (eqb old new) 0 (s .total - s .end)) where
-    few-moved : b ≤ s .total - s .end
-    few-moved = rw moves (pick-ind (λ (x : ℕ). x ≤ s .total - s .end) (eqb old new) (λ _. omega arith)
-        (λ _. omega arith))
+-- A change of the size of node k, by its rows.
+module _ (m : List ℕ) {n k size : ℕ} {z : Resize} (h : Resizes (memOf m .nodes) n k size z) where
+  abbrev used : List Node
+  used = take n (memOf m .nodes)
 
-    old-front : old ≡ pagesFor (nodeAt ns k .size)
-    old-front = rw (node-front n (memOf m .nodes) k (h .known)) is-old
+  abbrev end : ℕ
+  end = z .first + z .old
 
-    pub room : Room (s .first) old new b from count
-    room = record {
-      before-fits = omega (arith, few-moved, h .ends, h .within, h .all, g .room-before, is-old);
-      after-fits = omega (arith, few-moved, total-with, g .room-after, is-new);
-      begins = rw old-front (g .begins);
-      ends = rw is-new (g .ends);
-      few = g .few;
+  abbrev rest : ℕ
+  rest = pageTotal used - end
+
+  span : Spans (memOf m .nodes) n k (record { first = z .first; end = end; total = pageTotal used })
+  span = spans-at m n k (h .known) (h .fits) (h .begins) (h .is-old)
+
+  old-pages : z .old ≡ pagesFor (nodeAt used k .size)
+  old-pages = rw (node-front n (memOf m .nodes) k (h .known)) (h .is-old)
+
+  few-moved : z .behind ≤ rest
+  few-moved = rw (h .moves) (pick-ind (λ (x : ℕ). x ≤ rest) (eqb (z .old) (z .new)) (λ _. omega arith)
+      (λ _. omega arith))
+
+  -- where the rows have room: what the change asks of them, and what it makes of the view
+  module _ (before : pageTotal used ≤ PAGES) (after : pageTotal (setSize used k size) ≤ PAGES) where
+    room : {from count : ℕ} → from ≤ z .old → from + count ≤ z .new → count ≤ newDigests → Room z from count
+    room begins ends few = record {
+      before-fits = omega (arith, few-moved, span .within);
+      after-fits = omega (arith, few-moved, total-with m span size, h .is-new);
+      begins = begins;
+      ends = ends;
+      few = few;
     }
 
     -- where none is moved, all behind would stand where they are
     moved-rows : (ds : List (List ℕ)) → length ds ≡ PAGES
-        → overwrite ds (s .first + new) (part (s .end) b ds) ≡ overwrite ds (s .first + pagesFor size)
-        (part (s .end) (s .total - s .end) ds)
-    moved-rows ds l = go (is (eqb old new))
+        → overwrite ds (z .first + z .new) (part end (z .behind) ds)
+        ≡ overwrite ds (z .first + pagesFor size) (part end rest ds)
+    moved-rows ds l = go (is (eqb (z .old) (z .new)))
       where
-        go : Is (eqb old new)
-            → overwrite ds (s .first + new) (part (s .end) b ds) ≡ overwrite ds (s .first + pagesFor size)
-            (part (s .end) (s .total - s .end) ds)
-        go (isF e) = ap₂ (λ (i j : ℕ). overwrite ds (s .first + i) (part (s .end) j ds)) is-new (moves
-            ∙ pick-false _ _ _ e)
+        go : Is (eqb (z .old) (z .new))
+            → overwrite ds (z .first + z .new) (part end (z .behind) ds)
+            ≡ overwrite ds (z .first + pagesFor size) (part end rest ds)
+        go (isF e) = ap₂ (λ (i j : ℕ). overwrite ds (z .first + i) (part end j ds)) (h .is-new)
+            (h .moves ∙ pick-false _ _ _ e)
         go (isT e) =
-            let z : s .end ≡ s .first + pagesFor size = omega (arith, h .ends, is-old, is-new, eqb-true old new e) in
-            ap (λ (j : ℕ). overwrite ds (s .first + new) (part (s .end) j ds)) (moves ∙ pick-true _ _ _ e)
-            ∙ move-none [] ds (s .first + new) (s .end)
-            ∙ sym (move-same [] ds (s .end) (s .total - s .end) (omega (arith, l, h .within, h .all, g .room-before)))
-            ∙ ap (λ (i : ℕ). overwrite ds i (part (s .end) (s .total - s .end) ds)) z
+            let w : end ≡ z .first + pagesFor size = omega (arith, h .is-new, eqb-true (z .old) (z .new) e) in
+            ap (λ (j : ℕ). overwrite ds (z .first + z .new) (part end j ds)) (h .moves ∙ pick-true _ _ _ e)
+            ∙ move-none [] ds (z .first + z .new) end
+            ∙ sym (move-same [] ds end rest (omega (arith, l, span .within)))
+            ∙ ap (λ (i : ℕ). overwrite ds i (part end rest ds)) w
 
-    pub view-change : (blank : List ℕ) (o : ℕ)
-        → viewOf n o (changedRows k size from (stagedDigests count (memOf m .staged)) (s .first) (s .end) new b
-        (memOf m))
-        ≡ withChange blank k size from (stagedDigests count (memOf m .staged)) (viewOf n o (memOf m))
-    unfolding viewOf withChange changedRows stagedDigests moved setSize nodeAt
-    view-change blank o =
+    view-rows : (blank : List ℕ) (from : ℕ) (x : List (List ℕ)) → from ≤ z .old → from + length x ≤ z .new
+        → z .new ≤ max (z .old) (from + length x) → (o : ℕ)
+        → viewOf n o (changedRows k size from x z (memOf m)) ≡ withChange blank k size from x (viewOf n o (memOf m))
+    unfolding viewOf withChange changedRows moved setSize nodeAt
+    view-rows blank from x begins ends covered o =
         let ds = memOf m .digests in
-        let f = s .first in
-        let p = pagesFor (nodeAt ns k .size) in
+        let f = z .first in
+        let p = pagesFor (nodeAt used k .size) in
         let q = pagesFor size in
-        let r = pageTotal (drop (suc k) ns) in
-        let x = stagedDigests count (memOf m .staged) in
-        let l : length x ≡ count = length-rows digestWidth count (part dataSize (count * digestWidth) (memOf m .staged))
-        in
-        let w : Placed blank ns ds k size from x f p q r = record {
-          known = in-use;
-          is-first = is-first;
+        let r = pageTotal (drop (suc k) used) in
+        let w : Placed blank used ds k size from x f p q r = record {
+          known = in-use m span size;
+          is-first = is-first m span size;
           is-old = refl;
           is-new = refl;
           is-rest = refl;
-          fits-before = omega (arith, is-end, is-rest, length-digests m, h .within, h .all, g .room-before);
-          fits-after = omega (arith, is-rest, length-digests m, total-with, g .room-after);
-          begins = g .begins;
-          ends = rw l (g .ends);
-          covered = rw l (g .covered);
+          fits-before = omega (arith, is-end m span size, is-rest m span size, length-digests m, span .within);
+          fits-after = omega (arith, is-rest m span size, length-digests m, total-with m span size);
+          begins = rw old-pages at begins;
+          ends = rw (h .is-new) at ends;
+          covered = rw (old-pages, h .is-new) at covered;
         } in
         let e = front-size (memOf m .nodes) n k size (h .known) in
         ap₂ (λ a b. withFiles a b (viewOf n o (memOf m))) e
         (ap₂ (λ a y. divide a (overwrite y (f + from) x)) e (moved-rows ds (length-digests m)
-        ∙ (λ i. overwrite ds (f + q) (part (is-end i) (is-rest i) ds)))
-        ∙ contents-changed blank ns ds k size from x f p q r w (withSize size (nodeAt ns k)) refl)
+        ∙ (λ i. overwrite ds (f + q) (part (is-end m span size i) (is-rest m span size i) ds)))
+        ∙ contents-changed blank used ds k size from x f p q r w (withSize size (nodeAt used k)) refl)
+
+  -- A change that can be done, with staged digests.
+  module _ {from count : ℕ} (g : Changeable used k size from count) where
+    pub change-room : Room z from count
+    change-room = room (g .room-before) (g .room-after) (rw old-pages (g .begins)) (rw (h .is-new) (g .ends)) (g .few)
+
+    pub view-change : (blank : List ℕ) (o : ℕ)
+        → viewOf n o (changedRows k size from (stagedDigests count (memOf m .staged)) z (memOf m))
+        ≡ withChange blank k size from (stagedDigests count (memOf m .staged)) (viewOf n o (memOf m))
+    view-change blank o =
+        let x = stagedDigests count (memOf m .staged) in
+        let l : length x ≡ count = length-staged count (memOf m .staged) in
+        view-rows (g .room-before) (g .room-after) blank from x (rw old-pages (g .begins))
+        (rw (l, h .is-new) (g .ends)) (rw (l, old-pages, h .is-new) (g .covered)) o
+
+  -- A growth that can be done: each added page has the digest `blank`.
+  module _ (g : Growable used k size) where
+    grows : z .old ≤ z .new
+    grows = rw (old-pages, h .is-new) (g .grows)
+
+    pub grow-room : Room z (z .old) 0
+    grow-room = room (g .room-before) (g .room-after) (omega arith) (omega (arith, grows)) (omega arith)
+
+    own-length : length (getD (divide used (memOf m .digests)) k []) ≡ z .old
+    own-length =
+        let ds = memOf m .digests in
+        let p = pagesFor (nodeAt used k .size) in
+        let r = grow-room .before-fits in
+        ap length (divide-at used k (in-use m span size) ds)
+        ∙ length-part (pageTotal (take k used)) p ds
+        (omega (arith, old-pages, is-first m span size, length-digests m))
+        ∙ sym old-pages
+
+    pub view-grow : (blank : List ℕ) (o : ℕ)
+        → viewOf n o (changedRows k size (z .old) (replicate (z .new - z .old) blank) z (memOf m))
+        ≡ withChange blank k size 0 [] (viewOf n o (memOf m))
+    unfolding viewOf withChange
+    view-grow blank o =
+        let all = divide used (memOf m .digests) in
+        let y = getD all k [] in
+        let x = replicate (z .new - z .old) blank in
+        let l : length x ≡ z .new - z .old = length-replicate (z .new - z .old) blank in
+        let e = own-length in
+        let v = grows in
+        view-rows (g .room-before) (g .room-after) blank (z .old) x (omega arith) (omega arith) (omega arith) o
+        ∙ ap (λ (r : List (List ℕ)). withFiles (setSize used k size) (set all k r) (viewOf n o (memOf m)))
+        (replaced-same blank y size (z .old) x (λ i a b. getD-replicate (z .new - z .old) (i - z .old) blank []
+        (omega arith) ∙ sym (List·getD-eq-default y blank (omega arith))))
+
+-- A growth inside the last page: the rows are as they were.
+module _ (m : List ℕ) (n k size : ℕ) (known : k < n) (fits : n ≤ NODES)
+    (same : pagesFor size ≡ pagesFor (nodeAt (memOf m .nodes) k .size)) where
+  unmoved : Resize
+  unmoved = record {
+    first = pageTotal (take k (memOf m .nodes));
+    old = pagesFor (nodeAt (memOf m .nodes) k .size);
+    new = pagesFor size;
+    behind = 0;
+  }
+
+  unmoved-rows : Resizes (memOf m .nodes) n k size unmoved
+  unfolding unmoved
+  unmoved-rows = record {
+    known = known;
+    fits = fits;
+    begins = refl;
+    is-old = refl;
+    is-new = refl;
+    moves = sym (pick-true _ _ _ (eq-eqb _ _ (sym same)));
+  }
+
+  pub view-within : Growable (take n (memOf m .nodes)) k size → (blank : List ℕ) (o : ℕ)
+      → viewOf n o (withNodes (setSize (memOf m .nodes) k size) (memOf m))
+      ≡ withChange blank k size 0 [] (viewOf n o (memOf m))
+  unfolding unmoved changedRows
+  view-within g blank o =
+      let ds = memOf m .digests in
+      let p = pagesFor (nodeAt (memOf m .nodes) k .size) in
+      let f = pageTotal (take k (memOf m .nodes)) in
+      let less : pagesFor size - p ≡ 0 = omega arith in
+      let none : replicate (pagesFor size - p) blank ≡ [] = ap (λ (i : ℕ). replicate i blank) less in
+      ap (λ (x : List (List ℕ)). viewOf n o (withNodes (setSize (memOf m .nodes) k size) (withDigests x (memOf m))))
+      (sym (ap (λ (x : List (List ℕ)). overwrite (overwrite ds (f + pagesFor size) (part (f + p) 0 ds)) (f + p) x) none
+      ∙ overwrite-none [] _ (f + p) ∙ move-none [] ds (f + pagesFor size) (f + p)))
+      ∙ view-grow m unmoved-rows g blank o

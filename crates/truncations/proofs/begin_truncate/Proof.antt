@@ -24,8 +24,9 @@ truncate-at-requires c κs =
     let b = l .before .before .before .before in
     let a = b .args in
     let o = counts-fit (a .m .now) _ (l .load .ensures) .1 in
-    let p = j .judge-truncate .ensures .there _ _ (v .j .given .1) in
-    (omega (arith, p, o), omega arith, omega (arith, b .pre .1))
+    let p = j .judge-truncate .ensures .0 .there _ _ (v .j .given .1) in
+    let z = j .judge-truncate .ensures .1 _ _ (v .j .given .1) in
+    (omega (arith, p, o), omega (arith, z), omega arith, omega (arith, b .pre .1))
 
 returns : tie.Need-returns
 returns c =
@@ -36,7 +37,7 @@ returns c =
     let a = l .before .before .before .before .args in (
       λ d sha w h.
           call-passed d (stateOf d (a .m .now)) (a .handle) (truncate (a .handle) (a .size)) _
-          (judged-at _ (j .judge-truncate .ensures) _ (tables-loaded (a .m .now) _ (l .load .ensures) d) (d .width)
+          (judged-at _ (j .judge-truncate .ensures .0) _ (tables-loaded (a .m .now) _ (l .load .ensures) d) (d .width)
           (h .holds .valid .tables .nodes-valid .sound))
           _ _ (v .j .given .1) _ _ (a .request .now) _ (s .truncate-at .ensures .0 d sha h (a .handle)),
       omega arith,
@@ -50,7 +51,7 @@ returns-2 c =
     let a = l .before .before .before .before .args in (
       λ d sha w h.
           call-refused d (stateOf d (a .m .now)) (a .handle) (truncate (a .handle) (a .size)) _
-          (judged-at _ (j .judge-truncate .ensures) _ (tables-loaded (a .m .now) _ (l .load .ensures) d) (d .width)
+          (judged-at _ (j .judge-truncate .ensures .0) _ (tables-loaded (a .m .now) _ (l .load .ensures) d) (d .width)
           (h .holds .valid .tables .nodes-valid .sound))
           _ (a .m .now) (a .request .now) (v .j2 .given .1) refl,
       refl,

@@ -89,7 +89,7 @@ module _ (c : Config) (m : List ℕ) where
     module _ (e : g .call ≡ CUTTING) (l : Guard) (loaded : l ≡ numbersOf (memOf m .head)) where
       pub cut-ended : (x y : ℕ) → x ≡ openAt (memOf m .opens) (l .opened) .cursor → y ≡ min x (l .size)
           → Ended c m (shrinkIn m) (l .node) (l .opened) (l .size) y (l .size / PAGE-BYTES) (l .digests) 0
-      unfolding shrinkIn sizeAfter cursorAfter first pageAt numberOf
+      unfolding shrinkIn sizeAfter cursorAfter first last pageAt numberOf
       cut-ended x y a b =
           let s = cutting-sending c m (shrinkIn m) h (omega arith, omega arith) (cut-waits e) in
           let o = open-within c m (shrinkIn m) (last (shrinkIn m)) s in
@@ -100,7 +100,7 @@ module _ (c : Config) (m : List ℕ) where
           subst (λ (j : Guard). Ended c m (shrinkIn m) (j .node) (j .opened) (j .size) y (j .size / PAGE-BYTES)
           (j .digests) 0) (sym loaded)
           (sending-ended c m (shrinkIn m) (last (shrinkIn m)) s (g .size) y (g .size / PAGE-BYTES) 0
-          (omega arith, omega arith) (omega arith) (omega (arith, few-pages (g .size))) refl
+          (omega arith, omega arith) (omega arith) (omega (arith, few-pages (g .size))) (omega arith) refl
           (b ∙ (λ t. min (u t) (n t))) refl refl)
 
       pub cut-done : c .width ≡ ID-BYTES → (r : List ℕ) (x : Outcome) (m′ b b′ : List ℕ) → 0 ≡ statusReason r 0

@@ -26,6 +26,7 @@ use Rattle.outcomes.specs.Sent.{Sends}
 use Rattle.page_changes.specs.Ended.{Ended}
 use Rattle.page_changes.specs.Sending.{Sending}
 use Rattle.page_changes.specs.laws.SendingLaws.{sending-ended, node-within}
+use Rattle.guard_state.specs.laws.Changes.{Covered}
 use Rattle.writes.specs.Writing.{Writing, writeIn}
 
 module _ (c : Config) (m : List ℕ) (long : memorySize ≤ length m) (i : ℕ) (h : Sending c m (writeIn m) i) where
@@ -52,6 +53,11 @@ module _ (c : Config) (m : List ℕ) (long : memorySize ≤ length m) (i : ℕ) 
     unfolding writeIn first pageAt pagesFor
     few = let b = in-range g (memOf m .head) refl .bytes in omega (arith, last-page, b)
 
+    -- each page that it adds is one that it stores
+    covered : (size : ℕ) → Covered (writeIn m) size
+    unfolding writeIn sizeAfter last pagesFor
+    covered size = omega arith
+
     ended : (size end : ℕ) → Writing (g .call) → end ≡ g .position + g .bytes
         → size ≡ max (nodeAt (memOf m .nodes) (g .node) .size) end
         → Ended c m (writeIn m) (g .node) (g .opened) size end (g .position / PAGE-BYTES) (g .digests) (g .bytes)
@@ -59,7 +65,7 @@ module _ (c : Config) (m : List ℕ) (long : memorySize ≤ length m) (i : ℕ) 
     ended size end (a, b) e f =
         let n = bytes-length m long in
         sending-ended c m (writeIn m) i h size end (g .position / PAGE-BYTES) (g .bytes) (a, omega (arith, b)) no-page
-        few
+        few (covered _)
         (f ∙ ap₂ max size-there (e ∙ ap (λ (k : ℕ). g .position + k) (sym n))) (e
         ∙ ap (λ (k : ℕ). g .position + k) (sym n)) refl (sym n)
 

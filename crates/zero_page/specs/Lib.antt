@@ -1,0 +1,2 @@
+pub mod ZeroPage
+pub mod laws
