@@ -200,6 +200,42 @@ static void step_readdir(void)
     expect(reply(listing, listing_length), DONE, listed);
 }
 
+static uint8_t map_call[5], unmap_call[1 + ADDRESS], map_reply[ADDRESS + MAP_BYTES];
+
+/* A map of so many bytes, that the host puts at an address. */
+static void map_of(uint32_t address, uint32_t length)
+{
+    map_call[0] = GUARD_MAP;
+    memcpy(map_call + 1, &length, 4);
+    unmap_call[0] = GUARD_UNMAP;
+    memcpy(unmap_call + 1, &address, 4);
+    memcpy(map_reply, &address, 4);
+    position = address;
+    count = length;
+}
+
+static void step_map(void)
+{
+    expect(call(map_call, sizeof map_call), ASK, 0);
+    expect(reply(map_reply, ADDRESS + count), DONE, position);
+}
+
+static void step_unmap(void)
+{
+    expect(call(unmap_call, sizeof unmap_call), ASK, 0);
+    expect(reply("\0\0\0\0", 4), DONE, 0);
+}
+
+/* One map less than may live, each apart from the others. */
+static void fifteen_maps(void)
+{
+    smallest();
+    for (uint32_t k = 1; k < MAPS; k++) {
+        map_of(2 * k * UNIT, UNIT);
+        step_map();
+    }
+}
+
 static void step_save(void) { expect(save(), DONE, image_length); }
 static void step_load(void) { expect(load(), DONE, 0); }
 
@@ -215,8 +251,8 @@ struct least { size_t hashes, hashed, copied, looks; };
 struct row { const char *name; void (*table)(void), (*before)(void), (*step)(void); int kind; uint32_t position,
     count; struct least least; };
 
-/* `before` is not measured. The least: so many hashes of so many bytes, so many bytes copied once, so many nodes looked
- * at. */
+/* `before` is not measured. The least: so many hashes of so many bytes, so many bytes copied once, or read as a copy
+ * reads them, so many nodes or maps looked at. */
 static const struct row rows[] = {
     {"seek, two nodes", small, NULL, step_seek, GUARD_SEEK, 0, 0, {0, 0, 0, 1}},
     {"seek, 256 nodes", full_open, NULL, step_seek, GUARD_SEEK, 0, 0, {0, 0, 0, 1}},
@@ -243,6 +279,10 @@ static const struct row rows[] = {
         {0, 0, 64 * DIGEST, 1}},
     {"readdir, 255 children", largest, NULL, step_readdir, GUARD_READDIR, 0, NODES - 1, {0, 0, ANSWER, NODES}},
     {"readdir, 255 shuffled", largest, NULL, step_readdir, GUARD_READDIR, 1, NODES - 1, {0, 0, ANSWER, NODES}},
+    {"map 4,096", smallest, restore, step_map, GUARD_MAP, UNIT, UNIT, {0, 0, UNIT, 0}},
+    {"map 65,536", smallest, restore, step_map, GUARD_MAP, UNIT, MAP_BYTES, {0, 0, MAP_BYTES, 0}},
+    {"map 4,096, 15 maps", fifteen_maps, restore, step_map, GUARD_MAP, 64 * UNIT, UNIT, {0, 0, UNIT, MAPS - 1}},
+    {"unmap, 15 maps", fifteen_maps, restore, step_unmap, GUARD_MAP, 30 * UNIT, UNIT, {0, 0, 0, MAPS - 1}},
     {"save, 23 bytes", smallest, NULL, step_save, NO_CALL, 0, 0, {1, 23, 23, 1}},
     {"save, 44,776 bytes", largest, NULL, step_save, NO_CALL, 0, 0, {1, IMAGE, IMAGE, NODES}},
     {"load, 23 bytes", smallest, NULL, step_load, NO_CALL, 0, 0, {1, 23, 23, 1}},
@@ -281,6 +321,7 @@ static void make_call(const struct row *r)
     case GUARD_TRUNCATE: by_handle(GUARD_TRUNCATE, file_handle, position, 8); break;
     case OTHER_HANDLE: by_handle(GUARD_SEEK, 777, 0, 8); break;
     case GUARD_READDIR: list_children(count, position); break;
+    case GUARD_MAP: map_of(position, count); break;
     case GUARD_STAT:
         deep_path(path, position);
         stat_of(path, position == 1 ? LAST : LAST + position, position == 1 ? 1 : 2, position == 1 ? 4 * PAGE : 0);
@@ -397,7 +438,7 @@ static void count_all(void)
 /* ---- the least */
 
 static struct node looked[2 * NODES];
-static uint8_t copied[2][IMAGE];
+static uint8_t copied[2][MAP_BYTES];
 static uint32_t absent;
 static const struct node *volatile found;
 

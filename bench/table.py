@@ -11,6 +11,8 @@ from pathlib import Path
 # bars, on the time
 MEAN, MOST, HASHING, STACK = 1.10, 1.30, 1.05, 16_384
 SHUFFLED = 1.5  # a listing in no order, in instructions of the same in order
+ZERO_TEST, REST_OF_A_MAP = 1.10, 2500  # of plain C's instructions; instructions
+UNITS = 16  # of the longest map
 HASH = "digest::sha256"  # in the archive
 
 # Rows that miss a bar, and why.
@@ -123,6 +125,20 @@ def print_shuffled(archive):
     return ["a listing in no order"] * (ratio > SHUFFLED)
 
 
+def zero_test(side):
+    """The instructions that the zero test of one unit takes: what the longest map takes more than the shortest."""
+    return (side["map 65,536"][0] - side["map 4,096"][0]) / (UNITS - 1)
+
+
+def print_maps(archive, plain):
+    ratio = zero_test(archive) / zero_test(plain)
+    rest, among = (archive[name][0] - zero_test(archive) for name in ("map 4,096", "map 4,096, 15 maps"))
+    print(f"the zero test of a map: {ratio:.2f} of plain C's instructions, at most {ZERO_TEST:.2f};", end=" ")
+    print(f"the rest of a map {rest:,.0f} instructions, with 15 maps {among:,.0f}, under {REST_OF_A_MAP:,}")
+    over = ["the zero test of a map"] * (ratio > ZERO_TEST)
+    return over + ["the rest of a map"] * (max(rest, among) >= REST_OF_A_MAP)
+
+
 def print_memory(rows):
     """The guard's bytes and the deepest stack; the entries above the bar."""
     sizes = {(side, what): int(size) for side, what, size in rows}
@@ -195,6 +211,7 @@ def main():
     times = {name: float(ratio) for name, ratio in fields(folder / "times")}
     over = print_table(archive, plain, plain_hash, least, times)
     over += print_shuffled(archive)
+    over += print_maps(archive, plain)
     over += print_memory(fields(folder / "memory"))
     print_curves(archive, plain, plots)
     print_reasons(over)

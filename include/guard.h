@@ -36,7 +36,7 @@
 extern "C" {
 #endif
 
-#define GUARD_VERSION "1.2"
+#define GUARD_VERSION "1.3"
 
 /* How the functions of these headers are compiled: inline, in each program that includes them. Whoever cannot use inline
  * functions takes libguard_client.so, which has each of them and the archive's entries as symbols (guard_exports.c,
@@ -57,20 +57,25 @@ enum {
     GUARD_OPEN_FILES = 32,
     GUARD_PAGES = 1024,           /* pages of all files */
     GUARD_DESCRIPTORS = 1024,     /* a host's descriptors are 0 to 1,023 */
+    GUARD_MAPS = 16,              /* maps that live at a time */
+    GUARD_MAP_UNIT = 4096,        /* a map's address and length are multiples of it; a file's page is shorter */
+    GUARD_MAP_LENGTH = 65536,     /* the longest map */
     GUARD_ID_LENGTH = 4,
+    GUARD_ADDRESS_LENGTH = 8,
     GUARD_DIGEST_LENGTH = 32,
 
     /* the least length of an answer buffer, 9,690: the longest listing, which has an id, two bytes and a name for each
      * node but the root */
     GUARD_ANSWER_LENGTH = (GUARD_NODES - 1) * (GUARD_ID_LENGTH + 2 + GUARD_NAME_LENGTH),
-    GUARD_REPLY_LENGTH = GUARD_ANSWER_LENGTH, /* the longest right reply: a listing */
+    /* the longest right reply, 65,544: that to the longest map, an address and its bytes */
+    GUARD_REPLY_LENGTH = GUARD_ADDRESS_LENGTH + GUARD_MAP_LENGTH,
     /* the least length of a request buffer, 1,037: a store, which is its kind, three numbers and a page */
     GUARD_REQUEST_LENGTH = 1 + 3 * 4 + GUARD_PAGE_LENGTH,
     /* the longest image, 44,776: a count and the nodes, each two ids, seven bytes and a name, of which the root has
      * none; a count and the digests */
     GUARD_IMAGE_LENGTH = 4 + GUARD_NODES * (2 * GUARD_ID_LENGTH + 7) + (GUARD_NODES - 1) * GUARD_NAME_LENGTH
         + 4 + GUARD_PAGES * GUARD_DIGEST_LENGTH,
-    GUARD_MEMORY_LENGTH = 52672
+    GUARD_MEMORY_LENGTH = 52864
 };
 
 typedef struct guard { uint8_t memory[GUARD_MEMORY_LENGTH]; } guard;
@@ -102,11 +107,22 @@ enum {
  *     readdir         path                               the number of entries, and      the call itself
  *                                                        the reply's bytes
  *     stat            path                               the size, and the reply's bytes the call itself
+ *     map             length (4)                         the map's address, no bytes     the call itself
+ *     unmap           address (8)                        0                               the call itself
  *
  * Reads and writes begin at the file's cursor, which is 0 after an open, and move it; a read ends at the end of the
  * file. A position is at most the size. A truncation to more than the size makes the file longer by zeros, and asks for
  * one cut; the cursor stays. After one to less, a cursor that stood behind the new end is at that end, unlike POSIX.
  * A read or write of no bytes and a truncation to the same size ask for nothing.
+ *
+ * A map is memory that the host lends, all zeros, at an address that the host chooses: GUARD_MAP_UNIT bytes or a
+ * multiple, up to GUARD_MAP_LENGTH. It lives until it is unmapped by its first address; then its room is free again.
+ * Saves and loads work while maps live and leave them as they are: an image has none, and a fresh guard neither.
+ * - The guard judges the reply where it lies, and keeps address and length alone. It never looks at the address itself.
+ * - It judges an address by the maps that live, and knows of no other memory: a client whose own stack or heap lies in
+ *   the same space compares the address with these too, before it uses the map.
+ * - What was judged are the reply's bytes. Where the host can still write those at the address, they are copied in
+ *   before they are used.
  *
  * Bits that a mode must have, else GUARD_BARRED (4.8, 7.6, 7.7):
  *
@@ -120,7 +136,8 @@ enum {
  * close and seek. A chmod does not touch them. A file is open once at a time. */
 enum {
     GUARD_CREATE = 1, GUARD_MKDIR = 2, GUARD_OPEN = 3, GUARD_CLOSE = 4, GUARD_SEEK = 5, GUARD_READ = 6, GUARD_WRITE = 7,
-    GUARD_TRUNCATE = 8, GUARD_REMOVE = 9, GUARD_RMDIR = 10, GUARD_CHMOD = 11, GUARD_READDIR = 12, GUARD_STAT = 13
+    GUARD_TRUNCATE = 8, GUARD_REMOVE = 9, GUARD_RMDIR = 10, GUARD_CHMOD = 11, GUARD_READDIR = 12, GUARD_STAT = 13,
+    GUARD_MAP = 14, GUARD_UNMAP = 15
 };
 
 /* Requests that are not the call itself, and the right replies to each (5). A host obeys a request before it replies.
@@ -132,12 +149,15 @@ enum {
  *
  *     create, mkdir                                      an id (4), not 0, that no node has; the root has 1
  *     open                                               a descriptor (4), 0 to 1,023, that no open file has
- *     close, cut, remove, rmdir, chmod                   a status (4), 0; a status is signed
+ *     close, cut, remove, rmdir, chmod, unmap            a status (4), 0; a status is signed
  *     store                                              a status (4), 1,024
  *     fetch                                              the page's 1,024 bytes, zeros past the end of the file
  *     readdir                                            each child once, in any order: id (4), kind (1: 1 a file, 2 a directory),
  *                                                        length of the name (1), name
- *     stat                                               id (4), kind (1), mode (1), size (4; 0 for a directory) */
+ *     stat                                               id (4), kind (1), mode (1), size (4; 0 for a directory)
+ *     map                                                an address (8), not 0, a multiple of 4,096, then as many
+ *                                                        bytes as were asked for, all 0; address and length together
+ *                                                        are at most 2^64, and no live map is overlapped */
 enum { GUARD_FETCH = 6, GUARD_STORE = 7, GUARD_CUT = 8 };
 
 enum { GUARD_FILE = 1, GUARD_DIRECTORY = 2 };
@@ -148,7 +168,7 @@ enum {
     GUARD_PENDING = 114,        /* EALREADY      a call, save or load while a request is pending */
     GUARD_NOT_PENDING = 61,     /* ENODATA       a reply, but no request is pending */
     GUARD_SHORT_BUFFER = 34,    /* ERANGE        the answer, request or image buffer is too short */
-    GUARD_MALFORMED = 22,       /* EINVAL        the form of a call or path; a seek beyond the size */
+    GUARD_MALFORMED = 22,       /* EINVAL        the form of a call or path; a seek beyond the size; an unmap of no map */
     GUARD_TOO_LONG = 36,        /* ENAMETOOLONG  a component over 32 bytes, a path over 255 */
     GUARD_NOT_DIRECTORY = 20,   /* ENOTDIR       a path leads through a file; rmdir or readdir of a file */
     GUARD_BARRED = 13,          /* EACCES        the mode lacks a bit */
@@ -158,6 +178,7 @@ enum {
     GUARD_IN_USE = 16,          /* EBUSY         the file is open; rmdir of the root; save or load with open files */
     GUARD_NOT_EMPTY = 39,       /* ENOTEMPTY     rmdir of a directory with children */
     GUARD_TOO_MANY_OPEN = 24,   /* EMFILE        32 files are open */
+    GUARD_TOO_MANY_MAPS = 12,   /* ENOMEM        16 maps live */
     GUARD_BAD_HANDLE = 9,       /* EBADF         not open, or without the right */
     GUARD_TOO_BIG = 27,         /* EFBIG         a write or truncation beyond 65,536 bytes */
     GUARD_FULL = 28,            /* ENOSPC        256 nodes; over 1,024 pages after a write or truncation */
@@ -173,7 +194,8 @@ enum {
     GUARD_STOP_DESCRIPTOR = 4, /* a descriptor out of range or that an open file has */
     GUARD_STOP_PAGE = 5,       /* a page with another digest than the one that is kept */
     GUARD_STOP_STAT = 6,       /* a stat that differs from what the guard keeps */
-    GUARD_STOP_LISTING = 7     /* a listing that lacks a child, has one twice or one that is not there, or is malformed */
+    GUARD_STOP_LISTING = 7,    /* a listing that lacks a child, has one twice or one that is not there, or is malformed */
+    GUARD_STOP_MAP = 8         /* an address that cannot be a map's or overlaps a live one, or a byte that is not 0 */
 };
 
 /* The archive's entries: what a binding of another language calls; a C program uses the functions below, which know the
@@ -219,17 +241,18 @@ GUARD_FUNCTION guard_outcome guard_reply(guard *g, const uint8_t *reply, size_t 
     return guard_entry_reply(g->memory, sizeof g->memory, reply, length, answer, answer_length, request, request_length);
 }
 
-/* Writes all that the guard keeps to the front of `image`, and its SHA-256 to `digest`; done with the image's length. No file may be open. Only an
- * image that is longer than the buffer is refused GUARD_SHORT_BUFFER. A save that is refused writes nothing. Once the save is
- * done, the image may be copied anywhere, to the host too. The digest must be kept where the host cannot change it: whoever chooses the digest chooses
- * which files the next guard believes in. */
+/* Writes all that the guard keeps, but for maps, to the front of `image`, and its SHA-256 to `digest`; done with the
+ * image's length. No file may be open; maps may live. Only an image that is longer than the buffer is refused
+ * GUARD_SHORT_BUFFER. A save that is refused writes nothing. Once the save is done, the image may be copied anywhere, to
+ * the host too. The digest must be kept where the host cannot change it: whoever chooses the digest chooses which files
+ * the next guard believes in. */
 GUARD_FUNCTION guard_outcome guard_save(guard *g, uint8_t *image, size_t image_length, uint8_t digest[GUARD_DIGEST_LENGTH])
 {
     return guard_entry_save(g->memory, sizeof g->memory, image, image_length, digest);
 }
 
-/* Takes an image back, in place of all that the guard holds, if it has this digest: that of the last save. No file may be open. Done with 0. An image
- * that the host kept is copied to memory that the host cannot write first. */
+/* Takes an image back, in place of all that the guard holds but its maps, if it has this digest: that of the last save.
+ * No file may be open. Done with 0. An image that the host kept is copied to memory that the host cannot write first. */
 GUARD_FUNCTION guard_outcome guard_load(guard *g, const uint8_t *image, size_t length, const uint8_t *digest, size_t digest_length)
 {
     return guard_entry_load(g->memory, sizeof g->memory, image, length, digest, digest_length);

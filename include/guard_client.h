@@ -45,6 +45,11 @@ GUARD_FUNCTION uint32_t guard_get_number(const uint8_t *from)
     return (uint32_t)from[0] | (uint32_t)from[1] << 8 | (uint32_t)from[2] << 16 | (uint32_t)from[3] << 24;
 }
 
+GUARD_FUNCTION uint64_t guard_get_long_number(const uint8_t *from)
+{
+    return guard_get_number(from) | (uint64_t)guard_get_number(from + 4) << 32;
+}
+
 GUARD_FUNCTION size_t guard_smaller(size_t a, size_t b) { return a < b ? a : b; }
 
 /* A null pointer with length 0 is an empty string of bytes, which memcpy does not allow. */
@@ -91,6 +96,16 @@ GUARD_FUNCTION size_t guard_handle_call(uint8_t *to, size_t room, uint8_t kind, 
     guard_put_number(to + 1, handle, 4);
     guard_put_number(to + 5, x, bytes);
     return 5 + bytes;
+}
+
+/* With a number alone, of so many bytes. */
+GUARD_FUNCTION size_t guard_number_call(uint8_t *to, size_t room, uint8_t kind, uint64_t x, size_t bytes)
+{
+    if (room < 1 + bytes)
+        return 0;
+    to[0] = kind;
+    guard_put_number(to + 1, x, bytes);
+    return 1 + bytes;
 }
 
 GUARD_FUNCTION size_t guard_create_call(uint8_t *to, size_t room, const char *path, unsigned mode)
@@ -146,6 +161,22 @@ GUARD_FUNCTION size_t guard_chmod_call(uint8_t *to, size_t room, const char *pat
 
 GUARD_FUNCTION size_t guard_readdir_call(uint8_t *to, size_t room, const char *path) { return guard_path_call(to, room, GUARD_READDIR, path); }
 GUARD_FUNCTION size_t guard_stat_call(uint8_t *to, size_t room, const char *path) { return guard_path_call(to, room, GUARD_STAT, path); }
+
+/* Whether a map may have this length. */
+GUARD_FUNCTION int guard_is_map_length(size_t length)
+{
+    return length > 0 && length <= GUARD_MAP_LENGTH && length % GUARD_MAP_UNIT == 0;
+}
+
+GUARD_FUNCTION size_t guard_map_call(uint8_t *to, size_t room, size_t length)
+{
+    return guard_is_map_length(length) ? guard_number_call(to, room, GUARD_MAP, length, 4) : 0;
+}
+
+GUARD_FUNCTION size_t guard_unmap_call(uint8_t *to, size_t room, uint64_t address)
+{
+    return guard_number_call(to, room, GUARD_UNMAP, address, GUARD_ADDRESS_LENGTH);
+}
 
 /* ---- what a stat and a readdir that are done have in their answer (5.5) */
 
@@ -213,6 +244,8 @@ typedef struct {
     uint8_t mode; /* of an open: its rights */
     int32_t descriptor;
     uint32_t page, size;
+    uint32_t length;  /* of a map */
+    uint64_t address; /* of an unmap */
     size_t path_length;
     const char *path;
     const uint8_t *bytes; /* of a store: the page */
@@ -247,6 +280,19 @@ GUARD_FUNCTION int guard_get_descriptor(const uint8_t *bytes, size_t length, gua
     return r->page < GUARD_FILE_PAGES && r->size <= GUARD_FILE_LENGTH;
 }
 
+GUARD_FUNCTION int guard_get_map(const uint8_t *bytes, size_t length, guard_request *r)
+{
+    r->length = length == 4 ? guard_get_number(bytes) : 0;
+    return guard_is_map_length(r->length);
+}
+
+/* Where a map that the guard has taken may begin. */
+GUARD_FUNCTION int guard_get_unmap(const uint8_t *bytes, size_t length, guard_request *r)
+{
+    r->address = length == GUARD_ADDRESS_LENGTH ? guard_get_long_number(bytes) : 0;
+    return r->address > 0 && r->address % GUARD_MAP_UNIT == 0;
+}
+
 /* 1, or 0 where no guard sends these bytes: then only the kind can be relied upon. */
 GUARD_FUNCTION int guard_get_request(const uint8_t *bytes, size_t length, guard_request *r)
 {
@@ -258,6 +304,8 @@ GUARD_FUNCTION int guard_get_request(const uint8_t *bytes, size_t length, guard_
     case GUARD_CREATE: case GUARD_MKDIR: case GUARD_OPEN: case GUARD_CHMOD: return guard_get_mode_and_path(bytes + 1, length - 1, r);
     case GUARD_REMOVE: case GUARD_RMDIR: case GUARD_READDIR: case GUARD_STAT: return guard_get_path(bytes + 1, length - 1, r);
     case GUARD_CLOSE: case GUARD_FETCH: case GUARD_STORE: case GUARD_CUT: return guard_get_descriptor(bytes + 1, length - 1, r);
+    case GUARD_MAP: return guard_get_map(bytes + 1, length - 1, r);
+    case GUARD_UNMAP: return guard_get_unmap(bytes + 1, length - 1, r);
     default: return 0;
     }
 }
@@ -292,6 +340,16 @@ GUARD_FUNCTION size_t guard_page_reply(uint8_t *to, size_t room, const void *byt
     guard_copy(to, bytes, length);
     memset(to + length, 0, GUARD_PAGE_LENGTH - length);
     return GUARD_PAGE_LENGTH;
+}
+
+/* A map's address and its bytes, which are all 0 where the host is honest. */
+GUARD_FUNCTION size_t guard_map_reply(uint8_t *to, size_t room, uint64_t address, const void *bytes, size_t length)
+{
+    if (length > GUARD_MAP_LENGTH || room < GUARD_ADDRESS_LENGTH + length)
+        return 0;
+    guard_put_number(to, address, GUARD_ADDRESS_LENGTH);
+    guard_copy(to + GUARD_ADDRESS_LENGTH, bytes, length);
+    return GUARD_ADDRESS_LENGTH + length;
 }
 
 GUARD_FUNCTION size_t guard_stat_reply(uint8_t *to, size_t room, const guard_stat *s)
@@ -329,7 +387,7 @@ GUARD_FUNCTION const char *guard_number_text(uint64_t number)
     case GUARD_PENDING: return "busy: a request is pending";
     case GUARD_NOT_PENDING: return "unasked: no request is pending";
     case GUARD_SHORT_BUFFER: return "short: a lent buffer is too short";
-    case GUARD_MALFORMED: return "malformed: the form of the call or path, or a seek beyond the size";
+    case GUARD_MALFORMED: return "malformed: the form of the call or path, a seek beyond the size, or an unmap of no map";
     case GUARD_TOO_LONG: return "long: a component over 32 bytes or a path over 255";
     case GUARD_NOT_DIRECTORY: return "no folder: a file where a directory is needed";
     case GUARD_BARRED: return "barred: the mode lacks a bit";
@@ -339,6 +397,7 @@ GUARD_FUNCTION const char *guard_number_text(uint64_t number)
     case GUARD_IN_USE: return "in use: the file is open, some file is, or it is the root";
     case GUARD_NOT_EMPTY: return "not empty: the directory has children";
     case GUARD_TOO_MANY_OPEN: return "handles: 32 files are open";
+    case GUARD_TOO_MANY_MAPS: return "maps: 16 maps live";
     case GUARD_BAD_HANDLE: return "handle: not open, or without the right";
     case GUARD_TOO_BIG: return "too big: a file has at most 65,536 bytes";
     case GUARD_FULL: return "full: at most 256 nodes and 1,024 pages";
@@ -359,6 +418,7 @@ GUARD_FUNCTION const char *guard_stop_text(uint64_t reason)
     case GUARD_STOP_PAGE: return "page: not the one that the file has";
     case GUARD_STOP_STAT: return "stat: not the node's";
     case GUARD_STOP_LISTING: return "listing: not what the directory holds";
+    case GUARD_STOP_MAP: return "map: its address cannot be had, or a byte is not zero";
     default: return "no reason of the guard";
     }
 }
@@ -379,6 +439,8 @@ GUARD_FUNCTION const char *guard_call_name(int kind)
     case GUARD_CHMOD: return "chmod";
     case GUARD_READDIR: return "readdir";
     case GUARD_STAT: return "stat";
+    case GUARD_MAP: return "map";
+    case GUARD_UNMAP: return "unmap";
     default: return "no call";
     }
 }
@@ -390,7 +452,7 @@ GUARD_FUNCTION const char *guard_request_name(int kind)
     case GUARD_STORE: return "store";
     case GUARD_CUT: return "cut";
     case GUARD_SEEK: return "no request";
-    default: return kind < GUARD_CREATE || kind > GUARD_STAT ? "no request" : guard_call_name(kind);
+    default: return kind < GUARD_CREATE || kind > GUARD_UNMAP ? "no request" : guard_call_name(kind);
     }
 }
 
@@ -417,7 +479,7 @@ typedef struct guard_client {
     size_t request_length;                 /* of the request that is pending, or whose reply was wrong; 0 where there is none */
     uint8_t request[GUARD_REQUEST_LENGTH]; /* that request */
     uint8_t answer[GUARD_ANSWER_LENGTH];   /* the bytes of a call that is done: `length` of its outcome says how many */
-    uint8_t copy[GUARD_IMAGE_LENGTH + 1];  /* a reply or an image, and one byte by which it may be too long */
+    uint8_t copy[GUARD_REPLY_LENGTH + 1];  /* a reply or an image, and one byte by which it may be too long */
 } guard_client;
 
 /* A client with a fresh guard. */

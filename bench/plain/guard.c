@@ -1,11 +1,12 @@
-/* The file guard in plain C (guard.h). In the specification's order: tables, paths, calls, replies, saves and loads. */
+/* The file guard in plain C (guard.h). In the specification's order: tables, paths, calls, maps, replies, saves and
+ * loads. */
 #include "guard.h"
 #include <stdbool.h>
 #include <string.h>
 
 void HASH(const uint8_t *message, size_t length, uint8_t out[DIGEST]);
 
-enum { CREATE = 1, MKDIR, OPEN, CLOSE, SEEK, READ, WRITE, TRUNCATE, REMOVE, RMDIR, CHMOD, READDIR, STAT };
+enum { CREATE = 1, MKDIR, OPEN, CLOSE, SEEK, READ, WRITE, TRUNCATE, REMOVE, RMDIR, CHMOD, READDIR, STAT, MAP, UNMAP };
 enum { IS_FILE = 1, IS_DIRECTORY = 2, MODE_READ = 4, MODE_WRITE = 2, MODE_SEARCH = 1, RIGHT_READ = 1, RIGHT_WRITE = 2 };
 
 /* What is waited for, where the call's own kind does not say it. */
@@ -396,6 +397,63 @@ static outcome call_by_handle(struct plain_guard *g, const uint8_t *call, size_t
     }
 }
 
+/* ---- maps */
+
+static uint32_t find_map(const struct plain_guard *g, uint64_t address)
+{
+    uint32_t i = 0;
+    while (i < g->maps && g->map[i].address != address)
+        i++;
+    return i;
+}
+
+/* Last bytes are compared, which fit in 64 bits where a map ends at 2^64. */
+static bool overlaps_map(const struct plain_guard *g, uint64_t address, uint32_t length)
+{
+    uint64_t last = address + (length - 1);
+    for (const struct map *m = g->map; m < g->map + g->maps; m++)
+        if (address <= m->address + (m->length - 1) && m->address <= last)
+            return true;
+    return false;
+}
+
+/* Units of zeros: a unit has words enough for the compiler to take several at a time. */
+static bool is_zero(const uint8_t *p, uint32_t n)
+{
+    for (const uint8_t *end = p + n; p < end; p += UNIT) {
+        uint64_t bits = 0, word;
+        for (uint32_t i = 0; i < UNIT; i += sizeof word) {
+            memcpy(&word, p + i, sizeof word);
+            bits |= word;
+        }
+        if (bits)
+            return false;
+    }
+    return true;
+}
+
+static outcome call_map(struct plain_guard *g, const uint8_t *call, size_t n, uint8_t *request)
+{
+    uint32_t length = n == 5 ? get4(call + 1) : 0;
+    if (length == 0 || length > MAP_BYTES || length % UNIT)
+        return refused(22);
+    if (g->maps == MAPS)
+        return refused(12);
+    g->pending = (struct pending){.call = MAP, .bytes = length};
+    memcpy(request, call, n);
+    return ask(n);
+}
+
+static outcome call_unmap(struct plain_guard *g, const uint8_t *call, size_t n, uint8_t *request)
+{
+    uint32_t k = n == 9 ? find_map(g, get8(call + 1)) : g->maps;
+    if (k == g->maps)
+        return refused(22);
+    g->pending = (struct pending){.call = UNMAP, .node = (uint16_t)k};
+    memcpy(request, call, n);
+    return ask(n);
+}
+
 outcome plain_call(struct plain_guard *g, const uint8_t *call, size_t n, uint8_t *answer, size_t a, uint8_t *request,
     size_t q)
 {
@@ -417,6 +475,8 @@ outcome plain_call(struct plain_guard *g, const uint8_t *call, size_t n, uint8_t
         return call_by_path(g, call, n, 1, request);
     case CLOSE: case SEEK: case READ: case WRITE: case TRUNCATE:
         return call_by_handle(g, call, n, request);
+    case MAP: return call_map(g, call, n, request);
+    case UNMAP: return call_unmap(g, call, n, request);
     default:
         return refused(22);
     }
@@ -487,7 +547,20 @@ static outcome opened(struct plain_guard *g, const uint8_t *reply, size_t n)
     return finish(g, handle, 0);
 }
 
-/* close, remove, rmdir and chmod. */
+static outcome mapped(struct plain_guard *g, const uint8_t *reply, size_t n)
+{
+    uint32_t length = g->pending.bytes;
+    if (n != (size_t)ADDRESS + length)
+        return stop(g, 1);
+    uint64_t address = get8(reply);
+    if (address == 0 || address % UNIT || address > UINT64_MAX - (length - 1) || overlaps_map(g, address, length) ||
+        !is_zero(reply + ADDRESS, length))
+        return stop(g, 8);
+    g->map[g->maps++] = (struct map){address, length};
+    return finish(g, address, 0);
+}
+
+/* close, remove, rmdir, chmod and unmap. */
 static outcome told(struct plain_guard *g, const uint8_t *reply, size_t n)
 {
     const struct pending *p = &g->pending;
@@ -498,6 +571,8 @@ static outcome told(struct plain_guard *g, const uint8_t *reply, size_t n)
         g->open[p->opened] = g->open[--g->opens];
     else if (p->call == CHMOD)
         g->node[p->node].mode = p->number;
+    else if (p->call == UNMAP)
+        g->map[p->node] = g->map[--g->maps];
     else
         remove_node(g, p->node);
     return finish(g, 0, 0);
@@ -673,6 +748,7 @@ outcome plain_reply(struct plain_guard *g, const uint8_t *reply, size_t n, uint8
     case OPEN: return opened(g, reply, n);
     case READDIR: return told_listing(g, reply, n, answer);
     case STAT: return told_stat(g, reply, n, answer);
+    case MAP: return mapped(g, reply, n);
     case READ: return fetched_read(g, reply, n, answer, request);
     case WRITE_FETCH: return fetched_write(g, reply, n, request);
     case WRITE_STORE: return stored_write(g, reply, n, request);
@@ -690,7 +766,7 @@ enum { RECORD = 15 }; /* a node's record without its name */
 outcome plain_fresh(struct plain_guard *g)
 {
     g->nodes = 1;
-    g->opens = g->pages = 0;
+    g->opens = g->pages = g->maps = 0;
     g->running = 1;
     g->pending.call = IDLE;
     g->node[0] = (struct node){.id = 1, .kind = IS_DIRECTORY, .mode = 7};

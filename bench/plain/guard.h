@@ -11,7 +11,8 @@
 enum {
     NODES = GUARD_NODES, OPEN_FILES = GUARD_OPEN_FILES, PAGES = GUARD_PAGES, PAGE = GUARD_PAGE_LENGTH,
     DESCRIPTORS = GUARD_DESCRIPTORS, DIGEST = GUARD_DIGEST_LENGTH, FILE_BYTES = GUARD_FILE_LENGTH,
-    NAME = GUARD_NAME_LENGTH, PATH = GUARD_PATH_LENGTH, DATA = GUARD_TRANSFER_LENGTH
+    NAME = GUARD_NAME_LENGTH, PATH = GUARD_PATH_LENGTH, DATA = GUARD_TRANSFER_LENGTH, MAPS = GUARD_MAPS,
+    UNIT = GUARD_MAP_UNIT, MAP_BYTES = GUARD_MAP_LENGTH, ADDRESS = GUARD_ADDRESS_LENGTH
 };
 enum { ANSWER = GUARD_ANSWER_LENGTH, REQUEST = GUARD_REQUEST_LENGTH, IMAGE = GUARD_IMAGE_LENGTH };
 enum { DONE = GUARD_DONE, ASK = GUARD_ASK, REFUSED = GUARD_REFUSED, STOPPED = GUARD_STOPPED };
@@ -34,16 +35,19 @@ struct open_file {
 struct pending {
     /* number: mode or rights; length: of a new node's name; digests: how many are staged */
     uint8_t call, number, length, digests;
-    uint16_t node, opened;
-    uint32_t position, end, page, bytes; /* bytes: how many a read has gathered */
+    uint16_t node, opened; /* node: of an unmap the map's place */
+    uint32_t position, end, page, bytes; /* bytes: how many a read has gathered, or a map will have */
 };
 
+struct map { uint64_t address; uint32_t length; };
+
 struct plain_guard {
-    uint32_t nodes, opens, pages;
+    uint32_t nodes, opens, pages, maps;
     uint8_t running; /* 0: stopped, as a guard of zeros is */
     struct pending pending;
     struct node node[NODES];
     struct open_file open[OPEN_FILES];
+    struct map map[MAPS];
     uint8_t digest[PAGES][DIGEST];
     uint8_t data[DATA];               /* a read's bytes, a write's, a new node's name */
     uint8_t staged[DATA / PAGE + 1][DIGEST]; /* of the pages that a change has sent */

@@ -54,6 +54,9 @@ guard_outcome client_chmod(client *c, const char *path, uint8_t mode) { return s
 guard_outcome client_readdir(client *c, const char *path) { return submit(c, guard_readdir_call(c->call, ROOM, path)); }
 guard_outcome client_stat(client *c, const char *path) { return submit(c, guard_stat_call(c->call, ROOM, path)); }
 
+guard_outcome client_map(client *c, size_t length) { return submit(c, guard_map_call(c->call, ROOM, length)); }
+guard_outcome client_unmap(client *c, uint64_t address) { return submit(c, guard_unmap_call(c->call, ROOM, address)); }
+
 guard_outcome client_write(client *c, uint32_t handle, const void *bytes, size_t length)
 {
     return submit(c, guard_write_call(c->call, ROOM, handle, bytes, length));

@@ -46,5 +46,7 @@ guard_outcome client_rmdir(client *c, const char *path);
 guard_outcome client_chmod(client *c, const char *path, uint8_t mode);
 guard_outcome client_readdir(client *c, const char *path);
 guard_outcome client_stat(client *c, const char *path);
+guard_outcome client_map(client *c, size_t length); /* done with the address */
+guard_outcome client_unmap(client *c, uint64_t address);
 
 #endif

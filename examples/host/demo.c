@@ -25,10 +25,22 @@ typedef struct {
     host *host;
     char asked[128]; /* what the guard has asked for since the last line */
     int same;        /* the host gives out descriptor 0 whatever is asked */
+    uint64_t lent;   /* where the host's next map is to be, whatever lies there; 0: where there is room */
     int wrong;
 } stage;
 
 /* ---- in words */
+
+/* The memory at an address, which is this process's own: host and client are one here. */
+static uint8_t *memory_at(uint64_t address) { return (uint8_t *)(uintptr_t)address; }
+
+/* A host that lends memory a second time: as it is, and where it may be lent already. */
+static size_t lend_again(stage *s, const guard_request *r, uint8_t *reply)
+{
+    if (r->kind == GUARD_UNMAP) /* nothing is done */
+        return guard_status_reply(reply, HOST_REPLY_LENGTH, 0);
+    return guard_map_reply(reply, HOST_REPLY_LENGTH, s->lent, memory_at(s->lent), r->length);
+}
 
 /* Listens between guard and host. */
 static size_t ask(void *to, const uint8_t *request, size_t length, uint8_t reply[HOST_REPLY_LENGTH])
@@ -40,6 +52,8 @@ static size_t ask(void *to, const uint8_t *request, size_t length, uint8_t reply
     int paged = r.kind == GUARD_FETCH || r.kind == GUARD_STORE;
     snprintf(s->asked + n, sizeof s->asked - n, paged ? "%s%s %d" : "%s%s", n ? " " : "", guard_request_name(r.kind),
         (int)r.page);
+    if (s->lent && (r.kind == GUARD_MAP || r.kind == GUARD_UNMAP))
+        return lend_again(s, &r, reply);
     n = host_reply(s->host, request, length, reply);
     if (s->same && r.kind == GUARD_OPEN)
         memset(reply, 0, n);
@@ -63,7 +77,7 @@ static const char *digits(const uint8_t *bytes, size_t length)
 static void row(stage *s, guard_outcome o, int kind, uint64_t number, const char *words)
 {
     printf("  %-33s  %-*s", words, 2 * SHOWN, digits(s->client.call, s->client.call_length));
-    printf("  %-31s  %s %u", s->asked[0] ? s->asked : "-", guard_outcome_name(o.kind), (unsigned)o.number);
+    printf("  %-31s  %s %llu", s->asked[0] ? s->asked : "-", guard_outcome_name(o.kind), (unsigned long long)o.number);
     if (o.kind != GUARD_DONE)
         printf(": %s", o.kind == GUARD_STOPPED ? guard_stop_text(o.number) : guard_number_text(o.number));
     if (o.kind != kind || o.number != number) {
@@ -250,12 +264,38 @@ static void files_swapped(stage *s)
     disk_swap(LOG, NOTE);
 }
 
+/* Memory of 8,192 bytes for the client's own work; its address is the host's choice. */
+static uint64_t map_memory(stage *s)
+{
+    guard_outcome o = client_map(&s->client, 8192);
+    row(s, o, GUARD_DONE, o.number, "map 8,192 bytes: their address");
+    return o.number;
+}
+
+static void map_overlaps(stage *s)
+{
+    start(s);
+    s->lent = map_memory(s) + GUARD_MAP_UNIT;
+    row(s, client_map(&s->client, 4096), GUARD_STOPPED, GUARD_STOP_MAP, "map 4,096 bytes");
+}
+
+static void map_is_dirty(stage *s)
+{
+    start(s);
+    uint64_t at = map_memory(s);
+    strcpy((char *)memory_at(at) + 5000, "eleven casks, three of them empty");
+    s->lent = at;
+    row(s, client_unmap(&s->client, at), GUARD_DONE, 0, "unmap");
+    row(s, client_map(&s->client, 8192), GUARD_STOPPED, GUARD_STOP_MAP, "map 8,192 bytes");
+}
+
 static void old_image(stage *s) { load(s, OLD_IMAGE, GUARD_REFUSED, GUARD_WRONG_DIGEST); }
 
 static void untouched(stage *s)
 {
     start(s);
     read_log(s, GUARD_DONE, 2500);
+    row(s, client_unmap(&s->client, map_memory(s)), GUARD_DONE, 0, "unmap");
 }
 
 /* ---- lives: each a process of its own, so that nothing goes on but what lies in files */
@@ -269,6 +309,8 @@ static const struct { const char *title; void (*act)(stage *); } lives[] = {
     {"Someone takes the note out of the directory.", file_hidden},
     {"The host gives one descriptor to two files.", same_descriptor},
     {"Someone swaps log and note on the disk.", files_swapped},
+    {"The host lends memory within memory that it has lent already.", map_overlaps},
+    {"The host lends memory again as the client has left it, what it wrote there included.", map_is_dirty},
     {"The host hands out the image of the save before the last.", old_image},
     {"Nobody does anything.", untouched},
 };
@@ -315,6 +357,6 @@ int main(void)
     if (chdir("/"))
         perror("/");
     disk_clear(place);
-    puts(wrong ? "\nNot everything came back as told." : "\nEach of the six was caught; what nobody touched is served.");
+    puts(wrong ? "\nNot everything came back as told." : "\nEach of the eight was caught; what nobody touched is served.");
     return wrong;
 }

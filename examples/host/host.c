@@ -7,15 +7,19 @@
 #include <stdio.h>
 #include <stdlib.h>
 #include <string.h>
+#include <sys/mman.h>
 #include <sys/stat.h>
 #include <unistd.h>
 
 #include "table.h"
 #include "whole.h"
 
+typedef struct { void *at; size_t length; } map; /* null: none */
+
 struct host {
     int tree;                     /* the directory */
     int files[GUARD_DESCRIPTORS]; /* this machine's file descriptor behind each of ours, or -1 */
+    map maps[GUARD_MAPS];
     table table;
 };
 
@@ -232,6 +236,54 @@ static size_t cut(host *h, const request *r, uint8_t *reply)
     return whole_cut(file_of(h, r), r->size) ? failed(reply) : status_reply(reply, 0);
 }
 
+/* ---- maps: memory of this process, which the machine hands out in zeros */
+
+/* The map that begins there, or, at 0, where there is room for one. */
+static map *find_map(host *h, uint64_t address)
+{
+    for (map *m = h->maps; m < h->maps + GUARD_MAPS; m++)
+        if ((uintptr_t)m->at == address)
+            return m;
+    return NULL;
+}
+
+static void *new_memory(size_t length)
+{
+    void *at;
+    int tries = 0;
+    do
+        at = mmap(NULL, length, PROT_READ | PROT_WRITE, MAP_PRIVATE | MAP_ANONYMOUS, -1, 0);
+    while (at == MAP_FAILED && whole_again(&tries));
+    return at;
+}
+
+static size_t make_map(host *h, const request *r, uint8_t *reply)
+{
+    map *m = find_map(h, 0);
+    if (!m)
+        return status_reply(reply, -ENOMEM);
+    void *at = new_memory(r->length);
+    if (at == MAP_FAILED)
+        return failed(reply);
+    *m = (map){at, r->length};
+    return guard_map_reply(reply, HOST_REPLY_LENGTH, (uintptr_t)at, at, r->length);
+}
+
+static int end_map(map *m)
+{
+    int status = m->at ? munmap(m->at, m->length) : 0;
+    *m = (map){NULL, 0};
+    return status;
+}
+
+static size_t remove_map(host *h, const request *r, uint8_t *reply)
+{
+    map *m = find_map(h, r->address);
+    if (!m)
+        return status_reply(reply, -EINVAL);
+    return end_map(m) ? failed(reply) : status_reply(reply, 0);
+}
+
 /* ---- requests */
 
 size_t host_reply(host *h, const uint8_t *bytes, size_t length, uint8_t reply[HOST_REPLY_LENGTH])
@@ -255,6 +307,8 @@ size_t host_reply(host *h, const uint8_t *bytes, size_t length, uint8_t reply[HO
     case GUARD_RMDIR: return removed(h, &r, AT_REMOVEDIR, reply);
     case GUARD_CHMOD: return change_mode(h, &r, reply);
     case GUARD_READDIR: return list(h, &r, reply);
+    case GUARD_MAP: return make_map(h, &r, reply);
+    case GUARD_UNMAP: return remove_map(h, &r, reply);
     default: return stat_node(h, &r, reply);
     }
 }
@@ -313,6 +367,7 @@ host *host_open(const char *tree, const char *table_file)
         return NULL;
     for (int d = 0; d < GUARD_DESCRIPTORS; d++)
         h->files[d] = -1;
+    memset(h->maps, 0, sizeof h->maps);
     h->tree = mkdir(tree, 0700) && errno != EEXIST ? -1 : whole_open(AT_FDCWD, tree, O_RDONLY | O_DIRECTORY);
     if (h->tree < 0 || take_table(h, table_file)) {
         whole_leave(h->tree);
@@ -327,6 +382,8 @@ void host_close(host *h)
     for (int d = 0; d < GUARD_DESCRIPTORS; d++)
         if (h->files[d] >= 0)
             close(h->files[d]);
+    for (map *m = h->maps; m < h->maps + GUARD_MAPS; m++)
+        end_map(m);
     close(h->tree);
     free(h);
 }

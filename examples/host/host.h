@@ -3,9 +3,9 @@
  *
  * The disk holds names, kinds, sizes and bytes, as ordinary files that anyone may read. Ids and modes stand in a
  * table of the host's own (table.h), in a file beside the directory: files are opened for reading and writing
- * whatever their mode, since the guard is the one who judges rights. A host that was killed and is started again
- * replies what the disk says. What an honest host never meets, a full disk or a file that is gone, is replied as what
- * it is: the guard stops. */
+ * whatever their mode, since the guard is the one who judges rights. Maps are memory of the host's process and end
+ * with it. A host that was killed and is started again replies what the disk says. What an honest host never meets, a
+ * full disk or a file that is gone, is replied as what it is: the guard stops. */
 #ifndef HOST_H
 #define HOST_H
 

@@ -27,11 +27,10 @@ static int get(uint8_t *to, size_t length)
     return n == length;
 }
 
-static size_t length_at(const uint8_t *p) { return p[0] | (size_t)p[1] << 8 | (size_t)p[2] << 16 | (size_t)p[3] << 24; }
-
 static void answer(size_t length)
 {
-    uint8_t head[4] = {(uint8_t)length, (uint8_t)(length >> 8), 0, 0};
+    uint8_t head[4];
+    guard_put_number(head, length, sizeof head);
     size_t put = fwrite(head, 1, 4, stdout) + fwrite(reply, 1, length, stdout);
     need(put == 4 + length && !fflush(stdout), "standard output");
 }
@@ -57,7 +56,7 @@ int main(int count, char **words)
     }
     copies_begin(&kept, words[1]);
     while (get(head, sizeof head)) {
-        size_t length = length_at(head);
+        size_t length = guard_get_number(head);
         need(length > 0 && length <= sizeof frame && get(frame, length), "a frame of another length");
         need(kept.host || frame[0] == START, "a frame before the first start");
         answer(obey(length));

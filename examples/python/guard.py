@@ -12,7 +12,7 @@ A refusal is an OSError with the guard's number, a wrong reply of the host a Sto
 import ctypes
 import os
 
-MEMORY, ANSWER, REQUEST, IMAGE, DIGEST = 52672, 9690, 1037, 44776, 32
+MEMORY, ANSWER, REQUEST, IMAGE, DIGEST = 52864, 9690, 1037, 44776, 32
 DONE, ASK, REFUSED, STOPPED = range(4)
 READ, WRITE = 1, 2
 
@@ -144,3 +144,6 @@ class Files:
         """Id, kind, mode and size."""
         data = self.by_path(13, path)[1]
         return int.from_bytes(data[:4], "little"), data[4], data[5], int.from_bytes(data[6:], "little")
+
+    def map(self, length): return self.do(b"\x0e" + four(length))[0]
+    def unmap(self, address): self.do(b"\x0f" + address.to_bytes(8, "little"))

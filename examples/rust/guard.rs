@@ -10,7 +10,7 @@ use std::fmt;
 
 pub const READ: u8 = 1;
 pub const WRITE: u8 = 2;
-const MEMORY: usize = 52672;
+const MEMORY: usize = 52864;
 const ANSWER: usize = 9690;
 const REQUEST: usize = 1037;
 const IMAGE: usize = 44776;
@@ -131,9 +131,7 @@ impl<A: FnMut(&[u8]) -> Vec<u8>> Files<A> {
     pub fn open(&mut self, path: &str, rights: u8) -> Or<u32> { Ok(self.by_path(&[3, rights], path)?.0 as u32) }
     pub fn close(&mut self, handle: u32) -> Or<()> { self.by_handle(4, handle, &[]).map(|_| ()) }
     pub fn seek(&mut self, handle: u32, at: u64) -> Or<u64> { Ok(self.by_handle(5, handle, &at.to_le_bytes())?.0) }
-    pub fn read(&mut self, handle: u32, count: u32) -> Or<Vec<u8>> {
-        Ok(self.by_handle(6, handle, &count.to_le_bytes())?.1)
-    }
+    pub fn read(&mut self, handle: u32, n: u32) -> Or<Vec<u8>> { Ok(self.by_handle(6, handle, &n.to_le_bytes())?.1) }
     pub fn write(&mut self, handle: u32, bytes: &[u8]) -> Or<u64> { Ok(self.by_handle(7, handle, bytes)?.0) }
     pub fn truncate(&mut self, handle: u32, size: u64) -> Or<()> {
         self.by_handle(8, handle, &size.to_le_bytes()).map(|_| ())
@@ -145,4 +143,6 @@ impl<A: FnMut(&[u8]) -> Vec<u8>> Files<A> {
     pub fn readdir(&mut self, path: &str) -> Or<Vec<u8>> { Ok(self.by_path(&[12], path)?.1) }
     /// Id (4), kind (1), mode (1), size (4).
     pub fn stat(&mut self, path: &str) -> Or<Vec<u8>> { Ok(self.by_path(&[13], path)?.1) }
+    pub fn map(&mut self, n: u32) -> Or<u64> { Ok(self.call(&[&[14], &n.to_le_bytes()[..]].concat())?.0) }
+    pub fn unmap(&mut self, at: u64) -> Or<()> { self.call(&[&[15], &at.to_le_bytes()[..]].concat()).map(|_| ()) }
 }

@@ -3,8 +3,11 @@
     python3 -m attacks      from tests/, with examples/python on the path
 """
 
+from itertools import groupby
+
 from model import calls
 from model.lies import LyingHost
+from model.rules import UNIT
 from model.script import Unrandom
 
 from guard import ASK, STOPPED, Guard
@@ -18,9 +21,9 @@ Written by `tests/attacks`, which runs each row against the archive; the gate lo
 
 Sources: 000 BesFS, 001 GateKeeper, 002 BFS, 003 BesFS (slides), 004 SecureFS, with the section; 01 the requirements;
 own. A host here **does or does not do what it is asked, and then replies as right as it can**. Stop 1 is a wrong
-length, 2 a status, 3 an id, 4 a descriptor, 5 a page, 6 a stat, 7 a listing. *At once*: at the reply to the request at
-which the host was dishonest. *Later*: at a request after it; what the host did meanwhile is not served. With an honest
-host in its place, no row stops.
+length, 2 a status, 3 an id, 4 a descriptor, 5 a page, 6 a stat, 7 a listing, 8 a map. *At once*: at the reply to the
+request at which the host was dishonest. *Later*: at a request after it; what the host did meanwhile is not served. With
+an honest host in its place, no row stops.
 
 Before: `/a` (2,500 bytes) and `/b` (2,048) are open, `/d` holds `/d/c`.
 """
@@ -28,7 +31,7 @@ Before: `/a` (2,500 bytes) and `/b` (2,048) are open, `/d` holds `/d/c`.
 EVERY = [  # the requests that the setup has not
     calls.read(A, 2500), calls.truncate(A, 1000), calls.truncate(A, 3000), calls.read(A, 3000), calls.chmod(5, b"/a"),
     calls.stat(b"/a"), calls.readdir(b"/"), calls.readdir(b"/d"), calls.stat(b"/d"), calls.close(A),
-    calls.remove(b"/d/c"), calls.rmdir(b"/d"),
+    calls.remove(b"/d/c"), calls.rmdir(b"/d"), calls.map_(2 * UNIT), calls.map_(UNIT), calls.unmap(UNIT),
 ]
 
 
@@ -77,7 +80,9 @@ def table(titles, rows):
 
 
 def client_words(some):
-    return "; ".join(words_of(call) for call in some)
+    """The calls; one that comes many times over is told once."""
+    runs = [(words, len(list(run))) for words, run in groupby(map(words_of, some))]
+    return "; ".join(f"{words}, {times} times" if times > 2 else "; ".join([words] * times) for words, times in runs)
 
 
 def document():

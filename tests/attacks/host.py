@@ -19,6 +19,7 @@ class Dishonest(Host):
         self.is_armed = False
         self.asked = 0
         self.first = None  # the number of the request at which it was dishonest first
+        self.is_used = False  # memory was lent before
         self.old = {}  # pages that were overwritten, the first of each; those that were cut off
 
     def reply(self, request):

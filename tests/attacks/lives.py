@@ -29,7 +29,7 @@ def change(run, data=b"newer"):
 
 def started(run, image, digest):
     """A fresh guard in the place of the old one: the number of the refusal, or 0."""
-    run.guard, run.host.open_files, run.outcomes = Guard(), {}, []
+    run.guard, run.host.open_files, run.host.maps, run.outcomes = Guard(), {}, {}, []
     try:
         run.guard.load(image, digest)
     except OSError as error:
@@ -94,6 +94,15 @@ def lost_store_and_a_save():
     saved = change(run).guard.save()
     started(run, *saved)
     return f"load done, {told(run, READ_A)}"
+
+
+def map_over_a_load():
+    """A map lives on over a save and a load; the host has forgotten it."""
+    run = at_rest()
+    run.calls([calls.map_(8192)])
+    run.guard.load(*run.guard.save())
+    run.host.maps = {}
+    return f"load done, {told(run, [calls.map_(4096)])}"
 
 
 def power_lost():
@@ -200,6 +209,8 @@ ROWS = [  # source, what the host does, the run, what must come, what a builder 
     ("004, 5.11 (the machine is stopped)",
      "goes on after a save and is switched off; the client starts from that save", power_lost,
      "load done, done 2048 at read /b, 2,048 bytes, stop 5 at read /a, 2,500 bytes", ""),
+    ("own", "forgets a map over a save and a load, and lends its memory again", map_over_a_load,
+     "load done, stop 8 at map 4,096 bytes", ""),
     ("004, 3.2 (forking)", "lets two clients work over one tree", two_guards,
      "the other's write is done; the first: stop 5 at read /a, 2,500 bytes", ""),
     ("004, 3.2 (forking)", "gives each of two clients a tree of its own", two_guards_and_two_trees,

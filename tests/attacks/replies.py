@@ -1,12 +1,12 @@
 """Rows about what a host does while a guard runs. A deviation gets the host, the request's name and its fields."""
 
 from model import calls
-from model.rules import PAGE, put, unsigned
+from model.rules import ADDRESS, MAX_MAP, MAX_MAPS, PAGE, SPACE, UNIT, put, unsigned
 
 from .host import FAILED, status
 from .trial import A, B, C, NEW, Row
 
-NUMBERS = {"ENOENT": -2, "EINTR": -4, "EIO": -5, "EEXIST": -17, "EINVAL": -22, "ENOSPC": -28}
+NUMBERS = {"ENOENT": -2, "EINTR": -4, "EIO": -5, "EEXIST": -17, "EINVAL": -22, "ENOSPC": -28, "ENOMEM": -12}
 
 
 # ---- deviations
@@ -136,6 +136,47 @@ def twice_and_missing(listing):
     return listing[:7] * 3  # /a, /b and /d have entries of seven bytes
 
 
+def lends(address, memory=bytes):
+    """A map at another address, `address(host, length)`, with what `memory(length)` has."""
+    return on("map", lambda host, fields: put(address(host, unsigned(fields)), ADDRESS) + memory(unsigned(fields)))
+
+
+def lends_second(shift):
+    """A second map that begins so many units from the first."""
+    def act(host, fields):
+        if not host.maps:
+            return None
+        return put(next(iter(host.maps)) + shift * UNIT, ADDRESS) + bytes(unsigned(fields))
+    return on("map", act)
+
+
+def lends_below(host, fields):
+    """Where the first of two has ended, memory up to within the second."""
+    return put(UNIT, ADDRESS) + bytes(unsigned(fields)) if list(host.maps) == [2 * UNIT] else None
+
+
+def free(host, length):
+    return host.new_address(length)
+
+
+def dirty(at):
+    """Memory with a byte that is not zero, counted from the end where it is below 0."""
+    return lambda length: bytes(at % length) + b"x" + bytes(length - at % length - 1)
+
+
+def left_there(host, fields):
+    """The second time as the client may have left it."""
+    if host.is_used:
+        return host.map(fields)[:ADDRESS] + b"left".ljust(unsigned(fields), b"\0")
+    host.is_used = True
+
+
+def unmaps_other(host, fields):
+    """The other of two maps ends."""
+    del host.maps[next(address for address in host.maps if address != unsigned(fields))]
+    return status(0)
+
+
 # ---- the client's calls
 
 READ_A = [calls.seek(A, 0), calls.read(A, 2500)]
@@ -145,6 +186,8 @@ STAT_D = [calls.stat(b"/d")]
 REOPEN = [calls.close(A), calls.open_(3, b"/a")]
 
 CONTENT = "000, 3 and 3.3 (A1, SP5)"
+MAPS, DIRTY = "000, 2.3 (mmap, glibc), TP14", "000, 2.3 (mmap, glibc), TP15"
+MAP, MAP_TWICE = [calls.map_(2 * UNIT)], [calls.map_(2 * UNIT), calls.map_(2 * UNIT)]
 PATH, DESCRIPTOR = "000, 3.3 (A2a, SP1)", "000, 3.3 (A2b, SP2, SP3)"
 SIZE, ERRORS = "000, 3.3 (A3)", "000, 2.3 and 3.3 (A4)"
 
@@ -286,10 +329,44 @@ ROWS = [
           ("fetch", "EINTR", ("read", READ_A), "now 1"),
           ("stat", "ENOENT", ("stat", [calls.stat(b"/a")]), "now 1"),
           ("readdir", "ENOENT", ("readdir", [calls.readdir(b"/d")]), "now 7"),
+          ("map", "ENOMEM", ("map", MAP), "now 1"),
+          ("unmap", "EINVAL", ("unmap", [*MAP, calls.unmap(UNIT)]), "now 2"),
       )),
     Row(ERRORS, "replies to a create with an error number: as good an id as any other, and the host is bound to it",
         [calls.create(7, b"/n"), calls.stat(b"/n")], says("create", status(NUMBERS["EEXIST"])), "later 6",
             is_free=True),
+    # maps
+    Row(MAPS, "lends memory at address 0", MAP, lends(lambda host, length: 0), "now 8"),
+    Row(MAPS, "lends memory that begins within a page of the machine", MAP,
+        lends(lambda host, length: free(host, length) + 512), "now 8"),
+    Row(MAPS, "lends memory whose last page is beyond the end of the space", MAP,
+        lends(lambda host, length: SPACE - length + UNIT), "now 8"),
+    Row("own: the last byte that there is", "lends memory that ends with the space", MAP,
+        lends(lambda host, length: SPACE - length), "harmless", is_free=True),
+    Row(MAPS, "lends the same memory twice", MAP_TWICE, lends_second(0), "now 8"),
+    Row(MAPS, "lends memory whose first page is lent already", MAP_TWICE, lends_second(1), "now 8"),
+    Row(MAPS, "lends memory whose last page is lent already",
+        [calls.map_(UNIT), *MAP, calls.unmap(UNIT), *MAP], on("map", lends_below), "now 8"),
+    Row(MAPS, "lends memory within memory that is lent already", [calls.map_(4 * UNIT), calls.map_(UNIT)],
+        lends_second(2), "now 8"),
+    Row("own: touching is no overlap", "lends memory that begins where the other ends", MAP_TWICE, lends_second(2),
+        "harmless", is_free=True),
+    Row(DIRTY, "lends memory whose first byte is not zero", MAP, lends(free, dirty(0)), "now 8"),
+    Row(DIRTY, "lends memory whose last byte is not zero", MAP, lends(free, dirty(-1)), "now 8"),
+    Row(DIRTY, "lends memory again with what was left in it", [*MAP, calls.unmap(UNIT), *MAP], on("map", left_there),
+        "now 8", is_repeated=True),
+    Row(MAPS, "takes back another map than the one that is named, and lends its memory again",
+        [*MAP_TWICE, calls.unmap(UNIT), *MAP], on("unmap", unmaps_other), "later 8"),
+    Row("own", "takes nothing back, and says that it did", [*MAP, calls.unmap(UNIT), *MAP],
+        only_says("unmap", status(0)), "harmless", is_free=True),
+    Row(f"{SIZE}; 000, 7.2 (example 3: overflow)", "lends fewer bytes than were asked for", MAP,
+        on("map", lambda host, fields: host.map(fields)[:-UNIT]), "now 1"),
+    Row(SIZE, "gives an address alone", MAP, on("map", lambda host, fields: host.map(fields)[:ADDRESS]), "now 1"),
+    Row(SIZE, "would lend more than may be asked for", [calls.map_(MAX_MAP + UNIT)], lends(free), "refused 22"),
+    Row("own", "would lend memory beside sixteen maps", [calls.map_(UNIT)] * (MAX_MAPS + 1),
+        lambda host, name, fields: None, "refused 12"),
+    Row(MAPS, "would take back a part of a map", [*MAP, calls.unmap(2 * UNIT)], only_says("unmap", status(0)),
+        "refused 22"),
     # order
     Row("002, III (reorder)", "gives the reply to the request before", [calls.stat(b"/d"), *READ_A],
         on("fetch", lambda host, fields: host.stat(b"/d")), "now 1"),

@@ -16,7 +16,7 @@ class Lying:
 
     def __call__(self, request):
         reply = self.host.request(request)
-        return bytes([reply[0] ^ 1]) + reply[1:] if self.lies and request[0] == 6 else reply
+        return reply[:-1] + bytes([reply[-1] ^ 1]) if self.lies and request[0] in (6, 14) else reply
 
 
 def show(name, act, words=lambda given: [given] if given is not None else []):
@@ -27,6 +27,9 @@ def show(name, act, words=lambda given: [given] if given is not None else []):
         print("refused", error.errno)
     except Stopped as stop:
         print("stopped", stop.reason, stop.request.hex())
+
+
+TOP = 1 << 64  # the host's maps go down from there
 
 
 def sums(data):
@@ -52,6 +55,11 @@ def first_life(files):
     show("save", lambda: files.guard.save())
     show("chmod", lambda: files.chmod("/d/a", 4))
     show("close", lambda: files.close(3))
+    show("map", lambda: files.map(65536))
+    show("map", lambda: files.map(4096))
+    show("map", lambda: files.map(4097))
+    show("unmap", lambda: files.unmap(TOP - 65536))
+    show("unmap", lambda: files.unmap(TOP - 65536))
     saved = []
     show("save", lambda: saved.append(files.guard.save()) or len(saved[0][0]))
     return saved[0]
@@ -76,10 +84,16 @@ def second_life(files, lying, image, digest):
     show("stat", lambda: files.stat("/"))
 
 
+def third_life(files):
+    """The host lies on."""
+    show("map", lambda: files.map(8192))
+
+
 def main():
     lying = Lying()
     image, digest = first_life(Files(lying))
     second_life(Files(lying), lying, image, digest)
+    third_life(Files(lying))
     if (version(), text("stop", 5).split(":")[0]) != (sys.argv[1], "page"):
         print("another version, or other words")
 

@@ -22,6 +22,8 @@ fn sums(bytes: Vec<u8>) -> String { format!("{} {}", bytes.len(), bytes.iter().m
 fn listing(bytes: Vec<u8>) -> String { if bytes.is_empty() { "-".to_string() } else { hex(&bytes) } }
 fn stat(s: Vec<u8>) -> String { format!("{} {} {}", hex(&s[..5]), s[5], u32::from_le_bytes([s[6], s[7], s[8], s[9]])) }
 
+const TOP: u64 = u64::MAX; // the host's maps go down from there
+
 fn first_life<A: FnMut(&[u8]) -> Vec<u8>>(f: &mut Files<A>) -> (Vec<u8>, [u8; 32]) {
     show("mkdir", f.mkdir("/d", 7), number);
     show("create", f.create("/d/a", 6), number);
@@ -36,6 +38,11 @@ fn first_life<A: FnMut(&[u8]) -> Vec<u8>>(f: &mut Files<A>) -> (Vec<u8>, [u8; 32
     show("save", f.guard.save(), |_| String::new());
     show("chmod", f.chmod("/d/a", 4), nothing);
     show("close", f.close(3), nothing);
+    show("map", f.map(65536), number);
+    show("map", f.map(4096), number);
+    show("map", f.map(4097), number);
+    show("unmap", f.unmap(TOP - 65535), nothing);
+    show("unmap", f.unmap(TOP - 65535), nothing);
     let saved = f.guard.save().unwrap();
     println!("save {}", saved.0.len());
     saved
@@ -77,13 +84,15 @@ fn main() {
     let lies = Cell::new(false);
     let ask = |request: &[u8]| {
         let mut reply = frame(&[&[1], request].concat());
-        if lies.get() && request[0] == 6 { reply[0] ^= 1; }
+        if lies.get() && (request[0] == 6 || request[0] == 14) { *reply.last_mut().unwrap() ^= 1; }
         reply
     };
     let mut files = Files::new(ask);
     let (image, digest) = first_life(&mut files);
     files.guard = Guard::fresh();
     second_life(&mut files, &lies, &image, &digest);
+    files.guard = Guard::fresh();
+    show("map", files.map(8192), number); // the host lies on
     drop(files);
     drop(frame);
     drop(to);

@@ -25,12 +25,12 @@ ENDS = "low", "high"
 # the numbers that each event may be refused with, in their order, and the stop reasons (SPECIFICATION 7, 5.10)
 EVENTS = Call, Reply, Save, Load
 NUMBERS = {
-    Call: [5, 114, 34, 22, 36, 20, 13, 2, 17, 21, 16, 39, 24, 9, 27, 28],
+    Call: [5, 114, 34, 22, 36, 20, 13, 2, 17, 21, 16, 39, 24, 9, 27, 28, 12],
     Reply: [5, 61, 34],
     Save: [5, 114, 16, 34],
     Load: [5, 114, 16, 74, 84],
 }
-STOPS = range(1, 8)
+STOPS = range(1, 9)
 
 
 def difference(driver, lines):

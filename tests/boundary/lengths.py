@@ -10,15 +10,15 @@ from functools import partial
 from model import calls
 from model.dishonest import QUESTIONS, asked
 from model.events import Call, Load, Refused, Reply
-from model.rules import ANSWER, CREATE, MAX_COUNT, PAGE, READDIR, STAT, WRITE, put
+from model.rules import ADDRESS, ANSWER, CREATE, MAP, MAX_COUNT, MAX_MAP, PAGE, REPLY, UNIT, UNMAP, WRITE, put
 from model.transcripts import write_list
 from model.tree import digest
 
 MANY = range(1101)
-EDGES = [MAX_COUNT + 5, ANSWER, 44_776, 65_536]
+EDGES = [MAX_COUNT + 5, ADDRESS + UNIT, ANSWER, 44_776, 65_536, REPLY]
 LARGE = [edge + near for edge in EDGES for near in (-1, 0, 1)]
 LARGEST = [(1 << 20) + near for near in (-1, 0, 1)]
-KINDS = [*range(STAT + 3), 255]
+KINDS = [*range(UNMAP + 3), 255]
 FILLS = [b"\0", b"\xff"]
 
 
@@ -42,6 +42,12 @@ def open_file(s):
     s.do(calls.seek(s.file(b"/a", b"x" * (2 * PAGE + 5)), PAGE + 1))
 
 
+def some_maps(s):
+    """Of one unit and of two, the first at 4,096."""
+    for length in (UNIT, 2 * UNIT):
+        s.do(calls.map_(length))
+
+
 def pending(s):
     s.expect("ask", calls.stat(b"/"))
 
@@ -59,7 +65,9 @@ def some_calls():
     for kind in range(256):
         for fill in FILLS:
             yield from (filled(bytes([kind]), fill, n) for n in [1, 2, 3, 5, 9, 13, 14, 300, 1100, *LARGE])
-    for kind in range(CREATE, STAT + 1):
+    for kind in (MAP, UNMAP):
+        yield from (filled(bytes([kind]) + put(UNIT, 4), b"\0", n) for n in range(65))
+    for kind in range(CREATE, UNMAP + 1):
         yield from (filled(bytes([kind]) + put(2, 4), b"\0", n) for n in [*MANY, *LARGE])
         for head in (bytes([kind]), bytes([kind, 3])):
             yield from (filled(head, b"/aaa", n) for n in range(300))
@@ -93,6 +101,11 @@ def question_events(question):
     return reply_events(asked(question).truth)
 
 
+def largest_map(s):
+    """Whose right reply is the longest there is."""
+    s.expect("ask", calls.map_(MAX_MAP))
+
+
 # images
 
 def load_events():
@@ -107,14 +120,15 @@ def load_events():
 # lists
 
 STATES = [
-    (fresh, call_events), (open_file, call_events), (pending, few_call_events), (stopped, few_call_events),
+    (fresh, call_events), (open_file, call_events), (some_maps, call_events), (pending, few_call_events),
+    (stopped, few_call_events),
     (fresh, unasked_events), (stopped, unasked_events), (fresh, load_events), (open_file, load_events),
 ]
 
 
 def lists():
     """Each list's name, state and what makes its events."""
-    asking = [(question, partial(question_events, question)) for question in QUESTIONS]
+    asking = [(question, partial(question_events, question)) for question in (*QUESTIONS, largest_map)]
     return [(f"lengths {i}: {state.__name__}", state, events) for i, (state, events) in enumerate(STATES + asking)]
 
 

@@ -7,12 +7,15 @@ from random import Random
 
 from model import calls
 from model.events import Call, Reply, Save
-from model.generate import generate, generate_growing
+from model.generate import generate, generate_growing, generate_mapping
 from model.image import LONGEST
 from model.longer import longer
 from model.rules import ANSWER, REQUEST
 from model.transcripts import event_line
 from model.tree import guard
+
+
+MAKERS = {0: generate_growing, 3: generate_mapping}
 
 
 def pair(seed):
@@ -26,8 +29,10 @@ def pair(seed):
 
 
 def generated(seed):
-    """A list from a seed, with its outcomes, every fifth of growing files; now and then buffers are longer."""
-    recording = generate(seed) if seed % 5 else generate_growing(seed)
+    """A list from a seed, with its outcomes, one of five of growing files, one of maps; now and then buffers are
+    longer.
+    """
+    recording = MAKERS.get(seed % 5, generate)(seed)
     if not recording.guard.stopped:
         settle(recording)
     random = Random(seed)
@@ -38,11 +43,13 @@ def generated(seed):
 
 
 def settle(recording):
-    """The pending call ended, every file closed, all tables saved."""
+    """The pending call ended, every file closed, all tables saved, every map ended."""
     recording.finish() if recording.guard.pending else None
     for handle in list(recording.guard.open_files):
         recording.do(calls.close(handle))
     recording.send(Save(LONGEST))
+    for address in list(recording.guard.maps):
+        recording.do(calls.unmap(address))
 
 
 def lent(event):

@@ -221,6 +221,28 @@ static uint64_t at_handle(int kind, uint64_t handle, uint64_t number, size_t wid
     return call(bytes, 5 + width);
 }
 
+static uint64_t map(uint32_t length)
+{
+    const uint8_t bytes[] = {GUARD_MAP, (uint8_t)length, (uint8_t)(length >> 8), (uint8_t)(length >> 16), 0};
+    return call(bytes, sizeof bytes);
+}
+
+static size_t unmap_call(uint8_t *to, uint64_t address)
+{
+    to[0] = GUARD_UNMAP;
+    for (size_t i = 0; i < GUARD_ADDRESS_LENGTH; i++)
+        to[1 + i] = (uint8_t)(address >> 8 * i);
+    return 1 + GUARD_ADDRESS_LENGTH;
+}
+
+static void unmap(uint64_t address)
+{
+    uint8_t bytes[1 + GUARD_ADDRESS_LENGTH];
+    size_t n = unmap_call(bytes, address);
+    call(bytes, n);
+    expect(record(CALL, bytes, n, NULL), GUARD_REFUSED);
+}
+
 static void run_session(void)
 {
     host_begin();
@@ -243,6 +265,9 @@ static void run_session(void)
     at_path(GUARD_STAT, -1, "/d/a");
     at_path(GUARD_READDIR, -1, "/d");
     at_path(GUARD_CHMOD, 4, "/d/a");
+    uint64_t first = map(GUARD_MAP_UNIT), second = map(2 * GUARD_MAP_UNIT);
+    map(GUARD_MAP_LENGTH);
+    unmap(first);
     at_handle(GUARD_CLOSE, a, 0, 0);
     at_handle(GUARD_CLOSE, b, 0, 0);
     const struct event *saved = record(SAVE, NULL, 0, NULL);
@@ -254,6 +279,7 @@ static void run_session(void)
     host_loaded();
     at_path(GUARD_OPEN, 1, "/d/a");
     at_handle(GUARD_READ, a, 1030, 4);
+    unmap(second);
     expect(record(FRESH, NULL, 0, NULL), GUARD_DONE);
     host_begin();
     at_path(GUARD_CREATE, 7, "/n");
@@ -405,7 +431,7 @@ static void overwrite(void)
 static guard_outcome hand_in_some(size_t next)
 {
     const struct event *e = session + (next < count && below(4) ? next : below(count));
-    uint8_t bytes[GUARD_ANSWER_LENGTH];
+    uint8_t bytes[GUARD_REPLY_LENGTH];
     while (e->letter == FRESH)
         e = session + below(count);
     if (!e->length || below(8))
@@ -476,7 +502,7 @@ static void set_up(int high)
     request = place_for("the request", 1 << 16);
     image = place_for("the image", 1 << 16);
     digest = place_for("the digest", GUARD_DIGEST_LENGTH);
-    input = place_for("the input", 1 << 16);
+    input = place_for("the input", 1 << 17);
     seal = place_for("the digest handed in", GUARD_DIGEST_LENGTH);
 }
 

@@ -7,7 +7,7 @@
 
 enum { UNTOUCHED = 0xee };
 
-static uint8_t to[2 * GUARD_REPLY_LENGTH];
+static uint8_t to[2 * GUARD_ANSWER_LENGTH];
 static size_t room;
 static int checks, wrong;
 
@@ -82,9 +82,28 @@ static void calls_by_handle(void)
     NOTHING(guard_read_call(to, room, 2, SIZE_MAX));
 }
 
+static void calls_of_maps(void)
+{
+    BUILDS("\16\0\20\0\0", guard_map_call(to, room, GUARD_MAP_UNIT));
+    BUILDS("\16\0\60\0\0", guard_map_call(to, room, 12288));
+    BUILDS("\16\0\0\1\0", guard_map_call(to, room, GUARD_MAP_LENGTH));
+    BUILDS("\17\1\2\3\4\5\6\7\10", guard_unmap_call(to, room, UINT64_C(0x0807060504030201)));
+    BUILDS("\17\0\360\377\377\377\377\377\377", guard_unmap_call(to, room, UINT64_MAX - 4095));
+    NOTHING(guard_map_call(to, room, 0));
+    NOTHING(guard_map_call(to, room, 1));
+    NOTHING(guard_map_call(to, room, 4095));
+    NOTHING(guard_map_call(to, room, 4097));
+    NOTHING(guard_map_call(to, room, 5120));
+    NOTHING(guard_map_call(to, room, 65537));
+    NOTHING(guard_map_call(to, room, 69632));
+    NOTHING(guard_map_call(to, room, SIZE_MAX - 4095));
+}
+
 /* The lengths that the requirements give as numbers. */
 static void lengths(void)
 {
+    check(GUARD_REPLY_LENGTH == 65544 && GUARD_MEMORY_LENGTH == 52864, "the longest reply, and the memory");
+    check(GUARD_MAPS == 16 && GUARD_MAP_UNIT == 4096 && GUARD_MAP_LENGTH == 65536, "a map's lengths");
     check(GUARD_ANSWER_LENGTH == 9690 && GUARD_REQUEST_LENGTH == 1037 && GUARD_IMAGE_LENGTH == 44776, "lengths");
     check(GUARD_TRANSFER_LENGTH == 4096 && GUARD_FILE_LENGTH == 65536 && GUARD_FILE_PAGES == 64, "a file's lengths");
 }
@@ -174,6 +193,20 @@ static void replies(void)
     BUILDS_N(page, GUARD_PAGE_LENGTH, guard_page_reply(to, room, NULL, 0));
 }
 
+static void map_replies(void)
+{
+    static uint8_t longest[GUARD_REPLY_LENGTH], bytes[GUARD_MAP_LENGTH + 1];
+    BUILDS("\0\60\0\0\1\0\0\200hello", guard_map_reply(to, room, UINT64_C(0x8000000100003000), "hello", 5));
+    BUILDS("\0\20\0\0\0\0\0\0", guard_map_reply(to, room, 4096, NULL, 0));
+    NOTHING(guard_map_reply(to, room, 4096, bytes, GUARD_MAP_LENGTH + 1));
+    NOTHING(guard_map_reply(to, room, 4096, bytes, SIZE_MAX));
+    memset(longest, UNTOUCHED, sizeof longest);
+    check(guard_map_reply(longest, sizeof longest - 1, 0, bytes, GUARD_MAP_LENGTH) == 0 && longest[0] == UNTOUCHED,
+        "the longest map, and a byte too few");
+    check(guard_map_reply(longest, sizeof longest, 0, bytes, GUARD_MAP_LENGTH) == GUARD_REPLY_LENGTH &&
+        longest[GUARD_REPLY_LENGTH - 1] == 0, "the longest map");
+}
+
 /* ---- requests */
 
 static int reads(guard_request *r, const char *bytes,
@@ -203,7 +236,7 @@ static void path_requests(void)
         check(!r.bytes && r.descriptor == 0 && r.page == 0 && r.size == 0, "what there is no field for");
         check(!reads(&r, bare, 1), "a path that is missing");
     }
-    check(!reads(&r, "", 0) && !reads(&r, "\0/", 2) && !reads(&r, "\5\1\0\0\0", 5) && !reads(&r, "\16/", 2),
+    check(!reads(&r, "", 0) && !reads(&r, "\0/", 2) && !reads(&r, "\5\1\0\0\0", 5) && !reads(&r, "\20/", 2),
         "no request");
 }
 
@@ -232,6 +265,21 @@ static void page_requests(void)
     check(!reads(&r, store, GUARD_REQUEST_LENGTH - 1) && !reads(&r, store, GUARD_REQUEST_LENGTH + 1),
         "a store's length");
     check(!reads(&r, store, STORED_AT) && !reads(&r, store, 1), "a store without its page");
+}
+
+static void map_requests(void)
+{
+    guard_request r;
+    room = 0;
+    check(reads(&r, "\16\0\20\0\0", 5) && r.kind == GUARD_MAP && r.length == 4096 && r.address == 0, "map");
+    check(reads(&r, "\16\0\0\1\0", 5) && r.length == GUARD_MAP_LENGTH && r.size == 0 && !r.path, "the longest map");
+    check(!reads(&r, "\16\0\0\0\0", 5) && !reads(&r, "\16\1\20\0\0", 5) && !reads(&r, "\16\0\20\1\0", 5),
+        "lengths that no map has");
+    check(!reads(&r, "\16\0\20\0", 4) && !reads(&r, "\16\0\20\0\0\0", 6) && !reads(&r, "\16", 1), "a map's length");
+    check(reads(&r, "\17\0\60\0\0\1\0\0\200", 9) && r.kind == GUARD_UNMAP, "unmap");
+    check(r.address == UINT64_C(0x8000000100003000) && r.length == 0 && r.descriptor == 0, "an unmap's address");
+    check(!reads(&r, "\17\0\0\0\0\0\0\0\0", 9) && !reads(&r, "\17\1\60\0\0\1\0\0\200", 9), "no map's address");
+    check(!reads(&r, "\17\0\60\0\0\1\0\0", 8) && !reads(&r, "\17\0\60\0\0\1\0\0\200\0", 10), "an unmap's length");
 }
 
 /* Paths, judged by this header and by the guard: stat refuses 22 or 36, or walks and finds nothing (2), or asks. */
@@ -273,16 +321,17 @@ static const struct { unsigned number; const char *word; } numbers[] = {
     {5, "stopped"}, {114, "busy"}, {61, "unasked"}, {34, "short"}, {22, "malformed"}, {36, "long"}, {20, "no folder"},
         {13, "barred"}, {2, "absent"},
     {17, "present"}, {21, "folder"}, {16, "in use"}, {39, "not empty"}, {24, "handles"}, {9, "handle"}, {27, "too big"},
-        {28, "full"}, {74, "seal"},
+        {28, "full"}, {12, "maps"}, {74, "seal"},
     {84, "image"},
 };
-static const char *const reasons[] = {"", "length", "status", "id", "descriptor", "page", "stat", "listing"};
+static const char *const reasons[] = {"", "length", "status", "id", "descriptor", "page", "stat", "listing",
+    "map"};
 static const char *const calls[] = {"no call", "create", "mkdir", "open", "close", "seek", "read", "write", "truncate",
     "remove", "rmdir", "chmod",
-                                    "readdir", "stat", "no call"};
+                                    "readdir", "stat", "map", "unmap", "no call"};
 static const char *const requests[] = {"no request", "create", "mkdir", "open", "close", "no request", "fetch", "store",
     "cut", "remove", "rmdir", "chmod",
-                                       "readdir", "stat", "no request"};
+                                       "readdir", "stat", "map", "unmap", "no request"};
 static const char *const outcomes[] = {"done", "ask", "refused", "stopped", "no outcome"};
 
 static int begins(const char *text, const char *word)
@@ -295,16 +344,16 @@ static void words(void)
 {
     size_t known = 0;
     room = 0;
-    for (size_t i = 0; i < 19; i++)
+    for (size_t i = 0; i < 20; i++)
         check(begins(guard_number_text(numbers[i].number), numbers[i].word), numbers[i].word);
     for (unsigned n = 0; n < 1000; n++)
         known += strcmp(guard_number_text(n), "no number of the guard") != 0;
-    check(known == 19 && sizeof numbers / sizeof *numbers == 19, "19 numbers");
-    for (unsigned n = 1; n <= 7; n++)
+    check(known == 20 && sizeof numbers / sizeof *numbers == 20, "20 numbers");
+    for (unsigned n = 1; n <= 8; n++)
         check(begins(guard_stop_text(n), reasons[n]), reasons[n]);
-    check(!strcmp(guard_stop_text(0), "no reason of the guard") && !strcmp(guard_stop_text(8), guard_stop_text(0)),
-        "seven reasons");
-    for (int n = 0; n <= GUARD_STAT + 1; n++)
+    check(!strcmp(guard_stop_text(0), "no reason of the guard") && !strcmp(guard_stop_text(9), guard_stop_text(0)),
+        "eight reasons");
+    for (int n = 0; n <= GUARD_UNMAP + 1; n++)
         check(!strcmp(guard_call_name(n), calls[n]) && !strcmp(guard_request_name(n), requests[n]), calls[n]);
     for (int n = 0; n <= 4; n++)
         check(!strcmp(guard_outcome_name(n), outcomes[n]), outcomes[n]);
@@ -314,13 +363,16 @@ int main(void)
 {
     calls_by_path();
     calls_by_handle();
+    calls_of_maps();
     lengths();
     longest_call();
     stats();
     listings();
     replies();
+    map_replies();
     path_requests();
     page_requests();
+    map_requests();
     paths();
     words();
     printf("client: %d checks of bytes and words\n", checks);

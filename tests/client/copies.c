@@ -73,6 +73,7 @@ WRAP(load, (uint8_t *m, size_t n, const uint8_t *i, size_t in, const uint8_t *d,
 static uint8_t pages[32][GUARD_FILE_PAGES][GUARD_PAGE_LENGTH];
 static uint32_t next_id, listed;
 static int32_t next_descriptor;
+static uint64_t next_address;
 
 static size_t put_names(void)
 {
@@ -84,6 +85,13 @@ static size_t put_names(void)
         n = guard_dirent_reply(reply, GUARD_REPLY_LENGTH, n, &e);
     }
     return n;
+}
+
+static size_t put_map(size_t length)
+{
+    static const uint8_t zeros[GUARD_MAP_LENGTH];
+    next_address -= GUARD_MAP_LENGTH;
+    return guard_map_reply(reply, GUARD_REPLY_LENGTH, next_address, zeros, length);
 }
 
 static size_t host(void)
@@ -100,6 +108,7 @@ static size_t host(void)
         memcpy(pages[r.descriptor][r.page], r.bytes, GUARD_PAGE_LENGTH);
         return guard_status_reply(reply, GUARD_REPLY_LENGTH, GUARD_PAGE_LENGTH);
     case GUARD_READDIR: return put_names();
+    case GUARD_MAP: return put_map(r.length);
     default: return guard_status_reply(reply, GUARD_REPLY_LENGTH, 0);
     }
 }
@@ -137,6 +146,7 @@ static void start(void)
     guard_client_fresh(&c, &g);
     next_id = 2;
     next_descriptor = 0;
+    next_address = 0; /* the first map ends where the space does */
     listed = 1;
 }
 
@@ -159,11 +169,13 @@ static void run(void)
     check(!memcmp(c.answer, "ttttttttttover the edge of a page.t", 35), "the bytes of a read");
     expect(carry(guard_close_call(call, sizeof call, 2)), GUARD_DONE, 0, "close");
     expect(carry(guard_readdir_call(call, sizeof call, "/")), GUARD_DONE, 1, "readdir");
+    expect(carry(guard_map_call(call, sizeof call, GUARD_MAP_LENGTH)), GUARD_DONE, UINT64_MAX - 65535, "map");
     guard_outcome o = recorded_outcome(guard_client_save(&c, image, GUARD_IMAGE_LENGTH, digest), image);
     expect(o, GUARD_DONE, 4 + 15 + 47 + 4 + 64, "save");
     record(digest, sizeof digest);
     recorded_outcome(guard_client_load(&c, image, o.length, digest, sizeof digest), NULL);
     expect(carry(guard_create_call(call, sizeof call, name, 7)), GUARD_REFUSED, GUARD_PRESENT, "after the load");
+    expect(carry(guard_unmap_call(call, sizeof call, UINT64_MAX - 65535)), GUARD_DONE, 0, "unmap after the load");
     record(g.memory, sizeof g.memory);
 }
 
@@ -276,6 +288,16 @@ static guard_outcome torn_load(int is_armed)
     return guard_client_load(&c, torn, o.length, digest, sizeof digest);
 }
 
+static guard_outcome torn_map(int is_armed)
+{
+    start();
+    guard_client_call(&c, call, guard_map_call(call, sizeof call, 8192), NULL, 0);
+    size_t n = put_map(8192);
+    memcpy(torn, reply, n);
+    arm(is_armed);
+    return guard_client_reply(&c, torn, n, NULL, 0);
+}
+
 /* The same as over a host that keeps still; or caught, where the copy itself met the change. */
 static void tear(guard_outcome (*event)(int), const char *what)
 {
@@ -288,7 +310,7 @@ static void tear(guard_outcome (*event)(int), const char *what)
     memcpy(kept_digest, digest, sizeof digest);
     guard_outcome o = event(1);
     check(!armed && still.kind == GUARD_DONE, "it was changed, and else it is done");
-    if ((o.kind == GUARD_STOPPED && o.number == GUARD_STOP_PAGE) ||
+    if ((o.kind == GUARD_STOPPED && (o.number == GUARD_STOP_PAGE || o.number == GUARD_STOP_MAP)) ||
         (o.kind == GUARD_REFUSED && o.number == GUARD_WRONG_DIGEST))
         return;
     expect(o, still.kind, still.number, what);
@@ -302,6 +324,7 @@ static void tears(void)
     tear(torn_request, "a request changed under the guard");
     tear(torn_save, "an image changed while it was saved");
     tear(torn_load, "an image changed while it was loaded");
+    tear(torn_map, "a map changed under the guard");
 }
 
 /* ---- what is kept of a stop */
@@ -387,11 +410,31 @@ static void longest_listing(void)
     size_t at = 0, n = guard_readdir_call(call, sizeof call, "/");
     unsigned entries = 0;
     expect(carry(n), GUARD_DONE, GUARD_NODES - 1, "the longest listing");
-    while (guard_get_dirent(c.answer, GUARD_REPLY_LENGTH, &at, &e))
+    while (guard_get_dirent(c.answer, GUARD_ANSWER_LENGTH, &at, &e))
         entries += e.id == 2 + entries && e.kind == GUARD_FILE && e.name_length == GUARD_NAME_LENGTH;
-    check(entries == GUARD_NODES - 1 && at == GUARD_REPLY_LENGTH, "its entries");
+    check(entries == GUARD_NODES - 1 && at == GUARD_ANSWER_LENGTH, "its entries");
     guard_client_call(&c, call, n, NULL, 0);
-    expect(replied(GUARD_REPLY_LENGTH + 1), GUARD_STOPPED, GUARD_STOP_LISTING, "one byte more");
+    expect(replied(GUARD_ANSWER_LENGTH + 1), GUARD_STOPPED, GUARD_STOP_LISTING, "one byte more");
+}
+
+/* The longest map from its reply's own 65,544 bytes; one byte less and claims of more; a last byte that is not zero. */
+static void longest_map(void)
+{
+    static const size_t claimed[] = {GUARD_REPLY_LENGTH - 1, GUARD_REPLY_LENGTH + 1, SIZE_MAX};
+    size_t n = guard_map_call(call, sizeof call, GUARD_MAP_LENGTH);
+    for (size_t i = 0; i < sizeof claimed / sizeof *claimed; i++) {
+        start();
+        guard_client_call(&c, call, n, NULL, 0);
+        put_map(GUARD_MAP_LENGTH);
+        expect(replied(claimed[i]), GUARD_STOPPED, GUARD_STOP_LENGTH, "a map of another length");
+    }
+    start();
+    recorded = 0;
+    expect(carry(n), GUARD_DONE, UINT64_MAX - 65535, "the longest map");
+    guard_client_call(&c, call, n, NULL, 0);
+    put_map(GUARD_MAP_LENGTH);
+    reply[GUARD_REPLY_LENGTH - 1] = 1;
+    expect(replied(GUARD_REPLY_LENGTH), GUARD_STOPPED, GUARD_STOP_MAP, "a last byte that is not zero");
 }
 
 static void longest_image(void)
@@ -428,6 +471,7 @@ static void lengths(void)
 {
     short_request();
     claims();
+    longest_map();
     fill();
     longest_image();
     longest_listing();

@@ -23,6 +23,7 @@ from .wire import FRAMES, Broken, Program
 from .words import AFTER_POWER_UP, compared, digits, list_words, paragraphs, quoted, request_words
 
 SHORTENING = 30  # seconds at the most
+SHORT = 20  # a list that is short enough
 SHORT_PATIENCE = 0.2  # while a list is shortened, or ten times what the slowest reply has taken
 
 
@@ -79,17 +80,21 @@ class Trial:
             return Fault(what, [])
 
     def shortest(self, fault):
-        """The shortest list that was found; in one process for all attempts, or, where that shows something else, in
-        one for each. A kill that does not matter is plain power loss."""
+        """The shortest list that was found; in one process for all attempts, or, where that shows something else or is
+        not short, in one for each: a host may carry over what it had. A kill that does not matter is plain power loss.
+        """
+        found = fault
         for in_one in (True, False):
             until = time.monotonic() + SHORTENING
-            things = self.shortened(fault, in_one, until)
+            things = self.shortened(found, in_one, until)
             in_time = time.monotonic() < until
             again, _ = self.in_new_process(redone(things))
-            if again and again.looks() == fault.looks():
+            if again and again.looks() == fault.looks() and (found is fault or len(things) < len(found.things)):
                 again.is_shortest = in_time
-                return again
-        return fault
+                found = again
+            if found is not fault and len(found.things) <= SHORT:
+                break
+        return found
 
     def shortened(self, fault, in_one, until):
         patience = min(self.patience, max(SHORT_PATIENCE, 10 * self.slowest))

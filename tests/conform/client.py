@@ -1,8 +1,8 @@
 """An honest client of a program, with the model's tree beside it: the tree makes the requests and judges each reply.
 
-Ids and descriptors are the program's choice and taken over into the model. What is done is kept as a list of things
-that can be done again, in whole or in part: a call by handle is kept with the file's path, since the next time the
-program may choose another id.
+Ids, descriptors and addresses are the program's choice and taken over into the model. What is done is kept as a list of
+things that can be done again, in whole or in part: a call by handle is kept with the file's path, a map and its unmap
+with a number, since the next time the program may choose another id or address.
 """
 
 import time
@@ -14,7 +14,7 @@ from model.generate import BY_HANDLE, Generator
 from model.host import Entry, Host
 from model.image import LONGEST
 from model.recording import Recording
-from model.rules import CREATE, DIRECTORY, ID, MKDIR, OPEN, put, unsigned
+from model.rules import ADDRESS, CREATE, DIRECTORY, ID, MAP, MKDIR, OPEN, UNMAP, put, unsigned
 from model.script import Unrandom
 from model.tree import tree
 
@@ -26,10 +26,13 @@ POWER_LOSS, WITHIN_REQUEST = "power loss", "killed within a request"
 
 @dataclass(frozen=True)
 class Do:
-    """A call; one by handle has the file's path, and no handle in its bytes."""
+    """A call; one by handle has the file's path, and no handle in its bytes. A map has a number, and its unmap the same
+    and no address.
+    """
 
     call: bytes
     file: bytes = None
+    map: int = None
 
 
 @dataclass(frozen=True)
@@ -50,16 +53,18 @@ class Restart:
 
 
 class Wrong(Exception):
-    """A wrong reply: the request, what came, a right one, the reason of SPECIFICATION 5.10, the tree before it."""
+    """A wrong reply: the request, what came, a right one, the reason of SPECIFICATION 5.10, the tree and the maps
+    before it.
+    """
 
-    def __init__(self, request, reply, right, reason, nodes, open_files):
+    def __init__(self, request, reply, right, reason, nodes, open_files, maps):
         super().__init__(reason)
         self.request, self.reply, self.right, self.reason = request, reply, right, reason
-        self.nodes, self.open_files = nodes, open_files
+        self.nodes, self.open_files, self.maps = nodes, open_files, maps
 
 
 class AlikeHost(Host):
-    """The model's host with the ids and descriptors of the program."""
+    """The model's host with the ids, descriptors and addresses of the program."""
 
     chosen = None
 
@@ -69,6 +74,9 @@ class AlikeHost(Host):
     def new_descriptor(self):
         return super().new_descriptor() if self.chosen is None else self.chosen
 
+    def new_address(self, length):
+        return super().new_address(length) if self.chosen is None else self.chosen
+
 
 class Client(Recording):
     path_of = Generator.path_of
@@ -77,6 +85,7 @@ class Client(Recording):
         super().__init__(Unrandom())
         self.program, self.guard, self.host = program, tree(), AlikeHost(Unrandom())
         self.things, self.saved, self.covered = [], None, Covered()
+        self.made, self.addresses = 0, {}  # maps that were asked for; their addresses by number, since the start
 
     def begin(self):
         """A host that has saved nothing, whatever it had before."""
@@ -93,10 +102,21 @@ class Client(Recording):
         if call[:1] and call[0] in BY_HANDLE and len(call) > ID:
             node = next((node for node in self.guard.nodes if node.id == unsigned(call[1 : 1 + ID])), None)
             return Do(call[:1] + call[1 + ID :], self.path_of(node) if node else b"")
+        if call[:1] == bytes([MAP]):
+            self.made += 1
+            return Do(call, map=self.made)
+        if call[:1] == bytes([UNMAP]):
+            return Do(call[:1], map=self.number_of(unsigned(call[1:])))
         return Do(call)
 
+    def number_of(self, address):
+        """The last map that was there, or 0."""
+        return max((number for number, at in self.addresses.items() if at == address), default=0)
+
     def bytes_of(self, do):
-        """A call as it is now; a file that is not there has the handle 0, which is refused."""
+        """A call as it is now; a file that is not there has the handle 0, which is refused, and a map the address 0."""
+        if do.call[:1] == bytes([UNMAP]):
+            return do.call + put(self.addresses.get(do.map, 0), ADDRESS)
         if do.file is None:
             return do.call
         handle = next((node.id for node in self.guard.nodes if self.path_of(node) == do.file), 0)
@@ -118,6 +138,8 @@ class Client(Recording):
             return outcome
         while isinstance(outcome, Ask):
             outcome = self.judged(outcome.data, self.program.request(outcome.data))
+        if do.call[0] == MAP:
+            self.addresses[do.map] = outcome.number
         self.covered.call(self.guard, call, before)
         return outcome
 
@@ -129,12 +151,13 @@ class Client(Recording):
 
     def judged(self, request, reply):
         """The tree's outcome; a reply that stops it is wrong."""
-        open_files = dict(self.guard.open_files)
+        open_files, maps = dict(self.guard.open_files), dict(self.guard.maps)
         outcome = self.guard.step(Reply(reply))
         if isinstance(outcome, Stopped):
             self.host.chosen = None
-            raise Wrong(request, reply, self.host.reply(request), outcome.reason, self.guard.nodes, open_files)
-        self.host.chosen = unsigned(reply) if request[0] in (CREATE, MKDIR, OPEN) else None
+            right = self.host.reply(request)
+            raise Wrong(request, reply, right, outcome.reason, self.guard.nodes, open_files, maps)
+        self.host.chosen = unsigned(reply[:ADDRESS]) if request[0] in (CREATE, MKDIR, OPEN, MAP) else None
         self.host.reply(request)
         self.covered.request(request)
         return outcome
@@ -152,20 +175,23 @@ class Client(Recording):
         self.saved = self.guard.step(Save(LONGEST))
         self.host.saved(self.saved.digest)
         self.covered.met("restarts", "saves")
+        self.covered.met("maps", "a save with maps", self.guard.maps)
         return self.saved
 
     def restart(self, thing):
         self.covered.met("restarts", thing.how, thing.how != WITHIN_REQUEST)
         if self.saved is None:
             self.covered.met("restarts", "from no save")
+        self.covered.met("maps", "a restart with maps", self.guard.maps)
         RESTARTS[thing.how](self, thing)
 
     def start(self, saved):
-        """The host goes back to a save; the model too. A guard forgets open files."""
+        """The host goes back to a save; the model too. A guard forgets open files and maps."""
         self.program.start(saved.digest if saved else b"")
         self.saved = saved
         self.guard.__init__(self.guard.store)  # still the one that the generator looks at
-        self.host.open_files = {}
+        self.host.open_files, self.host.maps = {}, {}
+        self.addresses = {}
         if saved:
             self.guard.step(Load(saved.data, saved.digest))
             self.host.loaded(saved.digest, None)

@@ -1,5 +1,5 @@
-"""What a run has met: calls, requests, page edges, restarts, limits. A run that passes says so, and says what it has
-not met.
+"""What a run has met: calls, requests, page edges, maps, restarts, limits. A run that passes says so, and says what it
+has not met.
 """
 
 from collections import Counter
@@ -7,8 +7,8 @@ from collections import Counter
 from model import rules
 from model.generate import BY_HANDLE
 from model.rules import (
-    CHMOD, CREATE, ID, MAX_COUNT, MAX_NAME, MAX_NODES, MAX_OPEN, MAX_PAGES, MAX_PATH, MAX_SIZE, MKDIR, OPEN, PAGE, READ,
-    READDIR, TRUNCATE, WRITE, pages_between, unsigned,
+    CHMOD, CREATE, ID, MAP, MAX_COUNT, MAX_MAP, MAX_MAPS, MAX_NAME, MAX_NODES, MAX_OPEN, MAX_PAGES, MAX_PATH, MAX_SIZE,
+    MKDIR, OPEN, PAGE, READ, READDIR, TRUNCATE, UNIT, UNMAP, WRITE, pages_between, unsigned,
 )
 from model.tree import CALLS
 
@@ -25,6 +25,10 @@ WANTED = {
         for place in ("up to an edge", "one byte short of it", "one byte over it", "from an edge", "over several pages")
     ] + ["truncate to an edge", "truncate within a page", "truncate to 0", "a file that grows after it was cut"]
     + [f"growth {place}" for place in ("within a page", "to an edge", "over several pages", "from 0", "after a cut")],
+    "maps": [
+        f"a map of {UNIT:,} bytes", f"a map of {MAX_MAP:,} bytes", f"{MAX_MAPS} maps", "an unmap of the first",
+        "an unmap of the last", "a map after an unmap", "a save with maps", "a restart with maps",
+    ],
     "restarts": [
         "saves", "from no save", "power loss", "killed between two requests", "killed within a request",
         "killed within a sync", "killed after a sync", "killed within a start",
@@ -42,6 +46,7 @@ class Covered:
     def __init__(self):
         self.counts = Counter()
         self.cut = set()
+        self.has_unmapped = False
 
     def met(self, group, name, condition=True):
         self.counts[group, name] += bool(condition)
@@ -50,7 +55,12 @@ class Covered:
         self.met("requests", REQUESTS[request[0]])
 
     def look(self, tree, call):
-        """Size and cursor of the call's file, before it."""
+        """Size and cursor of the call's file, before it; of an unmap, its place among the maps, and how many there are.
+        """
+        if call[:1] == bytes([UNMAP]):
+            addresses = list(tree.maps)
+            address = unsigned(call[1:])
+            return addresses.index(address) if address in tree.maps else 0, len(addresses)
         handle = unsigned(call[1 : 1 + ID]) if call[:1] and call[0] in BY_HANDLE else None
         file = tree.open_files.get(handle)
         return (file_size(tree, handle), file.cursor) if file else (0, 0)
@@ -64,6 +74,8 @@ class Covered:
             self.truncation(call, unsigned(call[1 + ID :]), before[0])
         elif call[0] == READDIR:
             self.listing(tree, call)
+        elif call[0] in (MAP, UNMAP):
+            self.maps(tree, call, *before)
         if call[0] in (CREATE, MKDIR, OPEN, WRITE, TRUNCATE, CHMOD):
             self.limits(tree)
 
@@ -97,6 +109,19 @@ class Covered:
             ("over several pages", pages > 1), ("from 0", before == 0), ("after a cut", handle in self.cut),
         ):
             self.met("page edges", f"growth {place}", condition)
+
+    def maps(self, tree, call, place, before):
+        """Of an unmap, its place among so many."""
+        if call[0] == UNMAP:
+            self.has_unmapped = True
+            self.met("maps", "an unmap of the first", place == 0 and before > 1)
+            self.met("maps", "an unmap of the last", place == before - 1 and before > 1)
+            return
+        length = unsigned(call[1:])
+        self.met("maps", f"a map of {UNIT:,} bytes", length == UNIT)
+        self.met("maps", f"a map of {MAX_MAP:,} bytes", length == MAX_MAP)
+        self.met("maps", f"{MAX_MAPS} maps", len(tree.maps) == MAX_MAPS)
+        self.met("maps", "a map after an unmap", self.has_unmapped)
 
     def listing(self, tree, call):
         _, directory = tree.walk(rules.read_path(call[1:]))

@@ -9,8 +9,9 @@ import pickle
 import sys
 
 PAGE = 1024
+UNIT, SPACE = 4096, 1 << 64
 FILE, DIRECTORY = 1, 2
-CREATE, MKDIR, OPEN, CLOSE, _, FETCH, STORE, CUT, REMOVE, RMDIR, CHMOD, READDIR, STAT = range(1, 14)
+CREATE, MKDIR, OPEN, CLOSE, _, FETCH, STORE, CUT, REMOVE, RMDIR, CHMOD, READDIR, STAT, MAP, UNMAP = range(1, 16)
 REQUEST, SYNC, START = 1, 2, 3
 
 
@@ -39,9 +40,10 @@ class Host:
     # a host's life
 
     def start(self, digest):
-        """The tree of a save, or the root alone; no file is open."""
+        """The tree of a save, or the root alone; no file is open, and no map lives."""
         self.nodes, self.next = pickle.loads(self.saves[digest]) if digest else ({b"/": Node(1, DIRECTORY, 7)}, 2)
         self.files = {}
+        self.maps = {}
         self.last = digest
         return b""
 
@@ -123,6 +125,21 @@ class Host:
         return four(0)
 
 
+    # maps
+
+    def map(self, fields):
+        """From the end of the space down, where there is room first."""
+        length, address = number(fields), SPACE - number(fields)
+        while any(address < at + len(memory) and at < address + length for at, memory in self.maps.items()):
+            address -= UNIT
+        self.maps[address] = bytes(length)
+        return address.to_bytes(8, "little") + self.maps[address]
+
+    def unmap(self, fields):
+        del self.maps[number(fields)]
+        return four(0)
+
+
 def entry(name, node):
     return four(node.id) + bytes([node.kind, len(name)]) + name
 
@@ -130,6 +147,7 @@ def entry(name, node):
 REQUESTS = {
     CREATE: Host.create, MKDIR: Host.mkdir, OPEN: Host.open, CLOSE: Host.close, FETCH: Host.fetch, STORE: Host.store,
     CUT: Host.cut, REMOVE: Host.remove, RMDIR: Host.remove, CHMOD: Host.chmod, READDIR: Host.readdir, STAT: Host.stat,
+    MAP: Host.map, UNMAP: Host.unmap,
 }
 FRAMES = {REQUEST: Host.request, SYNC: Host.sync, START: Host.start}
 

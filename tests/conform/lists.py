@@ -6,14 +6,14 @@ end meet them all. Small trees come first: a fault that they show is told in a f
 
 from random import Random
 
-from host.honest import honest_generator
+from host.honest import HonestGenerator
 from model import calls
 from model.edges import crowd, deep, files
 from model.events import Done
-from model.generate import MAKERS, WORLDS, build
+from model.generate import WORLDS, build
 from model.rules import (
-    CHMOD, CLOSE, CREATE, MAX_COUNT, MAX_OPEN, MAX_PATH, MKDIR, OPEN, PAGE, READDIR, READ_RIGHT, REMOVE, RMDIR, STAT,
-    TRUNCATE, WRITE,
+    CHMOD, CLOSE, CREATE, MAP, MAX_COUNT, MAX_MAP, MAX_MAPS, MAX_OPEN, MAX_PATH, MKDIR, OPEN, PAGE, READDIR, READ_RIGHT,
+    REMOVE, RMDIR, STAT, TRUNCATE, UNIT, UNMAP, WRITE,
 )
 
 from .client import RESTARTS, WITHIN_REQUEST, Restart, Saved
@@ -31,7 +31,7 @@ class List:
     def __init__(self, client, seed):
         self.client, self.turn = client, seed % TURNS
         self.random = Random(seed)
-        self.generator = honest_generator(self.random, client)
+        self.generator = HonestGenerator(self.random, client)
         self.generator.bad_form = 0
 
     def run(self):
@@ -60,8 +60,8 @@ class List:
             self.tour()
 
     def tour(self):
-        """What is rare elsewhere: each page edge, a file that nobody may open again, a path as long as can be, a name
-        of any bytes.
+        """What is rare elsewhere: each page edge, as many maps as there may be, a file that nobody may open again, a
+        path as long as can be, a name of any bytes.
         """
         do, handle = self.client.do, self.client.do(calls.create(7, b"/a")).number
         do(calls.open_(3, b"/a"))
@@ -81,8 +81,22 @@ class List:
             do(calls.stat(b"/a"))
             do(calls.seek(handle, 0))
             do(calls.read(handle, MAX_COUNT))
+        self.tour_of_maps()
         build(self.client, deep(MAX_PATH - 4))
         do(calls.create(7, self.paths()[-1] + b"/\xff\n\x01"))
+
+    def tour_of_maps(self):
+        """Sixteen, of which the first, the last and one between make room for others; some live on."""
+        do, maps = self.client.do, self.client.guard.maps
+        for units in range(1, MAX_MAPS):
+            do(calls.map_(units * UNIT))
+        do(calls.map_(MAX_MAP))
+        for place in (0, -1, MAX_MAPS // 2):
+            do(calls.unmap(list(maps)[place]))
+        for length in (UNIT, MAX_MAP, 2 * UNIT):
+            do(calls.map_(length))
+        for address in list(maps)[::2]:
+            do(calls.unmap(address))
 
     def work(self, count):
         for _ in range(count):
@@ -100,8 +114,8 @@ class List:
     def changing_call(self):
         """A call that changes something at the host; the root's mode where nothing else comes."""
         for _ in range(20):
-            kind = self.random.choice([CREATE, MKDIR, WRITE, WRITE, WRITE, TRUNCATE, REMOVE, RMDIR, CHMOD])
-            call = MAKERS[kind](self.generator, kind)
+            kind = self.random.choice([CREATE, MKDIR, WRITE, WRITE, WRITE, TRUNCATE, REMOVE, RMDIR, CHMOD, MAP, UNMAP])
+            call = self.generator.makers[kind](self.generator, kind)
             if self.client.would_ask(call):
                 return call
         return calls.chmod(7, b"/")

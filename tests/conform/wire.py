@@ -8,7 +8,7 @@ import subprocess
 import tempfile
 import time
 
-from model.rules import ANSWER, put, unsigned
+from model.rules import REPLY, put, unsigned
 
 REQUEST, SYNC, START = 1, 2, 3
 WIDTH = 4  # of a frame's length
@@ -87,8 +87,8 @@ class Program:
 
     def receive(self):
         length = unsigned(self.read(WIDTH, "a frame"))
-        if length > ANSWER:
-            self.broken(f"it sends a frame of {length:,} bytes; the longest reply has {ANSWER:,}")
+        if length > REPLY:
+            self.broken(f"it sends a frame of {length:,} bytes; the longest reply has {REPLY:,}")
         return self.read(length, f"a frame of {length:,} bytes")
 
     def nothing(self):

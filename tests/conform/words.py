@@ -8,7 +8,8 @@ from pathlib import Path
 
 from model import rules
 from model.rules import (
-    CHMOD, CREATE, DIRECTORY, ID, MKDIR, OPEN, PAGE, READ, READDIR, SEEK, STAT, TRUNCATE, WRITE, signed, unsigned,
+    ADDRESS, CHMOD, CREATE, DIRECTORY, ID, MAP, MKDIR, OPEN, PAGE, READ, READDIR, SEEK, SPACE, STAT, TRUNCATE, UNIT,
+    UNMAP, WRITE, overlap, signed, unsigned,
 )
 
 from .client import Do, Restart
@@ -41,11 +42,19 @@ def call_words(do):
     kind, fields, name = do.call[0], do.call[1:], NAMES[do.call[0]]
     if do.file is not None:
         return f"{name} {shown(do.file)}{FIELDS.get(kind, lambda fields: '')(fields)}"
+    if kind in (MAP, UNMAP):
+        return map_call_words(do)
     if kind == OPEN:
         return f"open {shown(fields[1:])} for {RIGHTS[fields[0]]}"
     if kind in (CREATE, MKDIR, CHMOD):
         return f"{name} {shown(fields[1:])} with mode {fields[0]}"
     return f"{name} {shown(fields)}"
+
+
+def map_call_words(do):
+    if do.call[0] == UNMAP:
+        return f"unmap map {do.map}" if do.map else f"unmap {unsigned(do.call[1:]):#x}"
+    return f"map {bytes_words(unsigned(do.call[1:]))}" + (f", map {do.map}" if do.map else "")
 
 
 FIELDS = {
@@ -172,7 +181,25 @@ def entry_words(entry):
     return f"{KINDS.get(entry[ID], 'node')} {shown(entry[ID + 2 :])} with id {unsigned(entry[:ID])}"
 
 
-VALUES = {2: statuses, 3: ids, 4: descriptors, 5: pages, 6: stats}
+def maps(wrong):
+    """What came, and what is wrong with the address where something is."""
+    address, length = unsigned(wrong.reply[:ADDRESS]), unsigned(wrong.request[1:])
+    right = f"{bytes_words(length)} of zeros, at a multiple of {UNIT:,}, over no map and not beyond the end"
+    over = [f"over the map of {bytes_words(room)} at {at:#x}" for at, room in wrong.maps.items()
+            if overlap(address, length, at, room)]
+    beyond = ["which goes beyond the end"] * (address + length > SPACE)
+    return right, ", ".join([map_words(wrong.reply), *beyond, *over[:1]])
+
+
+def map_words(reply):
+    """Where a map is, and its first byte that is not zero."""
+    data = reply[ADDRESS:]
+    first = len(data) - len(data.lstrip(b"\0"))
+    bytes_ = "zeros" if first == len(data) else f"byte {first:,} is {data[first]:#04x}"
+    return f"address {unsigned(reply[:ADDRESS]):#x}, {bytes_words(len(data))}, {bytes_}"
+
+
+VALUES = {2: statuses, 3: ids, 4: descriptors, 5: pages, 6: stats, 8: maps}
 
 
 # paragraphs

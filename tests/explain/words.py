@@ -6,11 +6,13 @@ from pathlib import Path
 
 from conform.client import Do
 from conform.words import (
-    bytes_words, call_words, digits, entries_words, entry_words, path_of, request_words, stat_words,
+    bytes_words, call_words, digits, entries_words, entry_words, map_words, path_of, request_words, stat_words,
 )
 from model.events import Call, Load, Reply, Save
 from model.generate import BY_HANDLE
-from model.rules import CREATE, MKDIR, OPEN, PAGE, READ, READDIR, SEEK, STAT, WRITE, signed, split_listing, unsigned
+from model.rules import (
+    ADDRESS, CREATE, MAP, MKDIR, OPEN, PAGE, READ, READDIR, SEEK, STAT, UNMAP, WRITE, signed, split_listing, unsigned,
+)
 from model.tree import guard
 
 from .lines import Fresh
@@ -25,6 +27,7 @@ def texts(function):
     return {int(names[name]): text for name, text in re.findall(r'case (GUARD_\w+): return "([^"]*)"', body)}
 
 
+MAP_CALLS = {MAP: 5, UNMAP: 1 + ADDRESS}  # how long each is
 NUMBERS, REASONS = texts("guard_number_text"), texts("guard_stop_text")
 
 
@@ -74,6 +77,8 @@ class Teller:
     def called(self, data):
         """A call whose form is wrong has no words."""
         try:
+            if len(data) != MAP_CALLS.get(data[0], len(data)):
+                return f"a call that is none: {digits(data)}"
             if data[0] not in BY_HANDLE:
                 return call_words(Do(data))
             handle = unsigned(data[1:5])
@@ -93,6 +98,8 @@ class Teller:
             return stat_words(data)
         if kind == READ and len(data) == PAGE:
             return f"a page: {digits(data, 16)}"
+        if kind == MAP and len(data) > ADDRESS:
+            return map_words(data)
         return f"{signed(data)}" if len(data) == 4 else f"{bytes_words(len(data))}: {digits(data, 16)}"
 
     # answers
@@ -127,5 +134,8 @@ class Teller:
             return f": {'handle' if kind == OPEN else 'id'} {number}"
         if kind in (READ, WRITE):
             return f": {bytes_words(number)}" + (f": {digits(bytes.fromhex(data[0]), 16)}" if data else "")
-        others = {SEEK: f": at {number:,}", READDIR: f": {entries_words(number)}", STAT: f": {bytes_words(number)}"}
+        others = {
+            SEEK: f": at {number:,}", READDIR: f": {entries_words(number)}", STAT: f": {bytes_words(number)}",
+            MAP: f": address {number:#x}",
+        }
         return others.get(kind, "")

@@ -17,7 +17,7 @@ int LLVMFuzzerInitialize(int *n, char ***words);
 int LLVMFuzzerTestOneInput(const uint8_t *data, size_t size);
 void plain_sha256(const uint8_t *message, size_t n, uint8_t out[32]);
 
-enum { INPUT = 1 << 16, EVENTS = 300 };
+enum { INPUT = GUARD_REPLY_LENGTH + 64, EVENTS = 300 };
 
 __attribute__((section("__libfuzzer_extra_counters"))) static uint8_t seen[8192];
 
@@ -26,7 +26,8 @@ static struct place memory, elsewhere, answer, request, image, digest, input, se
 /* What is known of the guard from its outcomes alone. */
 static struct {
     int stopped, pending, loaded, saved;
-    size_t open_files, saved_length;
+    size_t open_files, saved_length, maps;
+    struct { uint64_t address, last; } map[GUARD_MAPS]; /* those that live, each up to its last byte */
     uint8_t call[GUARD_TRANSFER_LENGTH + 5]; /* the pending call */
     size_t call_length;
     uint8_t asked[GUARD_REQUEST_LENGTH]; /* the pending request */
@@ -146,7 +147,7 @@ static unsigned first_number(enum what what)
 
 static int is_call_number(uint64_t n)
 {
-    static const uint8_t numbers[] = {22, 36, 20, 13, 2, 17, 21, 16, 39, 24, 9, 27, 28};
+    static const uint8_t numbers[] = {22, 36, 20, 13, 2, 17, 21, 16, 39, 24, 9, 27, 28, 12};
     return n < 256 && memchr(numbers, (int)n, sizeof numbers) != NULL;
 }
 
@@ -161,11 +162,11 @@ static uint64_t field(const uint8_t *at, size_t bytes)
 /* A request has its kind's length, or is the call itself; it stands from now on. */
 static void check_request(guard_outcome o)
 {
-    static const size_t lengths[GUARD_STAT + 1] = {
+    static const size_t lengths[GUARD_UNMAP + 1] = {
         [GUARD_CLOSE] = 5, [GUARD_FETCH] = 9, [GUARD_STORE] = GUARD_REQUEST_LENGTH, [GUARD_CUT] = 9,
     };
     const uint8_t *q = request.at;
-    MUST(o.number == 0 && o.length > 0 && q[0] >= GUARD_CREATE && q[0] <= GUARD_STAT && q[0] != GUARD_SEEK);
+    MUST(o.number == 0 && o.length > 0 && q[0] >= GUARD_CREATE && q[0] <= GUARD_UNMAP && q[0] != GUARD_SEEK);
     if (lengths[q[0]])
         MUST(o.length == lengths[q[0]] && field(q + 1, 4) < GUARD_DESCRIPTORS);
     else
@@ -173,6 +174,62 @@ static void check_request(guard_outcome o)
     memcpy(known.asked, q, o.length);
     known.asked_length = o.length;
     known.pending = 1;
+}
+
+/* ---- maps, by the words of the rules */
+
+/* The map that begins there, or as many as there are. */
+static size_t find_map(uint64_t address)
+{
+    size_t i = 0;
+    while (i < known.maps && known.map[i].address != address)
+        i++;
+    return i;
+}
+
+/* The number of a map's or an unmap's refusal, once it is looked at; 0 where it is sent on. */
+static unsigned map_number(void)
+{
+    uint64_t n = field(input.at + 1, input.length > 9 ? 8 : input.length - 1);
+    if (input.at[0] == GUARD_UNMAP)
+        return input.length != 9 || find_map(n) == known.maps ? GUARD_MALFORMED : 0;
+    if (input.length != 5 || n < GUARD_MAP_UNIT || n > GUARD_MAP_LENGTH || n % GUARD_MAP_UNIT)
+        return GUARD_MALFORMED;
+    return known.maps == GUARD_MAPS ? GUARD_TOO_MANY_MAPS : 0;
+}
+
+/* The reason that a map's reply must stop for, 0 where it is right. */
+static unsigned map_reason(void)
+{
+    uint64_t length = field(known.asked + 1, 4), address, last;
+    if (input.length != GUARD_ADDRESS_LENGTH + length)
+        return GUARD_STOP_LENGTH;
+    address = field(input.at, GUARD_ADDRESS_LENGTH);
+    last = address + (length - 1);
+    if (address == 0 || address % GUARD_MAP_UNIT || last < address)
+        return GUARD_STOP_MAP;
+    for (size_t i = 0; i < known.maps; i++)
+        if (address <= known.map[i].last && known.map[i].address <= last)
+            return GUARD_STOP_MAP;
+    for (size_t i = GUARD_ADDRESS_LENGTH; i < input.length; i++)
+        if (input.at[i])
+            return GUARD_STOP_MAP;
+    return 0;
+}
+
+/* One more, or one less: each map is the host's word, so nothing else can be known of it. */
+static void map_done(guard_outcome o)
+{
+    MUST(o.number == field(input.at, GUARD_ADDRESS_LENGTH) && o.length == 0 && known.maps < GUARD_MAPS);
+    known.map[known.maps].address = o.number;
+    known.map[known.maps++].last = o.number + (field(known.call + 1, 4) - 1);
+}
+
+static void unmap_done(guard_outcome o)
+{
+    size_t i = find_map(field(known.call + 1, GUARD_ADDRESS_LENGTH));
+    MUST(o.number == 0 && o.length == 0 && i < known.maps);
+    known.map[i] = known.map[--known.maps];
 }
 
 /* A call that is done at the reply in the input. */
@@ -187,6 +244,8 @@ static void check_done(guard_outcome o)
     case GUARD_READDIR: MUST(o.number < GUARD_NODES && o.length == input.length &&
         same(answer.at, input.at, o.length)); break;
     case GUARD_STAT: MUST(o.number == field(input.at + 6, 4) && o.length == 10 && same(answer.at, input.at, 10)); break;
+    case GUARD_MAP: map_done(o); break;
+    case GUARD_UNMAP: unmap_done(o); break;
     default: MUST(o.number == 0 && o.length == 0);
     }
 }
@@ -199,6 +258,8 @@ static void on_call(void)
     if (first)
         return;
     MUST(o.kind != GUARD_STOPPED && (o.kind != GUARD_REFUSED || is_call_number(o.number)));
+    if (input.length > 0 && (input.at[0] == GUARD_MAP || input.at[0] == GUARD_UNMAP))
+        MUST(map_number() ? o.kind == GUARD_REFUSED && o.number == map_number() : o.kind == GUARD_ASK);
     if (o.kind == GUARD_REFUSED)
         return;
     MUST(input.length > 1 && input.length <= sizeof known.call);
@@ -215,7 +276,9 @@ static void on_call(void)
 static void check_taken(const uint8_t *own, size_t n)
 {
     switch (known.asked[0]) {
-    case GUARD_CREATE: case GUARD_MKDIR: case GUARD_OPEN: case GUARD_READDIR: MUST(input.length == n); break;
+    case GUARD_CREATE: case GUARD_MKDIR: case GUARD_OPEN: case GUARD_READDIR: case GUARD_MAP:
+        MUST(input.length == n);
+        break;
     default:
         if (known.asked[0] == GUARD_FETCH && !host_is_sure())
             MUST(input.length == n);
@@ -233,8 +296,10 @@ static void on_reply(int is_true)
     if (first)
         return;
     known.pending = 0;
+    if (known.asked[0] == GUARD_MAP)
+        MUST(map_reason() ? o.kind == GUARD_STOPPED && o.number == map_reason() : o.kind == GUARD_DONE);
     if (o.kind == GUARD_STOPPED) {
-        MUST(o.number >= 1 && o.number <= 7);
+        MUST(o.number >= 1 && o.number <= 8);
         MUST(!is_true || (o.number == GUARD_STOP_PAGE && !host_is_sure()));
         known.stopped = 1;
         return;
@@ -337,6 +402,18 @@ static void true_reply(void)
     on_reply(1);
 }
 
+/* The host's reply with the record's bytes over its front or its end. */
+static void changed_reply(struct record r)
+{
+    static uint8_t reply[GUARD_REPLY_LENGTH];
+    size_t n = known.pending ? host_reply(known.asked, known.asked_length, reply) : 0;
+    size_t over = r.length < n ? r.length : n;
+    if (over > 0)
+        memcpy(r.what == REPLY_OVER ? reply : reply + n - over, r.bytes, over);
+    place_input(&input, reply, n);
+    on_reply(0);
+}
+
 static void do_record(struct record r)
 {
     lend(r, r.what == SAVE && r.length >= 2 ? (size_t)field(r.bytes, 2) : GUARD_IMAGE_LENGTH);
@@ -347,6 +424,7 @@ static void do_record(struct record r)
     case SAVE: on_save(); break;
     case LOAD_SAVED: load(known.image, known.saved_length, known.digest, known.saved ? GUARD_DIGEST_LENGTH : 0); break;
     case MOVE: move_guard(); break;
+    case REPLY_OVER: case REPLY_UNDER: changed_reply(r); break;
     default: load_bytes(r);
     }
 }
@@ -360,6 +438,7 @@ static void come_back(void)
         return;
     MUST(guard_entry_fresh(memory.at, memory.length).kind == GUARD_DONE);
     known.loaded = 0;
+    known.maps = 0;
     do_record((struct record){.what = LOAD_SAVED});
     MUST(known.loaded);
 }

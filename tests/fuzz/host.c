@@ -25,6 +25,9 @@ static struct tree tree, saved;
  * made or made shorter */
 static struct { uint32_t id, number; int are_zeros; uint8_t page[GUARD_PAGE_LENGTH]; } pages[KEPT];
 static uint32_t next_id;
+/* maps, which no tree has: saves and loads leave them */
+static struct { uint64_t address; uint32_t length; } maps[GUARD_MAPS];
+static size_t mapped;
 
 static uint32_t field(const uint8_t *at)
 {
@@ -36,6 +39,11 @@ static size_t put(uint32_t n, uint8_t *to)
     for (int i = 0; i < 4; i++)
         to[i] = (uint8_t)(n >> 8 * i);
     return 4;
+}
+
+static uint64_t long_field(const uint8_t *at)
+{
+    return field(at) + ((uint64_t)field(at + 4) << 32);
 }
 
 /* ---- nodes */
@@ -86,13 +94,58 @@ static void take_out(struct node *n)
     tree.count--;
 }
 
-void host_begin(void)
+static void begin_tree(void)
 {
     memset(&tree, 0, sizeof tree);
     saved = tree;
     tree.is_sure = 1;
     next_id = 2;
     add(1, GUARD_DIRECTORY, 7, (const uint8_t *)"", 0);
+}
+
+void host_begin(void)
+{
+    begin_tree();
+    mapped = 0;
+}
+
+/* ---- maps */
+
+static int is_free(uint64_t address, uint32_t length)
+{
+    for (size_t i = 0; i < mapped; i++)
+        if (address <= maps[i].address + (maps[i].length - 1) && maps[i].address <= address + (length - 1))
+            return 0;
+    return 1;
+}
+
+/* From the end of the space down, where there is room. */
+static size_t map(uint32_t length, uint8_t *reply)
+{
+    uint64_t address = -(uint64_t)length;
+    while (!is_free(address, length))
+        address -= GUARD_MAP_UNIT;
+    put((uint32_t)address, reply);
+    put((uint32_t)(address >> 32), reply + 4);
+    memset(reply + GUARD_ADDRESS_LENGTH, 0, length);
+    return GUARD_ADDRESS_LENGTH + length;
+}
+
+static void keep_map(uint64_t address, uint32_t length)
+{
+    if (mapped == GUARD_MAPS)
+        return;
+    maps[mapped].address = address;
+    maps[mapped++].length = length;
+}
+
+static void end_map(uint64_t address)
+{
+    for (size_t i = 0; i < mapped; i++)
+        if (maps[i].address == address) {
+            maps[i] = maps[--mapped];
+            return;
+        }
 }
 
 /* ---- replies */
@@ -159,6 +212,7 @@ size_t host_reply(const uint8_t *request, size_t length, uint8_t *reply)
     case GUARD_STORE: return put(GUARD_PAGE_LENGTH, reply);
     case GUARD_READDIR: return list(by_path(request + 1, length - 1), reply);
     case GUARD_STAT: return stat_of(by_path(request + 1, length - 1), reply);
+    case GUARD_MAP: return map(field(request + 1), reply);
     default: return put(0, reply);
     }
 }
@@ -215,6 +269,8 @@ void host_obey(const uint8_t *request, size_t length, const uint8_t *reply)
     case GUARD_CUT: cut(opened, field(request + 5)); break;
     case GUARD_REMOVE: case GUARD_RMDIR: take_out(by_path(request + 1, length - 1)); break;
     case GUARD_CHMOD: by_path(request + 2, length - 2)->mode = request[1]; break;
+    case GUARD_MAP: keep_map(long_field(reply), field(request + 1)); break;
+    case GUARD_UNMAP: end_map(long_field(request + 1)); break;
     }
 }
 
@@ -233,7 +289,7 @@ void host_loaded(void)
 void host_loaded_image(const uint8_t *image)
 {
     uint32_t left = field(image);
-    host_begin();
+    begin_tree();
     tree.is_sure = 0;
     tree.nodes[0].mode = image[13];
     for (image += 4 + RECORD; --left > 0; image += RECORD + image[RECORD - 1]) {

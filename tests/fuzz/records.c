@@ -10,7 +10,7 @@ size_t record_read(const uint8_t *data, size_t n, struct record *r)
     if (n < HEAD)
         return 0;
     size_t length = data[1] + 256u * data[2];
-    r->what = (enum what)(data[0] % 8);
+    r->what = (enum what)(data[0] % 16 % WHATS);
     r->short_answer = data[0] >> 6 & 1;
     r->short_request = data[0] >> 7;
     r->bytes = data + HEAD;
@@ -82,7 +82,7 @@ static size_t mutate_records(uint8_t *data, size_t size, size_t most, unsigned s
     switch (seed % 5) {
     case 0: return put_over(data, size, at, end, data, 0);
     case 1: return copy_record(data, size, most, at, end, starts[seed / 1024 % (count + 1)]);
-    case 2: data[at] = (uint8_t)(seed / 1024 % 8 | (seed % 7 ? 0 : seed / 8192 % 4 << 6)); return size;
+    case 2: data[at] = (uint8_t)(seed / 1024 % WHATS | (seed % 7 ? 0 : seed / 8192 % 4 << 6)); return size;
     default: return mutate_bytes(data, size, most, at, end);
     }
 }

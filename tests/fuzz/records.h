@@ -14,8 +14,12 @@ enum what {
     LOAD,         /* the bytes as an image, with its digest */
     LOAD_BADLY,   /* with another digest, or one that is cut short */
     LOAD_SAVED,   /* what was saved last */
-    MOVE          /* the guard goes to another address */
+    MOVE,         /* the guard goes to another address */
+    REPLY_OVER,   /* the host's reply with the bytes over its front: a map's is too long for a record */
+    REPLY_UNDER   /* with the bytes over its end */
 };
+
+enum { WHATS = REPLY_UNDER + 1 };
 
 struct record {
     enum what what;

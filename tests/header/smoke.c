@@ -59,6 +59,23 @@ static void refusals(guard *g)
     expect(guard_save(g, NULL, 0, digest), GUARD_REFUSED, GUARD_SHORT_BUFFER, 0);
 }
 
+/* A map at the end of the space, whose address is the number; it lives on, and is unmapped after the save. */
+static void map(guard *g)
+{
+    static uint8_t zeros[GUARD_REPLY_LENGTH] = {0, 0, 255, 255, 255, 255, 255, 255};
+    expect(call(g, "\16\1\0\1\0", 5), GUARD_REFUSED, GUARD_MALFORMED, 0);
+    expect(call(g, "\16\0\0\1\0", 5), GUARD_ASK, 0, 5);
+    expect(guard_reply(g, zeros, sizeof zeros, answer, sizeof answer, request, sizeof request), GUARD_DONE,
+        UINT64_MAX - GUARD_MAP_LENGTH + 1, 0);
+}
+
+static void unmap(guard *g)
+{
+    expect(call(g, "\17\0\0\377\377\377\377\377\377", 9), GUARD_ASK, 0, 9);
+    expect(reply(g, "\0\0\0\0", 4), GUARD_DONE, 0, 0);
+    expect(call(g, "\17\0\0\377\377\377\377\377\377", 9), GUARD_REFUSED, GUARD_MALFORMED, 0);
+}
+
 /* The version, and the cursor after a truncation: behind the new end it stands at that end, else it stays. */
 static void notes(guard *g)
 {
@@ -81,8 +98,10 @@ int main(void)
     make_file(&first);
     notes(&first);
     refusals(&first);
+    map(&first);
     guard_outcome o = guard_save(&first, image, sizeof image, digest);
     expect(o, GUARD_DONE, 4 + 15 + 16 + 4 + 32, 4 + 15 + 16 + 4 + 32);
+    unmap(&first);
     guard_fresh(second);
     expect(guard_load(second, image, o.length, digest, 31), GUARD_REFUSED, GUARD_WRONG_DIGEST, 0);
     expect(guard_load(second, image, o.length, digest, sizeof digest), GUARD_DONE, 0, 0);

@@ -1,6 +1,7 @@
 """The model beside the archive and the real host: each call goes through both, and the outcomes must be the same.
 
-What a host may choose is the real one's: a new id is taken over into the model, a listing may stand in any order.
+What a host may choose is the real one's: a new id and a map's address are taken over into the model, a listing may
+stand in any order.
 """
 
 import os
@@ -10,7 +11,7 @@ from model.events import Ask, Call, Done, Load, Reply, Save
 from model.host import Host
 from model.image import LONGEST
 from model.recording import Recording
-from model.rules import CREATE, DIRECTORY, MKDIR, READDIR, split_listing
+from model.rules import CREATE, DIRECTORY, MAP, MKDIR, READDIR, split_listing
 from model.script import Unrandom
 
 
@@ -69,17 +70,20 @@ def durable(place):
     return place.with_name(place.name + ".durable")
 
 
-class ChosenIds(Host):
-    """The model's host with the ids of another."""
+class Alike(Host):
+    """The model's host with the ids and addresses of another."""
 
     def new_id(self):
+        return self.chosen
+
+    def new_address(self, length):
         return self.chosen
 
 
 class Beside(Recording):
     def __init__(self, driver):
         super().__init__(Unrandom())
-        self.host = ChosenIds(Unrandom())
+        self.host = Alike(Unrandom())
         self.driver = driver
         self.saved = None
 
@@ -90,7 +94,7 @@ class Beside(Recording):
         theirs = self.driver.send(f"c {event.data.hex()}")
         if theirs[0] == "stopped":
             raise Caught(theirs[1])
-        if theirs[0] == "done" and event.data[0] in (CREATE, MKDIR):
+        if theirs[0] == "done" and event.data[0] in (CREATE, MKDIR, MAP):
             self.host.chosen = int(theirs[1])
         ours = super().send(event)
         while isinstance(ours, Ask):
@@ -117,11 +121,15 @@ class Beside(Recording):
         if driver.send("f") != ["fresh"]:
             raise Different("no fresh guard")
         self.driver = driver
-        answer = driver.send(f"l {self.saved.data.hex()} {self.saved.digest.hex()}")
+        self.guard.__init__(self.guard.store)  # fresh, and still the one that the generator looks at
+        self.host.open_files, self.host.maps = {}, {}
+        self.load()
+
+    def load(self):
+        """The last image, whatever maps live; with no file open."""
+        answer = self.driver.send(f"l {self.saved.data.hex()} {self.saved.digest.hex()}")
         if answer != ["done", "0"]:
             raise Different(f"the load gives {' '.join(answer)}")
-        self.guard.__init__(self.guard.store)  # fresh, and still the one that the generator looks at
-        self.host.open_files = {}
         super().send(Load(self.saved.data, self.saved.digest))
 
 

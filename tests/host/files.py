@@ -1,14 +1,19 @@
-"""The thirteen calls by one set of names: behind the guard, and on the machine. An error is an OSError with its number,
+"""The calls by one set of names: behind the guard, and on the machine. An error is an OSError with its number,
 on both sides.
 """
 
+import ctypes
 import os
 
 from model import calls
+from model.rules import UNIT
 
 from .beside import Different
 
 READ, WRITE, BOTH = 1, 2, 3
+LIBRARY = ctypes.CDLL(None, use_errno=True)
+LIBRARY.mmap.restype = ctypes.c_void_p
+PRIVATE, ANONYMOUS = 2, 0x20  # of Linux, as mmap takes them
 
 
 class Guarded:
@@ -64,6 +69,12 @@ class Guarded:
     def stat(self, path):
         self.do(calls.stat(path.encode()))
 
+    def map(self, length):
+        return self.do(calls.map_(length))
+
+    def unmap(self, address):
+        self.do(calls.unmap(address))
+
 
 class Planned(Guarded):
     """Calls that are sent together, since none can fail."""
@@ -116,3 +127,17 @@ class Plain:
 
     def stat(self, path):
         os.stat(path)
+
+    def map(self, length):
+        size = ctypes.c_size_t(length)
+        return passed(LIBRARY.mmap(None, size, 3, PRIVATE | ANONYMOUS, -1, ctypes.c_long(0)), ctypes.c_void_p(-1).value)
+
+    def unmap(self, address):
+        """One unit of it: the guard's call has no length."""
+        passed(LIBRARY.munmap(ctypes.c_void_p(address), ctypes.c_size_t(UNIT)), -1)
+
+
+def passed(given, failure):
+    if given == failure:
+        raise OSError(ctypes.get_errno(), "failed")
+    return given

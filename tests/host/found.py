@@ -110,6 +110,29 @@ def descriptors_that_stay(program, place):
     expect(len(list(files.iterdir())), before)
 
 
+def maps_that_stay(program, place):
+    """A host that is closed gives its maps back."""
+    rounds, longest = 8, 65536
+    driver = Life(program, place).again()
+
+    def fill():
+        for _ in range(16):
+            expect(driver.send(f"c {calls.map_(longest).hex()}")[0], "done")
+        expect(driver.send("f"), ["fresh"])
+
+    fill()
+    before = memory_of(driver)
+    for _ in range(rounds):
+        fill()
+    if memory_of(driver) - before > rounds * 16 * longest // 2:
+        raise Different("maps outlive their host")
+
+
+def memory_of(driver):
+    """How many bytes the program has mapped."""
+    return os.sysconf("SC_PAGESIZE") * int(Path(f"/proc/{driver.process.pid}/statm").read_text().split()[0])
+
+
 def killed_at_the_first_node(program, place):
     """Whenever a new host is killed, there is one after it."""
     for count in range(1, 20):
@@ -127,6 +150,7 @@ def killed_at_the_first_node(program, place):
 
 TRIALS = [
     killed_at_the_first_node, damaged_tables, nodes_that_cannot_be_looked_at, links_on_the_way, descriptors_that_stay,
+    maps_that_stay,
 ]
 
 
@@ -134,7 +158,7 @@ def main():
     program, place = sys.argv[1], Path(sys.argv[2])
     for trial in TRIALS:
         trial(program, place)
-    print(f"host: {len(TRIALS)} disks that are not as they were left, each met as it must be")
+    print(f"host: {len(TRIALS)} trials of what is found and left, each met as it must be")
 
 
 if __name__ == "__main__":

@@ -11,19 +11,24 @@ import sys
 from pathlib import Path
 from random import Random
 
-from model.generate import Generator
+from model.generate import Generator, MappingGenerator
+from model.rules import MAP, UNMAP
 
 from .beside import Beside, Driver, Different, in_model, on_disk
 
 CALLS = 120
 
 
-def honest_generator(random, recording):
-    """The model's lists for the desk, without lies and without replies that nobody asked for."""
-    generator = Generator(random, desk=True)
-    generator.recording, generator.guard = recording, recording.guard
-    generator.lie = generator.bad_time = 0
-    return generator
+class HonestGenerator(MappingGenerator):
+    """The model's lists for the desk, with a few maps, without lies and without replies that nobody asked for."""
+
+    start = Generator.start
+
+    def __init__(self, random, recording):
+        super().__init__(random, desk=True)
+        self.recording, self.guard = recording, recording.guard
+        self.lie = self.bad_time = 0
+        self.weights[MAP] = self.weights[UNMAP] = 1
 
 
 def run_list(program, place, seed):
@@ -33,13 +38,13 @@ def run_list(program, place, seed):
     if seed % 2:
         driver.send(f"e {random.randrange(3, 20)}")
     beside = Beside(driver)
-    generator = honest_generator(random, beside)
+    generator = HonestGenerator(random, beside)
     generator.start()
     for _ in range(CALLS):
         generator.event()
         if random.random() < 0.02:
             beside.save()
-            beside.start_again(driver)
+            beside.load() if random.random() < 0.3 else beside.start_again(driver)
     if in_model(beside.host) != on_disk(place):
         raise Different("the directory is not the model's tree")
     if driver.end() != 0:

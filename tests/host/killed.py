@@ -11,7 +11,7 @@ In a third of the lists the machine loses power: what was not synced is there or
 table (lost.py). In a third a file is damaged. Unless one is, a node that no call has named since the save is served:
 no stop.
 
-Before the lists, what docs/INTEGRATION.md, 6, tells of a growing cut that was obeyed.
+Before the lists, what docs/INTEGRATION.md, 6, tells of a growing cut that was obeyed; and that maps end with the host.
 """
 
 import shutil
@@ -20,11 +20,11 @@ from pathlib import Path
 from random import Random
 
 from model import calls
-from model.rules import CHMOD, CREATE, DIRECTORY, MAX_COUNT, MKDIR, PAGE, READ_RIGHT, REMOVE, RMDIR, TRUNCATE
-from model.rules import WRITE, WRITE_RIGHT, unsigned
+from model.rules import CHMOD, CREATE, DIRECTORY, MAX_COUNT, MAX_MAP, MAX_MAPS, MKDIR, PAGE, READ_RIGHT, REMOVE
+from model.rules import RMDIR, TRUNCATE, UNIT, WRITE, WRITE_RIGHT, unsigned
 
 from .beside import Beside, Caught, Driver, Different, Killed, durable
-from .honest import honest_generator
+from .honest import HonestGenerator
 from .lost import Disk
 
 BEFORE, AFTER = 25, 40  # calls before the save, and after the restart
@@ -70,7 +70,7 @@ class List:
         self.random = Random(seed)
         self.loss = seed % 3
         self.beside = Noted(Driver(program, place, record=self.loss == POWER_LOST))
-        self.generator = honest_generator(self.random, self.beside)
+        self.generator = HonestGenerator(self.random, self.beside)
         self.stops = self.looks = 0
         self.within = False
 
@@ -182,6 +182,25 @@ def grown(program, place, size, more):
     beside.driver.kill()
 
 
+def mapped(program, place):
+    """A save with maps alive, then the end: none lives after it, and there is room for as many as may."""
+    beside = Beside(Driver(program, place))
+    address = beside.do(calls.map_(2 * UNIT)).number
+    beside.do(calls.map_(MAX_MAP))
+    beside.save()
+    beside.load()
+    beside.do(calls.unmap(address))
+    beside.do(calls.unmap(address))
+    beside.driver.kill()
+    beside.start_again(Driver(program, place))
+    for _ in range(MAX_MAPS + 1):
+        beside.do(calls.map_(MAX_MAP))
+    for address in list(beside.guard.maps):
+        beside.do(calls.unmap(address))
+    beside.do(calls.map_(UNIT))
+    beside.driver.kill()
+
+
 def emptied(place):
     for old in (place, durable(place)):
         shutil.rmtree(old, ignore_errors=True)
@@ -193,6 +212,8 @@ def main():
     for size, more in GROWTHS:
         emptied(place)
         grown(program, place, size, more)
+    emptied(place)
+    mapped(program, place)
     looks = stops = caught = within = 0
     for seed in range(lists):
         emptied(place)
@@ -208,6 +229,7 @@ def main():
         seen = f"{caught} of {lists} lists saw a stop, {within} were killed within a request"
         raise Different(f"{seen}: nothing is shown by this")
     print(f"host: killed after {len(GROWTHS)} growing cuts, the size caught, each page served, the truncation done again")
+    print(f"host: {MAX_MAPS} maps after a save, a load and a kill, and no more")
     print(
         f"host: killed in {lists} lists, within a request in {within}; each load done, {looks} nodes looked at, "
         f"{stops} stops in {caught} lists, nothing wrong served"

@@ -9,6 +9,7 @@
 #include <stdio.h>
 #include <stdlib.h>
 #include <string.h>
+#include <sys/mman.h>
 #include <sys/stat.h>
 #include <unistd.h>
 
@@ -56,6 +57,7 @@ int __real_fsync(int file);
 int __real_syncfs(int file);
 int __real_fstatat(int directory, const char *path, struct stat *s, int flags);
 DIR *__real_fdopendir(int file);
+void *__real_mmap(void *at, size_t length, int protection, int flags, int file, off_t from);
 ssize_t __real_pread(int file, void *bytes, size_t length, off_t at);
 ssize_t __real_pwrite(int file, const void *bytes, size_t length, off_t at);
 
@@ -99,6 +101,11 @@ int __wrap_fstatat(int directory, const char *path, struct stat *s, int flags)
 }
 
 DIR *__wrap_fdopendir(int file) { return fails("fdopendir") || fault() ? NULL : __real_fdopendir(file); }
+
+void *__wrap_mmap(void *at, size_t length, int protection, int flags, int file, off_t from)
+{
+    return fault() ? MAP_FAILED : __real_mmap(at, length, protection, flags, file, from);
+}
 
 /* What is synced is certain from then on. */
 int __wrap_fsync(int file)

@@ -14,7 +14,7 @@ import sys
 from functools import partial
 from pathlib import Path
 
-from model.rules import MAX_COUNT as TRANSFER, MAX_OPEN as OPEN_FILES, MAX_SIZE as FILE_SIZE
+from model.rules import MAX_COUNT as TRANSFER, MAX_OPEN as OPEN_FILES, MAX_SIZE as FILE_SIZE, UNIT
 
 from .beside import Different, Driver
 from .files import BOTH, READ, WRITE, Guarded, Plain, Planned
@@ -103,7 +103,31 @@ def changed_mode(files, rights):
     return handle
 
 
+def map_many(files, count):
+    for _ in range(count):
+        files.map(UNIT)
+
+
+def unmapped(files):
+    address = files.map(UNIT)
+    files.unmap(address)
+    return address
+
+
 TRIALS = {
+    "map": lambda files: files.map(UNIT),
+    "map, 65,536 bytes": lambda files: files.map(65_536),
+    "map, no bytes": lambda files: files.map(0),
+    "map, 4,095 bytes": lambda files: files.map(UNIT - 1),
+    "map, 4,097 bytes": lambda files: files.map(UNIT + 1),
+    "map, 69,632 bytes": lambda files: files.map(65_536 + UNIT),
+    "map, 16 of them": lambda files: map_many(files, 16),
+    "map, 17 of them": lambda files: map_many(files, 17),
+    "unmap": unmapped,
+    "unmap, twice": lambda files: files.unmap(unmapped(files)),
+    "unmap, within a map": lambda files: files.unmap(files.map(2 * UNIT) + UNIT),
+    "unmap, not aligned": lambda files: files.unmap(files.map(UNIT) + 1),
+    "unmap, address 0": lambda files: files.unmap(0),
     "close, closed": lambda files: files.close(closed(files)),
     "seek, closed": lambda files: files.seek(closed(files), 0),
     "read, closed": lambda files: files.read(closed(files), 1),
@@ -153,6 +177,13 @@ write of 4,097           | 22    | 0       | a write has 4,096 bytes at most
 write over 65,536        | 27    | 0       | a write is done as a whole or not at all
 open, open               | 16    | 0       | a file is open once at most
 remove, open             | 16    | 0       | a file that is open is not removed
+map, 4,095 bytes         | 22    | 0       | a map's length is a multiple of 4,096
+map, 4,097 bytes         | 22    | 0       | a map's length is a multiple of 4,096
+map, 69,632 bytes        | 22    | 0       | a map has 65,536 bytes at most
+map, 17 of them          | 12    | 0       | 16 maps live at most
+unmap, twice             | 22    | 0       | an unmap is of a map that lives
+unmap, within a map      | 22    | 0       | an unmap is of a whole map, by its first address
+unmap, address 0         | 22    | 0       | an unmap is of a map that lives
 """
 
 

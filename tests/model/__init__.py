@@ -8,11 +8,12 @@ paragraph that is cited, as in SPECIFICATION 5, is where docs/SPECIFICATION.md h
     tree                    the machine: the reference tree, which keeps bytes, and the guard, which keeps digests
     host, lies              an honest host with a tree of its own, and the wrong replies that a host may give
     calls, edges            the bytes of calls; images at the edge of soundness
-    recording, generate     a list of events in the making; lists from a seed, and those of growing files
+    recording, generate     a list of events in the making; lists from a seed, those of growing files and of maps
     longer                  the same lists in longer buffers
     script                  lists written by hand with the answers that the requirements ask for:
     trials, numbers           its trials; each number, each two that stand beside each other
-    pages, dishonest          the page rules, byte by byte; every dishonest reply
+    pages, maps               the page rules, byte by byte; maps, address by address
+    dishonest                 every dishonest reply
     transcripts             all of these with their answers as a file
     desk, compare           the line protocol of deskrun; the model beside a program that speaks it
     mutations               wrong models, each of which the generated lists must tell from the right one

@@ -1,7 +1,7 @@
 """The bytes of calls, for whoever makes lists of events. No value is judged, so that wrong ones can be written too."""
 
 from . import rules
-from .rules import ID, put
+from .rules import ADDRESS, ID, put
 
 
 def create(mode, path):
@@ -54,3 +54,11 @@ def readdir(path):
 
 def stat(path):
     return bytes([rules.STAT]) + path
+
+
+def map_(length):
+    return bytes([rules.MAP]) + put(length, 4)
+
+
+def unmap(address):
+    return bytes([rules.UNMAP]) + put(address, ADDRESS)

@@ -23,7 +23,9 @@ from .transcripts import SCRIPTS, event_line
 
 
 def is_for_desk(event):
-    return isinstance(event, (Call, Reply)) and (event.answer_len, event.request_len) == (ANSWER, REQUEST)
+    if not isinstance(event, (Call, Reply)) or len(event.data) > MAX_BYTES:
+        return False
+    return (event.answer_len, event.request_len) == (ANSWER, REQUEST)
 
 
 def all_lists(seeds):

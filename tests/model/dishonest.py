@@ -2,7 +2,8 @@
 
 from . import calls
 from .events import Reply
-from .rules import PAGE, READDIR
+from .maps import asked as asked_for, mapped
+from .rules import PAGE, READDIR, SPACE, UNIT
 from .script import Script
 
 
@@ -166,13 +167,29 @@ def stat_of_a_directory(s):
     s.expect("ask", calls.stat(b"/e"))
 
 
+def map_beside_a_smaller_one(s):
+    """It touches the other, and could lie around it."""
+    mapped(s, 4 * UNIT)
+    asked_for(s, 5 * UNIT, 3 * UNIT)
+
+
+def map_of_one_unit(s):
+    asked_for(s, SPACE - UNIT)
+
+
+def unmap(s):
+    mapped(s, UNIT)
+    s.expect("ask", calls.unmap(UNIT))
+
+
 # what asks the host, and the stop reason of a reply that has the right length
 QUESTIONS = {
     create: 3, mkdir: 3, open_: 4, close: 2, read_first_page: 5, read_last_page: 5, fetch_of_a_write: 5,
     fetch_of_a_truncation: 5, store_first_page: 2, store_last_page: 2, store_of_a_truncation: 2, cut: 2, remove: 2,
     rmdir: 2, chmod: 2, readdir: 7, readdir_of_one: 7, readdir_of_none: 7, stat: 6, stat_of_a_directory: 6,
     cut_that_grows: 2, cut_that_adds_pages: 2, read_over_the_old_end: 5, read_added_page: 5, read_last_added_page: 5,
-    write_to_an_added_page: 5, cut_of_an_added_page: 5, stat_of_a_grown_file: 6,
+    write_to_an_added_page: 5, cut_of_an_added_page: 5, stat_of_a_grown_file: 6, map_beside_a_smaller_one: 8,
+    map_of_one_unit: 8, unmap: 2,
 }
 
 

@@ -1,24 +1,25 @@
 """Lists of events from a seed.
 
-A list starts fresh, with a few open files or in a tree that stands at a limit, then goes on with calls that mostly fit
-what the guard holds, with numbers near the edges that the requirements name. How often something goes wrong (a form, a
-buffer, a reply, an image, an event at the wrong time) is drawn once for each list, and so is the request about which
-the host lies: some lists are long and honest, others end soon. A stop is followed by a few more events.
+A list starts fresh, with a few open files, with maps or in a tree that stands at a limit, then goes on with calls that
+mostly fit what the guard holds, with numbers near the edges that the requirements name. How often something goes wrong
+(a form, a buffer, a reply, an image, an event at the wrong time) is drawn once for each list, and so is the request
+about which the host lies: some lists are long and honest, others end soon. A stop is followed by a few more events.
 """
 
 from random import Random
 
 from . import calls
+from .desk import MAX_BYTES
 from .edges import EDGES, FULL, ZEROS, deep, files, image
 from .events import Call, Done, Load, Reply, Save
 from .image import LONGEST, write_image
-from .lies import WRONG
+from .lies import OVER, WRONG
 from .longer import longer_steps
 from .recording import Recording
 from .rules import (
-    ANSWER, CHMOD, CLOSE, CREATE, DIRECTORY, FILE, MAX_COUNT, MAX_MODE, MAX_NAME, MAX_NODES, MAX_OPEN, MAX_PATH,
-    MAX_SIZE, MKDIR, OPEN, PAGE, READ, READDIR, READ_RIGHT, REMOVE, REQUEST, RMDIR, SEEK, STAT, TRUNCATE, WRITE,
-    WRITE_RIGHT,
+    ADDRESS, ANSWER, CHMOD, CLOSE, CREATE, DIRECTORY, FILE, MAP, MAX_COUNT, MAX_MAP, MAX_MAPS, MAX_MODE, MAX_NAME,
+    MAX_NODES, MAX_OPEN, MAX_PATH, MAX_SIZE, MKDIR, OPEN, PAGE, READ, READDIR, READ_RIGHT, REMOVE, REQUEST, RMDIR,
+    SEEK, SPACE, STAT, TRUNCATE, UNIT, UNMAP, WRITE, WRITE_RIGHT, unsigned,
 )
 from .tree import digest
 
@@ -52,26 +53,38 @@ def generate_growing(seed, length=50):
     return GrowingGenerator(Random(seed)).run(length)
 
 
+def generate_mapping(seed, length=50):
+    """A list of maps before all."""
+    return MappingGenerator(Random(seed)).run(length)
+
+
 def generate_for_desk(seed, length=50):
-    """The same with calls and replies alone, and buffers that are long enough."""
-    return Generator(Random(seed), desk=True).run(length)
+    """The same with calls and replies alone, and buffers that are long enough; every fourth is of maps."""
+    return (MappingGenerator if seed % 4 == 3 else Generator)(Random(seed), desk=True).run(length)
 
 
 class Generator:
+    """Calls of files, and no maps, whose replies are long."""
+
     def __init__(self, random, desk=False):
         self.random = random
         self.desk = desk
+        self.makers = self.all_makers()
         self.recording = Recording(random)
         self.guard = self.recording.guard
         self.saves = []
         self.bad_form = self.pick(0, 0.05, 0.2)
         self.bad_time = self.pick(0, 0.02, 0.1)
         self.lie = self.pick(0, 0.2, 0.5)
-        self.lies_about = self.pick(*WRONG, *[CREATE, OPEN, WRITE, STAT] * 2, *[READ, READDIR] * 5)
+        about = [kind for kind in WRONG if kind in self.makers]
+        self.lies_about = self.pick(*about, *[CREATE, OPEN, WRITE, STAT] * 2, *[READ, READDIR] * 5)
         self.bad_buffer = 0 if desk else self.pick(0, 0.02, 0.1)
         self.images = 0 if desk else self.pick(0, 0.05, 0.3)
-        self.weights = {kind: self.pick(1, 1, 2, 6) for kind in MAKERS}
+        self.weights = {kind: self.pick(1, 1, 2, 6) for kind in self.makers}
         self.weights[self.lies_about] += 50 * self.lie
+
+    def all_makers(self):
+        return MAKERS
 
     def chance(self, rate):
         return self.random.random() < rate
@@ -142,6 +155,8 @@ class Generator:
         reply = self.recording.truth
         if self.guard.pending and self.recording.request[0] == self.lies_about and self.chance(self.lie):
             reply = self.wrong_reply()
+        if self.desk:
+            reply = reply[:MAX_BYTES]  # a line holds no more: the right reply to a large map is cut, which stops
         self.recording.send(Reply(reply, *self.buffers()))
 
     def wrong_reply(self):
@@ -192,14 +207,14 @@ class Generator:
         kind = self.random.choices(list(self.weights), self.weights.values())[0]
         if kind in BY_HANDLE and not self.guard.open_files and self.chance(0.9):
             kind = self.pick(CREATE, OPEN)
-        data = MAKERS[kind](self, kind)
+        data = self.makers[kind](self, kind)
         if self.chance(self.bad_form):
             data = self.damaged(data)
         self.recording.send(Call(data, *self.buffers()))
 
     def damaged(self, data):
         """A call with one fault; some are still right, and some have two."""
-        other_kind = bytes([self.pick(0, STAT + 1, 255, *MAKERS)]) + data[1:]
+        other_kind = bytes([self.pick(0, max(self.makers) + 1, 255, *self.makers)]) + data[1:]
         other_mode = data[:1] + bytes([self.pick(0, 4, MAX_MODE + 1, 255)]) + data[2:]
         long = data + b"n" * (MAX_NAME + 1)
         return self.pick(
@@ -328,12 +343,83 @@ class GrowingGenerator(Generator):
         self.pick(*[self.make_files] * 5, self.enter_world)()
 
 
+class MappingGenerator(Generator):
+    """Maps come and go among the calls of files; some lists begin with nearly as many as may live, and lies are about
+    them.
+    """
+
+    def __init__(self, random, desk=False):
+        super().__init__(random, desk)
+        self.weights[MAP] = self.pick(10, 20)
+        self.weights[UNMAP] = self.pick(10, 20)
+        self.lies_about = self.pick(MAP, MAP, MAP, UNMAP)
+        self.images /= 2
+        self.ended = []
+
+    def all_makers(self):
+        return {**MAKERS, **MAP_MAKERS}
+
+    def start(self):
+        self.pick(self.stay_fresh, self.stay_fresh, self.make_files)()
+        count = self.pick(0, 1, 2, 4, MAX_MAPS - 1)
+        for _ in range(count):
+            self.recording.do(calls.map_(UNIT))
+        self.lean([MAP] * (count // 5))
+
+    def wrong_reply(self):
+        """Over the highest map or one that came last, at another wrong address, with other bytes, of another length:
+        each as often.
+        """
+        if self.lies_about != MAP:
+            return super().wrong_reply()
+        lies, truth = self.recording.lies(), self.recording.truth
+        over = [lie for name, lie in lies.items() if name.startswith(OVER)]
+        last = over and [*over[-2:], max(over, key=lambda lie: unsigned(lie[:ADDRESS]))]
+        placed = [lie for lie in lies.values() if lie[ADDRESS:] == truth[ADDRESS:] and lie not in over]
+        dirty = [lie for lie in lies.values() if lie[:ADDRESS] == truth[:ADDRESS] and len(lie) == len(truth)]
+        lengths = [lie for lie in lies.values() if len(lie) != len(truth)]
+        return self.pick(*self.pick(*filter(None, [last, placed, dirty, lengths])))
+
+    def map_call(self, kind):
+        return calls.map_(self.wrong_length() if self.chance(0.15) else self.length())
+
+    def length(self):
+        """Short as a rule, for the list's sake."""
+        if self.chance(0.01):
+            return self.pick(MAX_MAP, MAX_MAP - UNIT)
+        return UNIT * self.pick(1, 1, 1, 1, 1, 2, 2, 2 if self.desk else 3)
+
+    def wrong_length(self):
+        whole = UNIT * self.pick(1, 2, 16)
+        return self.pick(
+            0, 1, whole - 1, whole + 1, whole - UNIT // 2, MAX_MAP + 1, MAX_MAP + UNIT, 2 * MAX_MAP, 1 << 31,
+            (1 << 32) - UNIT, (1 << 24) + UNIT,
+        )
+
+    def unmap_call(self, kind):
+        address = self.address()
+        self.ended = [address, *self.ended][:4]
+        return calls.unmap(address)
+
+    def address(self):
+        """A map's first address; now and then one inside it, beside it, of a map that has ended, or nobody's."""
+        live, room = self.pick(*self.guard.maps.items() or [(UNIT, UNIT)])
+        if self.chance(0.75):
+            return live
+        others = [
+            live + UNIT, live + room - UNIT, live + 1, live - UNIT, live + room, live ^ 1 << 32, live ^ 1 << 63, 0,
+            UNIT, SPACE - UNIT, SPACE - 1,
+        ]
+        return self.pick(*self.ended, *others) % SPACE
+
+
 MAKERS = {
     CREATE: Generator.mode_call, MKDIR: Generator.mode_call, OPEN: Generator.open_call, CLOSE: Generator.close_call,
     SEEK: Generator.seek_call, READ: Generator.read_call, WRITE: Generator.write_call,
     TRUNCATE: Generator.truncate_call, REMOVE: Generator.path_call, RMDIR: Generator.path_call,
     CHMOD: Generator.mode_call, READDIR: Generator.path_call, STAT: Generator.path_call,
 }
+MAP_MAKERS = {MAP: MappingGenerator.map_call, UNMAP: MappingGenerator.unmap_call}
 BY_HANDLE = (CLOSE, SEEK, READ, WRITE, TRUNCATE)
 
 

@@ -1,14 +1,15 @@
 """An honest host: it holds the reference tree itself, obeys every request, never fails and replies truly.
 
 It is written apart from the machine, over directories of named entries and the bytes of files. What the requirements
-leave to a host, it chooses by the random numbers it is given: a new id, a descriptor, the order of a listing.
+leave to a host, it chooses by the random numbers it is given: a new id, a descriptor, the order of a listing, a map's
+address.
 """
 
 from copy import deepcopy
 from dataclasses import dataclass, field
 
 from . import rules
-from .rules import DIRECTORY, FILE, ID, MAX_DESCRIPTOR, PAGE, put, unsigned
+from .rules import ADDRESS, DIRECTORY, FILE, ID, MAX_DESCRIPTOR, PAGE, SPACE, UNIT, put, unsigned
 
 
 @dataclass
@@ -42,6 +43,7 @@ class Host:
         self.random = random
         self.root = Entry(id=1, kind=DIRECTORY, mode=7)
         self.open_files = {}
+        self.maps = {}
         self.saves = {}
 
     def reply(self, request):
@@ -81,6 +83,22 @@ class Host:
     def new_descriptor(self):
         free = [descriptor for descriptor in range(MAX_DESCRIPTOR + 1) if descriptor not in self.open_files]
         return self.random.choice([free[0], free[0], free[-1], self.random.choice(free)])
+
+    def new_address(self, length):
+        """Room that no map has: the first that there is, just above or below a map, at the top, or anywhere."""
+        above = [address + room for address, room in self.maps.items()]
+        below = [address - length for address in self.maps]
+        anywhere = [UNIT * self.random.randrange(1, 1 << bits) for bits in (8, 20, 36, 52)]
+        first = next(address for address in sorted([UNIT, *above]) if self.is_free(address, length))
+        choices = [first, *(address for address in (*above, *below, SPACE - length) if self.is_free(address, length))]
+        strange = [address for address in anywhere if self.is_free(address, length)]
+        return self.random.choice([*choices, *strange])
+
+    def is_free(self, address, length):
+        ends = address + length
+        return UNIT <= address and ends <= SPACE and all(
+            ends <= other or other + room <= address for other, room in self.maps.items()
+        )
 
     # requests
 
@@ -129,6 +147,16 @@ class Host:
         self.find(fields[1:]).mode = fields[0]
         return put(0, 4)
 
+    def map(self, fields):
+        length = unsigned(fields)
+        address = self.new_address(length)
+        self.maps[address] = length
+        return put(address, ADDRESS) + bytes(length)
+
+    def unmap(self, fields):
+        del self.maps[unsigned(fields)]
+        return put(0, 4)
+
     def readdir(self, path):
         return self.readdir_of(self.find(path))
 
@@ -147,5 +175,5 @@ class Host:
 REQUESTS = {
     rules.CREATE: "create", rules.MKDIR: "mkdir", rules.OPEN: "open", rules.CLOSE: "close", rules.READ: "fetch",
     rules.WRITE: "store", rules.TRUNCATE: "cut", rules.REMOVE: "remove", rules.RMDIR: "remove",
-    rules.CHMOD: "chmod", rules.READDIR: "readdir", rules.STAT: "stat",
+    rules.CHMOD: "chmod", rules.READDIR: "readdir", rules.STAT: "stat", rules.MAP: "map", rules.UNMAP: "unmap",
 }

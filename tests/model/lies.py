@@ -7,7 +7,9 @@ wrong for certain: a guard must stop.
 
 from . import rules
 from .host import Host
-from .rules import DIRECTORY, FILE, ID, MAX_DESCRIPTOR, PAGE, put, unsigned
+from .rules import ADDRESS, DIRECTORY, FILE, ID, MAX_DESCRIPTOR, PAGE, SPACE, UNIT, put, unsigned
+
+OVER = "over the map"  # so begin the names of lies about a map that lives
 
 
 class LyingHost(Host):
@@ -48,7 +50,7 @@ class LyingHost(Host):
 
     def replies_to_others(self, kind, truth):
         """Another request's right reply, where it cannot be right for this one as well."""
-        chosen_by_host = kind in (rules.CREATE, rules.MKDIR, rules.OPEN, rules.READDIR)
+        chosen_by_host = kind in (rules.CREATE, rules.MKDIR, rules.OPEN, rules.READDIR, rules.MAP)
         for age, reply in enumerate(self.old_replies):
             if len(reply) != len(truth) or not chosen_by_host:
                 yield f"another reply, {age} before", reply
@@ -113,6 +115,43 @@ def flipped(data, at):
     return data[:at] + bytes([data[at] ^ 1]) + data[at + 1 :]
 
 
+def wrong_maps(host, request, truth):
+    """Addresses first, then bytes that are not zero, then lengths that are one field's or another map's."""
+    address, length, bytes_ = unsigned(truth[:ADDRESS]), unsigned(request[1:]), truth[ADDRESS:]
+    for name, wrong in wrong_addresses(host, address, length):
+        yield name, put(wrong, ADDRESS) + bytes_
+    places = {0, UNIT - 1, UNIT, length // 2, length - 1, host.random.randrange(length)}
+    for at in sorted(places & set(range(length))):
+        yield f"byte {at} not zero", truth[:ADDRESS] + flipped(bytes_, at)
+    yield "the last bit not zero", truth[:-1] + b"\x80"
+    yield "ones", truth[:ADDRESS] + b"\xff" * length
+    yield "the address twice", truth[:ADDRESS] + truth[:ADDRESS] + bytes(length - ADDRESS)
+    yield "the address behind", bytes_ + truth[:ADDRESS]
+    yield "the address alone", truth[:ADDRESS]
+    yield "a unit short", truth[:-UNIT]
+    yield "no address", bytes_
+    yield "a status", put(0, 4)
+
+
+def wrong_addresses(host, address, length):
+    yield "address 0", 0
+    yield "a byte above", address + 1
+    yield "half a unit above", address + UNIT // 2
+    yield "the last address", SPACE - 1
+    for beyond in {UNIT, length - UNIT} - {0, length}:
+        yield f"{beyond} beyond the space", SPACE - length + beyond
+    for live, room in host.maps.items():
+        if live != address:
+            yield from overlaps(live, room, length)
+
+
+def overlaps(live, room, length):
+    """The ways to have a byte of a map that lives: a unit of it at each side, from its start, inside it, around it."""
+    for at in sorted({live - length + UNIT, live - UNIT, live, live + UNIT, live + room - UNIT}):
+        if UNIT <= at <= SPACE - length and rules.overlap(at, length, live, room):
+            yield f"{OVER} at {live:x}, from {at - live}", at
+
+
 def wrong_stats(host, request, truth):
     id, kind, mode, size = unsigned(truth[:ID]), truth[ID], truth[ID + 1], unsigned(truth[ID + 2 :])
 
@@ -171,5 +210,5 @@ WRONG = {
     rules.CREATE: wrong_ids, rules.MKDIR: wrong_ids, rules.OPEN: wrong_descriptors, rules.READ: wrong_pages,
     rules.READDIR: wrong_listings, rules.STAT: wrong_stats, rules.CLOSE: wrong_statuses,
     rules.WRITE: wrong_statuses, rules.TRUNCATE: wrong_statuses, rules.REMOVE: wrong_statuses,
-    rules.RMDIR: wrong_statuses, rules.CHMOD: wrong_statuses,
+    rules.RMDIR: wrong_statuses, rules.CHMOD: wrong_statuses, rules.MAP: wrong_maps, rules.UNMAP: wrong_statuses,
 }

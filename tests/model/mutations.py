@@ -14,11 +14,11 @@ import tempfile
 from pathlib import Path
 
 from . import events
-from .generate import generate, generate_growing, generate_longer
+from .generate import generate, generate_growing, generate_longer, generate_mapping
 
 PACKAGE = Path(__file__).parent
 COPIED = ["__init__", "events", "rules", "image", "tree", "desk"]
-SEEDS = range(1000)
+SEEDS = range(1400)
 
 
 def replaced(place, text, instead):
@@ -67,6 +67,16 @@ def grown_cursor(place):
     """Where a growth puts the cursor."""
     right = "min(file.cursor, call.size)"
     return replaced("tree.truncate", right, f"{place} if call.size > node.size else {right}")
+
+
+def overlapping(condition):
+    """When two maps are taken to have a byte in common."""
+    return replaced("rules.overlap", "one < other + other_length and other < one + one_length", condition)
+
+
+def looked_at(condition):
+    """Which bytes of a map are taken not to be zero."""
+    return replaced("tree.ask_map", "reply[ADDRESS:] != bytes(length)", condition)
 
 
 IF_GROWN = "if call.size > node.size"
@@ -468,6 +478,127 @@ MUTATIONS = {
         "* added",
         "* min(added, 1) + [bytes(32)] * (added - 1)",
     ),
+    # maps
+    "a map of no bytes": replaced("rules", "UNIT <= length <= MAX_MAP", "length <= MAX_MAP"),
+    "a map of 69,632": replaced("rules", "UNIT <= length <= MAX_MAP", "UNIT <= length <= MAX_MAP + UNIT"),
+    "no map of 65,536": replaced("rules", "UNIT <= length <= MAX_MAP", "UNIT <= length < MAX_MAP"),
+    "a map of any length": replaced("rules", " and length % UNIT == 0", ""),
+    "a map of half a unit more": replaced("rules", "length % UNIT == 0", "length % (UNIT // 2) == 0"),
+    "a map's length is cut to three bytes": replaced(
+        "rules",
+        "UNIT <= length <= MAX_MAP",
+        "UNIT <= length % 2**24 <= MAX_MAP",
+    ),
+    "seventeen maps": replaced("tree.map", "== MAX_MAPS", "== MAX_MAPS + 1"),
+    "fifteen maps": replaced("tree.map", "== MAX_MAPS", ">= MAX_MAPS - 1"),
+    "a seventeenth map is 28": replaced("tree.map", "refuse(12", "refuse(28"),
+    "12 before 22": added(
+        "tree.on_call",
+        "refuse(22",
+        "refuse(12, event.data[:1] == b'\\x0e' and len(self.maps) == MAX_MAPS)",
+    ),
+    "12 before 34": added(
+        "tree.on_call",
+        "refuse(34",
+        "refuse(12, event.data[:1] == b'\\x0e' and len(self.maps) == MAX_MAPS)",
+    ),
+    "12 for an unmap": added("tree.unmap", "refuse(22", "refuse(12, len(self.maps) == MAX_MAPS)"),
+    "a map sends its length alone": replaced("tree.map", "call.raw", "call.raw[1:]"),
+    "a map is done with its length": replaced("tree.map", "Done(address)", "Done(call.length)"),
+    "a map is done with 0": replaced("tree.map", "Done(address)", "Done(0)"),
+    "a map is done with four bytes of its address": replaced("tree.map", "Done(address)", "Done(address % 2**32)"),
+    "a map gives its bytes": replaced("tree.map", "Done(address)", "Done(address, bytes(call.length))"),
+    "a map is not kept": dropped("tree.map", "self.maps[address] ="),
+    "a map is kept as one unit": replaced("tree.map", "= call.length", "= UNIT"),
+    "a map is kept as the largest": replaced("tree.map", "= call.length", "= 65_536"),
+    "a map's reply of another length": dropped("tree.ask_map", "stop(1"),
+    "a map's reply of another length is 8": replaced("tree.ask_map", "stop(1", "stop(8"),
+    "a map's reply may be longer": replaced(
+        "tree.ask_map",
+        "len(reply) != ADDRESS + length",
+        "len(reply) < ADDRESS + length",
+    ),
+    "8 before 1": delayed("tree.ask_map", "stop(1", "stop(8, reply"),
+    "a map's reply is a status": added("tree.ask_map", "stop(1", "stop(2, len(reply) == 4)"),
+    "address 0": replaced("tree.ask_map", "address == 0 or ", ""),
+    "every address": dropped("tree.ask_map", "address % UNIT"),
+    "an address of half a unit": replaced("tree.ask_map", "address % UNIT", "address % (UNIT // 2)"),
+    "an address is signed": replaced("tree.ask_map", "rules.unsigned", "rules.signed"),
+    "an address of four bytes": replaced("tree.ask_map", "reply[:ADDRESS]", "reply[:4]"),
+    "a map beyond the space": dropped("tree.ask_map", "> SPACE"),
+    "a map one unit beyond the space": replaced("tree.ask_map", "> SPACE", "> SPACE + UNIT"),
+    "no map up to the end of the space": replaced("tree.ask_map", "> SPACE", ">= SPACE"),
+    "address + length modulo 2^64": replaced("tree.ask_map", "address + length", "(address + length) % SPACE"),
+    "a wrong address is 3": replaced("tree.ask_map", "stop(8, address == 0", "stop(3, address == 0"),
+    "a map beyond the space is 3": replaced("tree.ask_map", "stop(8, address + length", "stop(3, address + length"),
+    "an overlap is 3": replaced("tree.ask_map", "stop(8, any", "stop(3, any"),
+    "a byte that is not zero is 5": replaced("tree.ask_map", "stop(8, reply", "stop(5, reply"),
+    "every overlap": dropped("tree.ask_map", "rules.overlap"),
+    "overlaps with the first map alone": replaced(
+        "tree.ask_map",
+        "self.maps.items()",
+        "list(self.maps.items())[:1]",
+    ),
+    "overlaps with the last map alone": replaced(
+        "tree.ask_map",
+        "self.maps.items()",
+        "list(self.maps.items())[-1:]",
+    ),
+    "overlaps with all maps but the last": replaced(
+        "tree.ask_map",
+        "self.maps.items()",
+        "list(self.maps.items())[:-1]",
+    ),
+    "overlaps with eight maps": replaced("tree.ask_map", "self.maps.items()", "list(self.maps.items())[:8]"),
+    "an overlap of first addresses": overlapping("one == other"),
+    "an overlap by the new map's first address": overlapping("other <= one < other + other_length"),
+    "an overlap by the old map's first address": overlapping("one <= other < one + one_length"),
+    "no overlap around": overlapping(
+        "other <= one < other + other_length or other < one + one_length <= other + other_length",
+    ),
+    "an overlap modulo 2^64": overlapping(
+        "one < (other + other_length) % 2**64 and other < (one + one_length) % 2**64",
+    ),
+    "no map just above another": overlapping("one <= other + other_length and other < one + one_length"),
+    "no map just below another": overlapping("one < other + other_length and other <= one + one_length"),
+    "every byte": dropped("tree.ask_map", "stop(8, reply"),
+    "the first 4,096 bytes alone": looked_at("reply[ADDRESS : ADDRESS + UNIT] != bytes(UNIT)"),
+    "the last 4,096 bytes alone": looked_at("reply[-UNIT:] != bytes(UNIT)"),
+    "all bytes but the first": looked_at("reply[ADDRESS + 1 :] != bytes(length - 1)"),
+    "all bytes but the last": looked_at("reply[ADDRESS:-1] != bytes(length - 1)"),
+    "the first byte of each unit": looked_at("any(reply[ADDRESS::UNIT])"),
+    "ones are as good as zeros": looked_at("reply[ADDRESS:] not in (bytes(length), b'\\xff' * length)"),
+    "an unmap of any address": dropped("tree.unmap", "refuse(22"),
+    "an unmap of no map is 9": replaced("tree.unmap", "refuse(22", "refuse(9"),
+    "an unmap of no map is done": added("tree.unmap", "refuse(22", "if call.address not in self.maps: return Done(0)"),
+    "an unmap by any byte of a map": replaced(
+        "tree.unmap",
+        "call.address not in self.maps",
+        "not any(rules.overlap(call.address, 1, *live) for live in self.maps.items())",
+    ),
+    "an unmap by four bytes of its address": replaced(
+        "tree.unmap",
+        "call.address not in self.maps",
+        "call.address % 2**32 not in {address % 2**32 for address in self.maps}",
+    ),
+    "an unmap sends its address alone": replaced("tree.unmap", "call.raw", "call.raw[1:]"),
+    "an unmap sends nothing": replaced("tree.unmap", "self.ask_status(call.raw)", "()"),
+    "an unmap takes any status": replaced("tree.unmap", "yield from self.ask_status(call.raw)", "yield call.raw"),
+    "an unmap is done with its address": replaced("tree.unmap", "Done(0)", "Done(call.address)"),
+    "an unmap leaves the map": dropped("tree.unmap", "del "),
+    "an unmap ends every map": replaced("tree.unmap", "del self.maps[call.address]", "self.maps.clear()"),
+    "an unmap ends the map before its reply": replaced(
+        "tree.unmap",
+        "yield from self.ask_status(call.raw)\n        del self.maps[call.address]",
+        "del self.maps[call.address]\n        yield from self.ask_status(call.raw)",
+    ),
+    "an unmap leaves the room": replaced("tree.unmap", "del self.maps[call.address]", "self.maps[call.address] = 0"),
+    "a save while maps live is refused": replaced("tree.on_save", "self.open_files", "self.open_files or self.maps"),
+    "a load while maps live is refused": replaced("tree.on_load", "self.open_files", "self.open_files or self.maps"),
+    "a save ends every map": added("tree.on_save", "return Done", "self.maps.clear()"),
+    "a load ends every map": added("tree.on_load", "return Done", "self.maps.clear()"),
+    "an image with maps": replaced("tree.on_save", "= write_image", "= bytes(len(self.maps)) + write_image"),
+    "a stop ends every map": added("tree.advance", "self.stopped = True", "self.maps.clear()"),
     # replies
     "a status of another length": dropped("tree.ask_status", "stop(1"),
     "2 before 1": delayed("tree.ask_status", "stop(1", "stop(2"),
@@ -647,8 +778,10 @@ def differs(make_guard, recording):
 
 
 def lists():
-    """The lists that must tell every mutation, by seed; every fifth in longer buffers, every fifth of growing files."""
-    makers = [generate_longer, generate_growing, generate, generate, generate]
+    """The lists that must tell every mutation, by seed; of seven, one in longer buffers, one of growing files, two of
+    maps.
+    """
+    makers = [generate_longer, generate_growing, generate_mapping, generate_mapping, generate, generate, generate]
     return [(seed, makers[seed % len(makers)](seed)) for seed in SEEDS]
 
 

@@ -9,7 +9,9 @@ from . import calls
 from .edges import EDGES, FULL, crowd, files, image
 from .events import Call, Load, Reply, Save
 from .image import LONGEST
-from .rules import ANSWER, MAX_COUNT, MAX_NAME, MAX_NODES, MAX_OPEN, MAX_PATH, MAX_SIZE, PAGE, REQUEST, put
+from .rules import (
+    ANSWER, MAX_COUNT, MAX_MAP, MAX_MAPS, MAX_NAME, MAX_NODES, MAX_OPEN, MAX_PATH, MAX_SIZE, PAGE, REQUEST, UNIT, put,
+)
 from .script import load_of
 
 LONG = b"n" * (MAX_NAME + 1)
@@ -80,7 +82,7 @@ def n22_malformed_fields(s):
     s.house()
     handle = s.file(b"/g", b"12345")
     for wrong in (
-        b"", b"\0/f", b"\x0e/f", b"\xff/f", b"\x01", b"\x01\x07", b"\x0d",
+        b"", b"\0/f", b"\x0e/f", b"\x10/f", b"\xff/f", b"\x01", b"\x01\x07", b"\x0d",
         calls.create(8, b"/a"), calls.mkdir(8, b"/a"), calls.chmod(8, b"/f"), calls.chmod(255, b"/f"),
         calls.open_(0, b"/f"), calls.open_(4, b"/f"), calls.open_(255, b"/f"),
         calls.close(handle)[:-1], calls.close(handle) + b"\0",
@@ -118,6 +120,47 @@ def n22_malformed_places(s):
         s.expect("refused 22", calls.seek(handle, wrong))
     s.expect("done 5", calls.seek(handle, 5))
     s.expect("done 0", calls.truncate(handle, 5))
+
+
+def n22_malformed_maps(s):
+    """A length is one to sixteen units in four bytes, an address has eight; behind them stand no calls yet."""
+    for length in (
+        0, 1, UNIT - 1, UNIT + 1, UNIT // 2, UNIT + UNIT // 2, 2 * UNIT - 1, MAX_MAP - 1, MAX_MAP + 1, MAX_MAP + UNIT,
+        2 * MAX_MAP, (1 << 24) + UNIT, 1 << 31, (1 << 32) - UNIT, (1 << 32) - 1,
+    ):
+        s.expect("refused 22", calls.map_(length))
+    for call in (calls.map_(UNIT), calls.unmap(UNIT)):
+        for wrong in (call[:1], call[:2], call[:-1], call + b"\0", call + call[1:]):
+            s.expect("refused 22", wrong)
+    for length in (UNIT, 2 * UNIT):
+        s.expect_end("done", calls.map_(length))
+    for wrong in (calls.unmap(UNIT)[:-1], calls.unmap(UNIT) + b"\0", b"\x10", b"\x10" + put(UNIT, 4)):
+        s.expect("refused 22", wrong)
+    s.expect_end("done 0", calls.unmap(UNIT))
+
+
+def n22_no_map(s):
+    s.expect("refused 22", calls.unmap(UNIT))
+    s.expect_end("done 4096", calls.map_(2 * UNIT))
+    for address in (0, UNIT + 1, 2 * UNIT, 3 * UNIT, (1 << 32) + UNIT):
+        s.expect("refused 22", calls.unmap(address))
+    s.expect_end("done 0", calls.unmap(UNIT))
+    s.expect("refused 22", calls.unmap(UNIT))
+
+
+def n12_maps(s):
+    """In the place of any of the sixteen there is room for one more, and for one alone."""
+    for _ in range(MAX_MAPS):
+        s.expect_end("done", calls.map_(UNIT))
+    s.expect("refused 12", calls.map_(UNIT))
+    s.expect("refused 12", calls.map_(MAX_MAP))
+    for unit in (3, 1, MAX_MAPS):
+        s.expect_end("done 0", calls.unmap(unit * UNIT))
+        s.expect_end(f"done {unit * UNIT}", calls.map_(UNIT))
+        s.expect("refused 12", calls.map_(UNIT))
+    for unit in range(1, MAX_MAPS + 1):
+        s.expect_end("done 0", calls.unmap(unit * UNIT))
+    s.expect("refused 22", calls.unmap(UNIT))
 
 
 def n36_long(s):
@@ -530,6 +573,25 @@ def both_27_and_28_at_truncate(s):
         s.expect("refused 27", calls.truncate(handle, (1 << 64) - 1))
     s.expect("refused 28", calls.truncate(18, MAX_SIZE))
     s.expect_end("done 0", calls.truncate(17, MAX_SIZE))
+
+
+def both_22_and_12(s):
+    """And the numbers before them, while sixteen maps live."""
+    for _ in range(MAX_MAPS):
+        s.do(calls.map_(UNIT))
+    for wrong in (calls.map_(0), calls.map_(UNIT + 1), calls.map_(MAX_MAP + UNIT), calls.map_(UNIT)[:-1]):
+        s.expect("refused 22", wrong)
+    s.expect("refused 12", calls.map_(UNIT))
+    for call in (calls.map_(UNIT), calls.unmap(0)):
+        s.expect("refused 34", Call(call, 0, 0))
+    s.expect("ask", calls.unmap(UNIT))
+    for call in (calls.map_(UNIT), calls.unmap(0)):
+        s.expect("refused 114", call)
+    s.expect("done 0", STATUS_0)
+    s.expect_end("done 4096", calls.map_(UNIT))
+    s.stop()
+    for call in (calls.map_(UNIT), calls.unmap(0)):
+        s.expect("refused 5", call)
 
 
 def both_114_and_16(s):

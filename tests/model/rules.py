@@ -17,9 +17,16 @@ PAGE = 1024
 MAX_SIZE = 65_536
 MAX_PATH = 255
 MAX_NAME = 32
+UNIT = 4096  # maps begin and end at multiples of it
+MAX_MAP = 65_536
+MAX_MAPS = 16
+ADDRESS = 8  # the width of an address
+SPACE = 1 << 8 * ADDRESS  # the first address that there is not
 
 # SPECIFICATION 4
-CREATE, MKDIR, OPEN, CLOSE, SEEK, READ, WRITE, TRUNCATE, REMOVE, RMDIR, CHMOD, READDIR, STAT = range(1, 14)
+(
+    CREATE, MKDIR, OPEN, CLOSE, SEEK, READ, WRITE, TRUNCATE, REMOVE, RMDIR, CHMOD, READDIR, STAT, MAP, UNMAP,
+) = range(1, 16)
 READ_RIGHT, WRITE_RIGHT = 1, 2
 MAX_COUNT = 4096
 
@@ -27,6 +34,7 @@ MAX_COUNT = 4096
 MAX_DESCRIPTOR = 1023
 ANSWER = (MAX_NODES - 1) * (ID + 1 + 1 + MAX_NAME)  # the longest listing: 9,690
 REQUEST = 1 + 4 + 4 + 4 + PAGE  # a store: 1,037
+REPLY = ADDRESS + MAX_MAP  # the longest right reply: that to the largest map, 65,544
 
 
 def put(number, width):
@@ -100,14 +108,19 @@ FIELDS = {
     RMDIR: ("path",),
     READDIR: ("path",),
     STAT: ("path",),
+    MAP: ("length",),
+    UNMAP: ("address",),
 }
-WIDTHS = {"mode": 1, "rights": 1, "handle": ID, "position": 8, "count": 4, "size": 8}  # others take the rest
+WIDTHS = {  # others take the rest
+    "mode": 1, "rights": 1, "handle": ID, "position": 8, "count": 4, "size": 8, "length": 4, "address": ADDRESS,
+}
 FORMS = {
     "mode": lambda mode: mode <= MAX_MODE,
     "rights": lambda rights: 1 <= rights <= 3,
     "count": lambda count: count <= MAX_COUNT,
     "data": lambda data: len(data) <= MAX_COUNT,
     "path": lambda path: read_path(path) is not None,
+    "length": lambda length: UNIT <= length <= MAX_MAP and length % UNIT == 0,
 }
 
 
@@ -124,6 +137,8 @@ class ParsedCall:
     count: int = 0
     size: int = 0
     data: bytes = b""
+    length: int = 0
+    address: int = 0
 
     @property
     def kind(self):
@@ -197,6 +212,11 @@ def split_listing(reply):
         entries.append(reply[at : at + length])
         at += length
     return entries
+
+
+def overlap(one, one_length, other, other_length):
+    """Whether two maps have a byte in common; where one ends the other may begin."""
+    return one < other + other_length and other < one + one_length
 
 
 def stat_reply(node):

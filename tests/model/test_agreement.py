@@ -5,10 +5,11 @@ honest host.
 import unittest
 from random import Random
 
+from . import calls
 from .edges import image, sample
-from .events import Done, Load, Save, Stopped
-from .generate import Generator, GrowingGenerator
-from .rules import unsigned
+from .events import Call, Done, Load, Refused, Save, Stopped
+from .generate import Generator, GrowingGenerator, MappingGenerator
+from .rules import MAX_MAPS, SPACE, UNIT, unsigned
 from .script import Script, load_of
 from .transcripts import SCRIPTS
 from .tree import guard, tree
@@ -17,8 +18,8 @@ SEEDS = range(10_000, 10_150)
 
 
 def generator(seed):
-    """Every third is of growing files."""
-    return (Generator if seed % 3 else GrowingGenerator)(Random(seed))
+    """In turn of all calls of files, of growing files, of maps."""
+    return (Generator, GrowingGenerator, MappingGenerator)[seed % 3](Random(seed))
 
 
 def of_saves(steps):
@@ -86,6 +87,26 @@ class Agreement(unittest.TestCase):
             lambda data, size: data.ljust(size + 1, b"\0"),
         ):
             self.assertTrue(any(stops_with(grown, seed) for seed in range(100)))
+
+    def test_maps_keep_apart(self):
+        """Whatever the host replies: sixteen at most, within the space, none over another."""
+        for seed in SEEDS:
+            maps = sorted(MappingGenerator(Random(seed)).run(80).guard.maps.items())
+            ends = [0, *(address + length for address, length in maps)]
+            self.assertLessEqual(len(maps), MAX_MAPS)
+            self.assertLessEqual(ends[-1], SPACE)
+            for (address, _), end in zip(maps, ends):
+                self.assertEqual((address % UNIT, address >= max(end, UNIT)), (0, True))
+
+    def test_power_up_forgets_maps(self):
+        """A guard that takes the image of one with maps has none."""
+        s = Script()
+        s.do(calls.map_(UNIT))
+        saved = s.send(Save(100))
+        after = guard()
+        self.assertEqual(after.step(Load(saved.data, saved.digest)), Done(0))
+        self.assertEqual(after.maps, {})
+        self.assertEqual(after.step(Call(calls.unmap(UNIT))), Refused(22))
 
     def test_a_load_of_no_save_parts_them(self):
         """It is done in both, changes nothing in the tree, and is taken by the guard."""

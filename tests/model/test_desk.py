@@ -44,6 +44,17 @@ class Desk(unittest.TestCase):
         ):
             self.assertEqual(desk.answers([line]), [answer])
 
+    def test_a_map_that_no_line_can_answer(self):
+        """The right reply to a large map is a bad line; the request stands until a wrong one stops the guard."""
+        lines = ["c 0e00300000", "r 0010000000000000" + "00" * 12_288, "c 0d2f", "r 0010000000000000", "c 0e00100000"]
+        answers = ["ask 0e00300000", "bad line", "refused 114", "stopped 1", "refused 5"]
+        self.assertEqual(desk.answers(map(str.encode, lines)), answers)
+
+    def test_the_largest_map_that_a_line_answers(self):
+        lines = ["c 0e00200000", "r 0010000000000000" + "00" * 8192, "c 0f0010000000000000", "r 00000000"]
+        answers = ["ask 0e00200000", "done 4096", "ask 0f0010000000000000", "done 0"]
+        self.assertEqual(desk.answers(map(str.encode, lines)), answers)
+
     def test_a_bad_line_never_reaches_the_guard(self):
         stat = "01000000020700000000"
         lines = ["c 0d2f", "r 0", f"r {stat}", "c 0d2f", "r ", "r 0", "c 0d2f"]

@@ -13,7 +13,8 @@ class Transcripts(unittest.TestCase):
 
     def test_length(self):
         self.assertGreaterEqual(len(self.lines), 40_000)
-        self.assertLessEqual(max(map(len, self.lines)), 90_000)
+        self.assertLessEqual(max(map(len, self.lines)), 131_200)
+        self.assertLessEqual(max(len(line) for line in self.lines if line[0] in "cr"), 2 + 2 * 65_552)
 
     def test_same_each_time(self):
         self.assertEqual(self.lines, list(all_lines()))

@@ -4,7 +4,8 @@
     python3 -m model.transcripts trials > FILE   the trials (SPECIFICATION 11.1) alone, each with its words
 
 One line is one thing; its first character says which. Fields stand one blank apart, numbers are decimal, bytes are
-lower-case hexadecimal, and no bytes are no digits (`c `, `l  `). No line has more than 90,000 characters.
+lower-case hexadecimal, and no bytes are no digits (`c `, `l  `). No line has more than 131,200 characters,
+and no event more than 65,552 bytes.
 
     f NAME              a fresh guard, and buffers of 9,690 and 1,037 bytes; a list of this name begins
     b ANSWER REQUEST    settings: the lengths of both buffers for the calls and replies that follow
@@ -21,16 +22,17 @@ A later kind of event or setting takes a letter of its own, so stored lines stay
 
 import sys
 
-from . import dishonest, numbers, pages, trials
+from . import dishonest, maps, numbers, pages, trials
 from .events import Call, Load, Reply, Save
-from .generate import generate, generate_growing, generate_longer
+from .generate import generate, generate_growing, generate_longer, generate_mapping
 from .rules import ANSWER, REQUEST
 from .script import Script
 
-SCRIPTS = [*trials.TRIALS, *numbers.NUMBERS, *numbers.NEIGHBOURS, *pages.PAGES]
+SCRIPTS = [*trials.TRIALS, *numbers.NUMBERS, *numbers.NEIGHBOURS, *pages.PAGES, *maps.MAPS]
 SEEDS = range(100)
 LONGER_SEEDS = range(100, 120)
 GROWING_SEEDS = range(120, 150)
+MAPPING_SEEDS = range(150, 161)
 
 
 def recordings():
@@ -46,6 +48,8 @@ def recordings():
         yield f"seed {seed}, longer buffers", generate_longer(seed)
     for seed in GROWING_SEEDS:
         yield f"seed {seed}, growing files", generate_growing(seed)
+    for seed in MAPPING_SEEDS:
+        yield f"seed {seed}, maps", generate_mapping(seed)
 
 
 def write_list(name, steps, shown={}):

@@ -21,8 +21,8 @@ from . import rules
 from .events import Ask, Call, Done, Load, Refused, Reply, Save, Stopped
 from .image import DIGEST, read_image, write_image
 from .rules import (
-    ANSWER, DIRECTORY, FILE, ID, MAX_DESCRIPTOR, MAX_NODES, MAX_OPEN, MAX_PAGES, MAX_SIZE, PAGE,
-    READ_BIT, READ_RIGHT, REQUEST, SEARCH_BIT, WRITE_BIT, WRITE_RIGHT, Node, pages_between, pages_of,
+    ADDRESS, ANSWER, DIRECTORY, FILE, ID, MAX_DESCRIPTOR, MAX_MAPS, MAX_NODES, MAX_OPEN, MAX_PAGES, MAX_SIZE, PAGE,
+    READ_BIT, READ_RIGHT, REQUEST, SEARCH_BIT, SPACE, UNIT, WRITE_BIT, WRITE_RIGHT, Node, pages_between, pages_of,
 )
 
 
@@ -97,19 +97,22 @@ def stop(reason, condition):
 
 
 class Machine:
-    """Nodes in order of creation, open files by handle, the pending call, whether it stopped; what the store keeps."""
+    """Nodes in order of creation, open files by handle, the pending call, whether it stopped; what the store keeps.
+    Beside them the maps that live, each length by its address, which no save, load or image knows of.
+    """
 
     def __init__(self, store):
         self.store = store
         self.nodes = [rules.root()]
         self.open_files = {}
+        self.maps = {}
         self.pending = None
         self.stopped = False
 
     def tables(self):
-        """What is compared after a list: nodes in order, open files by handle, each page's digest."""
+        """What is compared after a list: nodes in order, open files by handle, each page's digest, the maps."""
         nodes = [{**vars(node), "pages": self.digests_of(node)} for node in self.nodes]
-        return nodes, {handle: dict(vars(file)) for handle, file in self.open_files.items()}
+        return nodes, {handle: dict(vars(file)) for handle, file in self.open_files.items()}, dict(self.maps)
 
     # events
 
@@ -329,6 +332,20 @@ class Machine:
         node.size = call.size
         return Done(0)
 
+    # maps
+
+    def map(self, call):
+        refuse(12, len(self.maps) == MAX_MAPS)
+        address = yield from self.ask_map(call.raw, call.length)
+        self.maps[address] = call.length
+        return Done(address)
+
+    def unmap(self, call):
+        refuse(22, call.address not in self.maps)
+        yield from self.ask_status(call.raw)
+        del self.maps[call.address]
+        return Done(0)
+
     # requests with their replies
 
     def ask_status(self, request, expected=0):
@@ -351,6 +368,16 @@ class Machine:
         stop(4, any(file.descriptor == descriptor for file in self.open_files.values()))
         return descriptor
 
+    def ask_map(self, request, length):
+        reply = yield request
+        stop(1, len(reply) != ADDRESS + length)
+        address = rules.unsigned(reply[:ADDRESS])
+        stop(8, address == 0 or address % UNIT)
+        stop(8, address + length > SPACE)
+        stop(8, any(rules.overlap(address, length, *live) for live in self.maps.items()))
+        stop(8, reply[ADDRESS:] != bytes(length))
+        return address
+
     def fetch(self, file, node, page):
         reply = yield rules.fetch_request(file.descriptor, page)
         stop(1, len(reply) != PAGE)
@@ -364,7 +391,8 @@ class Machine:
 CALLS = {
     rules.CREATE: "create", rules.MKDIR: "create", rules.OPEN: "open", rules.CLOSE: "close", rules.SEEK: "seek",
     rules.READ: "read", rules.WRITE: "write", rules.TRUNCATE: "truncate", rules.REMOVE: "remove",
-    rules.RMDIR: "rmdir", rules.CHMOD: "chmod", rules.READDIR: "readdir", rules.STAT: "stat",
+    rules.RMDIR: "rmdir", rules.CHMOD: "chmod", rules.READDIR: "readdir", rules.STAT: "stat", rules.MAP: "map",
+    rules.UNMAP: "unmap",
 }
 
 

@@ -58,7 +58,7 @@ static void call(const char *digits)
     for (unsigned byte; sscanf(digits, "%2x", &byte) == 1; digits += 2)
         bytes[n++] = (uint8_t)byte;
     guard_outcome o = client_call(&c, bytes, n);
-    printf("%s %d ", guard_outcome_name(o.kind), (int)o.number);
+    printf("%s %llu ", guard_outcome_name(o.kind), (unsigned long long)o.number);
     for (size_t i = 0; i < o.length; i++)
         printf("%02x", c.layer.answer[i]);
 }

@@ -19,7 +19,8 @@ from model import calls
 
 WORK = [
     [calls.create(6, b"/a"), calls.open_(3, b"/a"), calls.write(2, b"1" * 1500), calls.close(2), calls.mkdir(7, b"/d")],
-    [calls.create(7, b"/d/b"), calls.open_(3, b"/a"), calls.truncate(2, 700), calls.close(2), calls.chmod(4, b"/d/b")],
+    [calls.create(7, b"/d/b"), calls.open_(3, b"/a"), calls.truncate(2, 700), calls.close(2), calls.chmod(4, b"/d/b"),
+     calls.map_(8192)],
     [calls.remove(b"/d/b"), calls.rmdir(b"/d"), calls.open_(3, b"/a"), calls.write(2, b"third"), calls.close(2)],
 ]
 LOOKS = [

@@ -2,13 +2,13 @@
 --   called, calledWith    what the machine makes of what was read, and of the bytes
 --   Calls                 outcome, memory and request buffer are those
 -- Assumes nothing.
-use mathlib.Core.List.{List, _∷_}
+use mathlib.Core.List.{List, _∷_, _++_}
 use mathlib.Core.Option.{Option}
 use Prim.Native.Nat.{ℕ}
 use Rattle.lists.specs.Checks.{decide}
 use Rattle.rules.specs.Calls.{Call, readCall}
 use Rattle.rules.specs.Skeleton.{Config}
-use Rattle.rules.specs.Rules.{refuse, callChecks, callAction, callOr, isNone}
+use Rattle.rules.specs.Rules.{refuse, callChecks, mapChecks, callAction, callOr, isNone}
 use Rattle.machine.specs.Machine.{State, Result, apply, guard as digestStore}
 use denote.Ref.{now}
 use Rattle.numbers.specs.Slices.{Lent, KeepsLength}
@@ -21,7 +21,8 @@ module _ (c : Config) (s : State (digestStore c)) where
   unfoldable pub called : Option Call → Result (digestStore c)
   called q =
       apply c (digestStore c) s
-      (decide refuse ((22, isNone q) ∷ callChecks (s .skeleton .tables) (callOr q))
+      (decide refuse ((22, isNone q) ∷ (callChecks (s .skeleton .tables) (callOr q)
+      ++ mapChecks (s .skeleton .maps) (callOr q)))
       (callAction (s .skeleton .tables) (c .width) (callOr q)))
 
   unfoldable pub calledWith : List ℕ → Result (digestStore c)

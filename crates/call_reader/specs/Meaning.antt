@@ -3,6 +3,7 @@
 --   meant                 the call that a parsed call is
 --   NumberFits, Ranges    what its numbers may be
 -- Assumes nothing.
+use mathlib.Core.Bool.{true}
 use mathlib.Core.List.{List}
 use mathlib.Core.Option.{Option, some, none}
 use mathlib.Core.Path.{_≡_}
@@ -13,10 +14,11 @@ use Rattle.lists.specs.Pick.{pick}
 use Rattle.filesystem.specs.Tables.{ID-BYTES, DATA-BYTES}
 use Rattle.filesystem.specs.Paths.{Path}
 use Rattle.rules.specs.Calls.{Call, create, mkdir, openAs, close, seek, read, write, truncate, remove, rmdir, chmod}
-use Rattle.rules.specs.Calls.{readdir, stat, byPath}
+use Rattle.rules.specs.MapRules.{isMapSize}
+use Rattle.rules.specs.Calls.{readdir, stat, mapMemory, unmap, byPath}
 use Rattle.call_reader.specs.declared.ParsedCall.{ParsedCall}
 use Rattle.call_reader.specs.declared.ParsedCall.the-variants.{ByPath, Close, Seek, Read, Write, Truncate}
-use Rattle.call_reader.specs.declared.ParsedCall.the-variants.{Malformed}
+use Rattle.call_reader.specs.declared.ParsedCall.the-variants.{Map, Unmap, Malformed}
 
 -- the call of a kind with a path
 unfoldable pub madeBy : (kind number : ℕ) → Path → Call
@@ -37,6 +39,8 @@ meant (Seek h n) s = some (seek h n)
 meant (Read h n) s = some (read h n)
 meant (Write h start) s = some (write h (drop start s))
 meant (Truncate h n) s = some (truncate h n)
+meant (Map n) s = some (mapMemory n)
+meant (Unmap a) s = some (unmap a)
 meant Malformed s = none
 
 -- a kind with a path, and the mode or the rights that it can have
@@ -55,4 +59,6 @@ Ranges (Seek h n) size = (h < 256 ^ ID-BYTES) × (n < 256 ^ 8)
 Ranges (Read h n) size = (h < 256 ^ ID-BYTES) × (n ≤ DATA-BYTES)
 Ranges (Write h start) size = (h < 256 ^ ID-BYTES) × (start ≤ size) × (size - start ≤ DATA-BYTES)
 Ranges (Truncate h n) size = (h < 256 ^ ID-BYTES) × (n < 256 ^ 8)
+Ranges (Map n) size = isMapSize n ≡ true
+Ranges (Unmap a) size = a < 256 ^ 8
 Ranges Malformed size = Unit {0}

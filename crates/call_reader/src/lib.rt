@@ -8,7 +8,9 @@ ghost use lib.ListN.{length, drop};
 ghost use Rattle.lists.specs.All.{Bytes};
 ghost use Rattle.filesystem.specs.Tables.{ID-BYTES, DATA-BYTES};
 ghost use Rattle.rules.specs.Calls.{close, seek, read, write, truncate, byPath, byNumberAndPath, byHandle};
-ghost use Rattle.rules.specs.Calls.{byHandleAndNumber, byHandleAndBytes, readFields, readCall};
+ghost use Rattle.rules.specs.MapRules.{isMapSize};
+ghost use Rattle.rules.specs.Calls.{byHandleAndNumber, byHandleAndBytes, byNumber, readFields, readCall, mapMemory};
+ghost use Rattle.rules.specs.Calls.{unmap};
 ghost use Rattle.call_reader.specs.Meaning.{madeBy, meant, NumberFits, Ranges};
 use limits::kinds;
 
@@ -23,6 +25,8 @@ pub enum ParsedCall {
     // The data are the call's bytes from `start` on.
     Write { handle: u64, start: usize },
     Truncate { handle: u64, size: u64 },
+    Map { size: u32 },
+    Unmap { address: u64 },
     Malformed,
 }
 
@@ -149,6 +153,48 @@ fn read_write(s: &[u8]) -> ParsedCall
     }
 }
 
+// 1 to 16 units.
+fn is_map_size(n: u32) -> bool
+    ensures { λ r. ⌜ r ≡ isMapSize n ⌝ }
+{
+    if (n as usize) < limits::MAP_UNIT {
+        return false;
+    }
+    if limits::MAP_BYTES < n as usize {
+        return false;
+    }
+    n as usize % limits::MAP_UNIT == 0
+}
+
+// map: a size.
+fn read_map(s: &[u8]) -> ParsedCall
+    requires { ⌜ (0 < length (now s)) × Bytes (now s) ⌝ }
+    ensures { λ r. ⌜ (meant r (now (s .entry)) ≡ byNumber 4 isMapSize mapMemory (drop 1 (now (s .entry))))
+        × Ranges r (length (now (s .entry))) ⌝ }
+{
+    if s.len() != 1 + 4 {
+        return ParsedCall::Malformed;
+    }
+    let size = numbers::u32_at(s, 1);
+    if is_map_size(size) {
+        return ParsedCall::Map { size };
+    }
+    ParsedCall::Malformed
+}
+
+// unmap: an address.
+fn read_unmap(s: &[u8]) -> ParsedCall
+    requires { ⌜ (0 < length (now s)) × Bytes (now s) ⌝ }
+    ensures { λ r. ⌜ (meant r (now (s .entry)) ≡ byNumber 8 (λ n. true) unmap (drop 1 (now (s .entry))))
+        × Ranges r (length (now (s .entry))) ⌝ }
+{
+    if s.len() != 1 + 8 {
+        return ParsedCall::Malformed;
+    }
+    let address = numbers::u64_at(s, 1);
+    ParsedCall::Unmap { address }
+}
+
 // ---- by the kind
 
 // close, seek, read, write, truncate.
@@ -194,6 +240,18 @@ fn read_by_path(s: &[u8], kind: u8) -> ParsedCall
     }
 }
 
+// map, unmap.
+fn read_on_maps(s: &[u8], kind: u8) -> ParsedCall
+    requires { ⌜ (0 < length (now s)) × Bytes (now s) × (14 ≤ kind) × (kind ≤ 15) ⌝ }
+    ensures { λ r. ⌜ (meant r (now (s .entry)) ≡ readFields ID-BYTES kind (drop 1 (now (s .entry))))
+        × Ranges r (length (now (s .entry))) ⌝ }
+{
+    match kind {
+        kinds::MAP => read_map(s),
+        _ => read_unmap(s),
+    }
+}
+
 // Any bytes.
 pub fn read_call(s: &[u8]) -> ParsedCall
     ensures { λ r. ⌜ (meant r (now (s .entry)) ≡ readCall ID-BYTES (now (s .entry)))
@@ -207,6 +265,7 @@ pub fn read_call(s: &[u8]) -> ParsedCall
         kinds::CREATE..=kinds::OPEN => read_opening(s, kind),
         kinds::CLOSE..=kinds::TRUNCATE => read_by_handle(s, kind),
         kinds::REMOVE..=kinds::STAT => read_by_path(s, kind),
+        kinds::MAP..=kinds::UNMAP => read_on_maps(s, kind),
         _ => ParsedCall::Malformed,
     }
 }

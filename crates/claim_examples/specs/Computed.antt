@@ -21,10 +21,10 @@ use Rattle.filesystem.specs.Rights.{coverTable, covers}
 use Rattle.filesystem.specs.Paths.{joined, pathBytes, componentForm, onto, split, afterSlash, readPath, tooLong, childAt, walk, walkChecks, parentChecks, parentOf, lastOf}
 use Rattle.filesystem.specs.Image.{nodeForm, imageForm, flatten, divide, climb, pathLength, inLimits, parentsEarlier, soundNodes, sound, print, recordsLength, imageLength, parse}
 use Rattle.filesystem.specs.Digests.{replaced}
-use Rattle.rules.specs.Calls.{callBytes, byPath, byNumberAndPath, byHandle, byHandleAndNumber, byHandleAndBytes, readFields, readCall}
+use Rattle.rules.specs.Calls.{callBytes, byPath, byNumberAndPath, byHandle, byHandleAndNumber, byHandleAndBytes, readFields, readCall, byNumber}
 use Rattle.rules.specs.Pages.{pageAt, pageOf, bytesAt, resized, splice, overlay, pagePart, truncating, addedBy, first, last, fetches, fill, sizeSent, cuts, bytesAfter, sizeAfter, cursorAfter, numberOf}
 use Rattle.rules.specs.Requests.{storeLength, isFetch, closeRequest, fetchRequest, storeRequest, cutRequest}
-use Rattle.rules.specs.Rules.{noRoom, callChecks, readAction, callAction, isNumber, isDescriptor, replyChecks, replyAction, isIdle, callOr, imageOr, isNone, eventChecks, eventAction, judge, saving}
+use Rattle.rules.specs.Rules.{noRoom, callChecks, readAction, callAction, isNumber, isDescriptor, replyChecks, replyAction, isIdle, callOr, imageOr, isNone, eventChecks, eventAction, judge, saving, mapChecks, mapReasons, reasons}
 use Rattle.rules.specs.Skeleton.{Config, answerLength, requestLength, Event, call, reply, save, load, Answer, done, ask, refused, stopped, Outcome}
 use Rattle.machine.specs.Machine.{State, imageOf, fresh, readOn, finishChange, pagesStored, askStore, onPage, pagesFrom, apply, step, outcomes, final, zeroDigest, guard}
 use Rattle.machine.specs.Tree.{tree, digestsOf, lookup, goBack}
@@ -133,7 +133,7 @@ pub record Computed : Type 0 where
   pub growths-seen : pagesSeen cheap (fresh cheap (tree cheap)) (shown cheap (guard cheap) (fresh cheap (guard cheap)) growths) ≡ zeroPages
 
 pub computed : Computed
-unfolding pages awaitsPage pageIn pageOut storedPage pageAdded addedBy pagesAfter pageReplied standing shown isFetch cutRequest truncating Honest HonestAt Right RightFor final constant outcomes step judge eventChecks eventAction callChecks callAction readAction replyChecks replyAction isIdle callOr isNone decide pick noRoom apply readOn finishChange pagesStored askStore onPage pagesFrom answerLength requestLength storeLength signed isNumber isDescriptor closeRequest fetchRequest storeRequest pageAt overlay first last fetches fill sizeSent cuts sizeAfter cursorAfter numberOf callBytes byPath byNumberAndPath byHandle byHandleAndNumber byHandleAndBytes readFields readCall joined pathBytes componentForm onto split afterSlash readPath tooLong childAt walk walkChecks parentChecks parentOf lastOf coverTable covers pagesFor pageTotal nodeAt openAt findId findChild children findHandle findDescriptor setMode setSize setCursor bind front get₂ get-as get-all ended whole encode decode every any place select without tab equal cheap imageOr unique put-all nodeForm imageForm flatten divide climb pathLength inLimits parentsEarlier soundNodes sound print recordsLength imageLength parse pageOf bytesAt resized splice pagePart bytesAfter zeroDigest replaced digestsOf lookup goBack
+unfolding pages awaitsPage pageIn pageOut storedPage pageAdded addedBy pagesAfter pageReplied standing shown isFetch cutRequest truncating Honest HonestAt Right RightFor final constant outcomes step judge eventChecks eventAction callChecks callAction readAction replyChecks replyAction isIdle callOr isNone decide pick noRoom apply readOn finishChange pagesStored askStore onPage pagesFrom answerLength requestLength storeLength signed isNumber isDescriptor closeRequest fetchRequest storeRequest pageAt overlay first last fetches fill sizeSent cuts sizeAfter cursorAfter numberOf callBytes byPath byNumberAndPath byHandle byHandleAndNumber byHandleAndBytes readFields readCall joined pathBytes componentForm onto split afterSlash readPath tooLong childAt walk walkChecks parentChecks parentOf lastOf coverTable covers pagesFor pageTotal nodeAt openAt findId findChild children findHandle findDescriptor setMode setSize setCursor bind front get₂ get-as get-all ended whole encode decode every any place select without tab equal cheap imageOr unique put-all nodeForm imageForm flatten divide climb pathLength inLimits parentsEarlier soundNodes sound print recordsLength imageLength parse pageOf bytesAt resized splice pagePart bytesAfter zeroDigest replaced digestsOf lookup goBack mapChecks mapReasons reasons byNumber
 computed = record {
   guard-does = refl;
   replies-right = (

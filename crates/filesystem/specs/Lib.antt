@@ -1,4 +1,5 @@
 pub mod Tables
+pub mod MemoryMaps
 pub mod Rights
 pub mod Paths
 pub mod Image

@@ -3,6 +3,7 @@
 --   numbersOf, numbersIn m    the header's numbers, each within its limit
 --   HasRoot m                 there is a node
 --   pendingIn, gatheredIn     the pending call and what it has gathered, by the header's numbers and the staged bytes
+--   mapsIn v                  the maps that live, by the header's count
 --   stateOf c m               the machine's state that a memory holds
 --   clearedHead, readingHead  the header when nothing is pending, and of a read that waits
 -- Assumes nothing.
@@ -12,12 +13,13 @@ use Prim.Native.Nat.{ℕ, _+_, _/_, _%_, _<_}
 use lib.Dec.{eqb}
 use lib.ListN.{getD, take, drop, set}
 use Rattle.filesystem.specs.Tables.{NODES, PAGE-BYTES, FILE-BYTES, DATA-BYTES}
+use Rattle.filesystem.specs.MemoryMaps.{Map, MAPS}
 use denote.Ref.{now}
 use Rattle.numbers.specs.Slices.{Slice}
 use Rattle.memory.specs.Layout.{memOf, openRows, newDigests}
 use Rattle.rules.specs.Pages.{writing, shrinking, growing}
 use Rattle.rules.specs.Requests.{asked, Pending, idle, creating, opening, closing, removing, changing, listing, stating}
-use Rattle.rules.specs.Requests.{reading, fetching, storing, cutting}
+use Rattle.rules.specs.Requests.{reading, fetching, storing, cutting, mapping, unmapping}
 use Rattle.rules.specs.Skeleton.{Config}
 use Rattle.machine.specs.Machine.{State, Gathered, guard as digestStore}
 use Rattle.tables.specs.View.{View, viewOf, stagedDigests}
@@ -78,6 +80,8 @@ pendings g s =
     ∷ storing (g .node) (g .opened) (shrinking (g .size)) (g .page)
     ∷ cutting (g .node) (g .opened) (shrinking (g .size))
     ∷ cutting (g .node) (g .opened) (growing (g .size))
+    ∷ asked (mapping (g .size))
+    ∷ asked (unmapping (g .parent))
     ∷ []
 
 unfoldable pub pendingIn : Guard → List ℕ → Pending
@@ -106,24 +110,38 @@ gatheredIn g s =
     ∷ [])
     (g .call) gatheredNone
 
+-- the maps that live: as many rows as the header's number behind the others says
+unfoldable pub mapCount : List ℕ → ℕ
+mapCount h = getD h 16 0 % (MAPS + 1)
+
+abbrev pub mapsIn : View → List Map
+mapsIn v = take (mapCount (v .head)) (v .maps)
+
 -- The state: of the rows in use and a pending call; of the numbers; of the memory.
-abbrev pub stateWith : (c : Config) → View → Pending → (stopped : Bool) → Gathered → State (digestStore c)
-stateWith c v p stopped a = record {
-  skeleton = record { tables = record { nodes = v .nodes; opens = v .opens }; pending = p; stopped = stopped };
+abbrev pub stateWith : (c : Config) → View → List Map → Pending → (stopped : Bool) → Gathered → State (digestStore c)
+stateWith c v ms p stopped a = record {
+  skeleton = record {
+    tables = record { nodes = v .nodes; opens = v .opens };
+    pending = p;
+    stopped = stopped;
+    maps = ms;
+  };
   contents = v .contents;
   progress = a;
   saves = tt;
 }
 
 unfoldable pub stateIn : (c : Config) → Guard → View → State (digestStore c)
-stateIn c g v = stateWith c v (pendingIn g (v .staged)) (g .stopped) (gatheredIn g (v .staged))
+stateIn c g v = stateWith c v (mapsIn v) (pendingIn g (v .staged)) (g .stopped) (gatheredIn g (v .staged))
 
 unfoldable pub stateOf : (c : Config) → List ℕ → State (digestStore c)
 stateOf c m = let g = numbersOf (memOf m .head) in stateIn c g (viewOf (g .nodes) (g .opens) (memOf m))
 
 -- the header when no call is pending and the guard has not stopped; the counts stay
 unfoldable pub clearedHead : List ℕ → List ℕ
-clearedHead h = getD h 0 0 ∷ getD h 1 0 ∷ 1 ∷ 0 ∷ 0 ∷ 0 ∷ 0 ∷ 0 ∷ 0 ∷ 0 ∷ 0 ∷ 0 ∷ 0 ∷ 0 ∷ 0 ∷ 0 ∷ drop 16 h
+clearedHead h =
+    getD h 0 0 ∷ getD h 1 0 ∷ 1 ∷ 0 ∷ 0 ∷ 0 ∷ 0 ∷ 0 ∷ 0 ∷ 0 ∷ 0 ∷ 0 ∷ 0 ∷ 0 ∷ 0 ∷ 0
+    ∷ getD h 16 0 ∷ drop 17 h
 
 -- the same in two steps, as the code takes them: what is pending and its places; its span and what is staged
 abbrev pub clearedCall : List ℕ → List ℕ

@@ -32,4 +32,9 @@ pub const CUTTING: u64 = 13;
 // of a truncation to more bytes: the file is cut
 pub const GROWING: u64 = 14;
 
-pub const LAST: u64 = GROWING;
+// a map is asked for; a map is to end
+pub const MAPPING: u64 = 15;
+
+pub const UNMAPPING: u64 = 16;
+
+pub const LAST: u64 = UNMAPPING;

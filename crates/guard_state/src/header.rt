@@ -31,3 +31,6 @@ pub const PAGE: usize = 13;
 pub const BYTES: usize = 14;
 
 pub const DIGESTS: usize = 15;
+
+// how many maps live
+pub const MAPS: usize = 16;

@@ -7,7 +7,8 @@ ghost use Prim.Native.Nat.{_+_, _%_, _<_, _≤_};
 ghost use lib.ListN.{length, getD, take};
 ghost use Rattle.filesystem.specs.Tables.{NODES, NAME-BYTES, FILE-BYTES, DATA-BYTES};
 ghost use Rattle.rules.specs.Pages.{writing};
-ghost use Rattle.rules.specs.Requests.{asked, creating, closing, reading, fetching};
+ghost use Rattle.filesystem.specs.MemoryMaps.{MAPS, MAP-BYTES};
+ghost use Rattle.rules.specs.Requests.{asked, creating, closing, reading, fetching, mapping, unmapping};
 ghost use Rattle.rules.specs.Skeleton.{Config};
 ghost use Rattle.machine.specs.Machine.{fresh, guard as digestStore};
 ghost use Rattle.numbers.specs.Slices.{KeepsLength};
@@ -17,8 +18,8 @@ ghost use Rattle.tables.specs.View.{viewOf};
 ghost use Rattle.guard_state.specs.Calls.{OnNode, questionOn, Truncating, truncationOn, FETCHING, CUTTING};
 ghost use Rattle.guard_state.specs.Onward.{writeNumbers, truncateNumbers, goesOn};
 ghost use Rattle.guard_state.specs.State.{pendingIn, stateOf, clearedHead, clearedCall, clearedSpan, readingHead};
-ghost use Rattle.guard_state.specs.State.{gatheredNone, gatheredRead, filePages, numbersIn};
-ghost use Rattle.guard_state.specs.Waits.{waits, ends, stops, restingState, Turns, Waits};
+ghost use Rattle.guard_state.specs.State.{gatheredNone, gatheredRead, filePages, numbersIn, mapCount};
+ghost use Rattle.guard_state.specs.Waits.{waits, ends, stops, remaps, restingState, Turns, Waits};
 
 pub mod calls;
 pub mod header;
@@ -72,6 +73,10 @@ impl Guard {
 
     pub const DESCRIPTORS: usize = limits::DESCRIPTORS;
 
+    pub const MAPS: usize = limits::MAPS;
+
+    pub const MAP_UNIT: usize = limits::MAP_UNIT;
+
     // The numbers that the memory's header holds, each within its limit.
     pub fn load(m: &[u8]) -> Guard
         requires { ⌜ IsMemory m ⌝ }
@@ -106,6 +111,7 @@ impl Guard {
     {
         let row = memory::node_row(1, 0, limits::DIRECTORY, 7, 0, b"");
         memory::put_node(m, 0, row);
+        memory::put_head(m, header::MAPS, 0);
         rest(m, 1, 0);
         Guard::load(m)
     }
@@ -138,6 +144,14 @@ pub fn node_count(m: &[u8]) -> usize
     ensures { λ r. ⌜ r ≡ numbersIn (m .entry) .nodes ⌝ }
 {
     number(m, header::NODES, limits::NODES)
+}
+
+// How many maps live.
+pub fn map_count(m: &[u8]) -> usize
+    requires { ⌜ IsMemory m ⌝ }
+    ensures { λ r. ⌜ r ≡ mapCount (was m .head) ⌝ }
+{
+    number(m, header::MAPS, limits::MAPS)
 }
 
 // ---- the pending call
@@ -214,6 +228,26 @@ pub fn wait_on_node(m: &mut [u8], call: u64, node: usize, number: u8)
     memory::put_head(m, header::NODE, node as u64);
     memory::put_head(m, header::MODE, number as u64);
     memory::put_head(m, header::RIGHTS, number as u64);
+}
+
+// A map of this size is asked for.
+pub fn wait_map(m: &mut [u8], size: usize)
+    requires { ⌜ (size ≤ MAP-BYTES) × IsMemory m ⌝ }
+    ensures { λ _. ⌜ Waits m (asked (mapping size)) gatheredNone ⌝ }
+{
+    clear(m);
+    memory::put_head(m, header::CALL, calls::MAPPING);
+    memory::put_head(m, header::SIZE, size as u64);
+}
+
+// The map at this address is to end. It stands where a parent's id does.
+pub fn wait_unmap(m: &mut [u8], address: u64)
+    requires { ⌜ IsMemory m ⌝ }
+    ensures { λ _. ⌜ Waits m (asked (unmapping address)) gatheredNone ⌝ }
+{
+    clear(m);
+    memory::put_head(m, header::CALL, calls::UNMAPPING);
+    memory::put_head(m, header::PARENT, address);
 }
 
 // The numbers of a read that waits for a page.
@@ -349,6 +383,16 @@ pub fn rest(m: &mut [u8], nodes: usize, opens: usize)
     clear(m);
     memory::put_head(m, header::NODES, nodes as u64);
     memory::put_head(m, header::OPENS, opens as u64);
+}
+
+// The call is done, over a table that now has this many maps.
+pub fn rest_maps(m: &mut [u8], maps: usize)
+    requires { ⌜ (maps ≤ MAPS) × IsMemory m ⌝ }
+    ensures { λ _. ⌜ Turns m (λ c s. remaps c s (take maps (was m .maps))) ⌝ }
+{
+    memory::put_head(m, header::RUNNING, 1);
+    memory::put_head(m, header::CALL, calls::IDLE);
+    memory::put_head(m, header::MAPS, maps as u64);
 }
 
 // The guard stops for good; the tables are those of before the call.

@@ -2,6 +2,7 @@
 -- Assumes nothing.
 use Rattle.filesystem.specs.Tables.{NODES, OPEN-FILES, PAGES, PAGE-BYTES, DIGEST-BYTES, FILE-BYTES, NAME-BYTES}
 use Rattle.filesystem.specs.Tables.{PATH-BYTES, ID-BYTES, DATA-BYTES, DESCRIPTORS}
+use Rattle.filesystem.specs.MemoryMaps.{MAPS, MAP-UNIT, MAP-BYTES}
 use Rattle.limits.specs.declared.Limits.{Limits}
 
 abbrev pub definedLimits : Limits
@@ -17,4 +18,7 @@ definedLimits = record {
   id = ID-BYTES;
   transfer = DATA-BYTES;
   descriptors = DESCRIPTORS;
+  maps = MAPS;
+  unit = MAP-UNIT;
+  map = MAP-BYTES;
 }

@@ -27,3 +27,7 @@ pub const CHMOD: u8 = 11;
 pub const READDIR: u8 = 12;
 
 pub const STAT: u8 = 13;
+
+pub const MAP: u8 = 14;
+
+pub const UNMAP: u8 = 15;

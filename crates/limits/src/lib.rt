@@ -31,6 +31,12 @@ pub const DATA_BYTES: usize = 4096;
 
 pub const DESCRIPTORS: usize = 1024;
 
+pub const MAPS: usize = 16;
+
+pub const MAP_UNIT: usize = 4096;
+
+pub const MAP_BYTES: usize = 65536;
+
 pub struct Limits {
     pub nodes: usize,
     pub opens: usize,
@@ -43,6 +49,9 @@ pub struct Limits {
     pub id: usize,
     pub transfer: usize,
     pub descriptors: usize,
+    pub maps: usize,
+    pub unit: usize,
+    pub map: usize,
 }
 
 pub fn all() -> Limits
@@ -60,5 +69,8 @@ pub fn all() -> Limits
         id: ID_BYTES,
         transfer: DATA_BYTES,
         descriptors: DESCRIPTORS,
+        maps: MAPS,
+        unit: MAP_UNIT,
+        map: MAP_BYTES,
     }
 }

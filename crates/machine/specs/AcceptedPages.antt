@@ -12,7 +12,7 @@ use Rattle.filesystem.specs.Tables.{pagesFor}
 use Rattle.rules.specs.Pages.{Change, pageOf}
 use Rattle.rules.specs.Requests.{Pending, reading}
 use Rattle.rules.specs.Skeleton.{Config, reply, Answer, done, ask, refused, stopped}
-use Rattle.rules.specs.Rules.{Move, refuse, halt, readPage, fillPage, replyChecks, replyAction, eventChecks, eventAction, judge}
+use Rattle.rules.specs.Rules.{Move, refuse, halt, readPage, fillPage, reasons, replyAction, eventChecks, eventAction, judge}
 use Rattle.machine.specs.Machine.{Store, State, Result, contentAt, apply, step, guard}
 use Rattle.machine.specs.Tree.{tree, guardOf}
 use Rattle.machine.specs.DigestLaws.{digest-at, digests-at}
@@ -49,7 +49,7 @@ module _ (c : Config) (S : Store) (s : State S) where
   unfolding step judge eventAction apply
   accepted-acts r a q =
       let F : Move → Type 0 = λ m. Accepted (answer m) → Accepted (answer (actionOn r (s .skeleton .pending))) in
-      let cs = replyChecks (c .width) (s .skeleton .tables) r (s .skeleton .pending) in
+      let cs = reasons (c .width) (s .skeleton) r in
       decide-ind refuse F (eventChecks c (s .skeleton) (reply r a q)) _ (λ _ _ h. absurd h)
       (λ _. decide-ind halt F cs _ (λ _ _ h. absurd h) (λ _ h. h))
 

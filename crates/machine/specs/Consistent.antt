@@ -1,5 +1,5 @@
--- What the guard's state has along every run, in one word: it holds (`Holds`), and what a pending call has gathered is as much as its pages ask. The code's
--- contracts take it as their premise; a fresh guard has it, and every event keeps it.
+-- What the guard's state has along every run, in one word: it holds (`Holds`), what a pending call has gathered is as much as its pages ask, and the table
+-- of maps is valid. The code's contracts take it as their premise; a fresh guard has it, and every event keeps it.
 -- Assumes nothing.
 use mathlib.Core.Path.{_≡_, subst}
 use mathlib.Core.List.{List, []}
@@ -16,12 +16,15 @@ use Rattle.rules.specs.PageLaws.{first-last}
 use Rattle.rules.specs.Requests.{asked, Pending, idle, reading, fetching, storing, cutting}
 use Rattle.rules.specs.Skeleton.{Config, Event, EventBytes}
 use Rattle.rules.specs.Rules.{Move, judge}
-use Rattle.rules.specs.Valid.{Starts, Fits, fRefuse, fHalt, fSend, fFinish, fAdd, fDelete, fReadPage, fBegin, fFillPage, fStored, fCutDone, fSaving, fLoading}
+use Rattle.rules.specs.Valid.{Starts, Fits, fRefuse, fHalt, fSend, fFinish, fAdd, fDelete, fRemap, fReadPage, fBegin, fFillPage, fStored, fCutDone, fSaving, fLoading}
 use Rattle.rules.specs.FitLaws.{judge-fits}
 use Rattle.rules.specs.Lengths.{Gathers}
+use Rattle.rules.specs.MapLaws.{none-valid}
+use Rattle.rules.specs.MapMoves.{MapsValid}
 use Rattle.machine.specs.Machine.{State, Result, sizeAt, readOn, finishChange, pagesStored, askStore, onPage, pagesFrom, cleared, apply, step, fresh, guard}
 use Rattle.machine.specs.StateProperties.{Holds, fresh-holds, step-holds}
 use Rattle.machine.specs.StepLengths.{step-gathers}
+use Rattle.machine.specs.MapRuns.{step-maps}
 
 -- of a change that is pending: one digest for each page that it has sent
 abbrev pub Counts : Pending → List (List ℕ) → Type 0
@@ -36,6 +39,7 @@ pub record Consistent (c : Config) (g : State (guard c)) : Type 0 where
   pub holds : Holds c g
   pub gathers : Gathers (g .skeleton .pending) (g .progress .bytes)
   pub counts : Counts (g .skeleton .pending) (g .progress .digests)
+  pub maps : MapsValid (g .skeleton)
 
 -- a call that starts has sent no page
 starts-count : (p : Pending) → Starts p → Counts p []
@@ -74,6 +78,7 @@ module _ (c : Config) where
   keeps-counted g h m e (fFinish pl v z) = tt
   keeps-counted g h m e (fAdd pl z v) = tt
   keeps-counted g h m e (fDelete pl v) = tt
+  keeps-counted g h m e (fRemap pl) = tt
   keeps-counted g h m e (fReadPage {k = k} {p = p} {n = n} {i = i} {r = r} he w l x) =
       pick-ind Counted (equal (c .digest r) (getD (getD (g .contents) k []) i []))
       (λ _. unfold readOn in pick-ind Counted (leb (p + n) (i * 1024 + 1024)) (λ _. tt) (λ _. tt))
@@ -97,7 +102,8 @@ module _ (c : Config) (digest-fits : (s : List ℕ) → Digest (c .digest s)) wh
     holds = step-holds c digest-fits g e b (h .holds);
     gathers = step-gathers c g (h .holds .valid) (h .gathers) e b;
     counts = keeps-counted c g (h .counts) (judge c (g .skeleton) e) e (judge-fits c (g .skeleton) (h .holds .valid) e b);
+    maps = step-maps c (guard c) g (h .maps) e b;
   }
 
 pub fresh-consistent : (c : Config) → 1 ≤ c .width → Consistent c (fresh c (guard c))
-fresh-consistent c wide = record { holds = fresh-holds c wide; gathers = tt; counts = tt }
+fresh-consistent c wide = record { holds = fresh-holds c wide; gathers = tt; counts = tt; maps = record { valid = none-valid; pending = tt } }

@@ -16,9 +16,11 @@ use Rattle.lists.specs.Checks.{Check, Passed, First, decide, decide-passed, dec
 use Rattle.filesystem.specs.Tables.{PAGE-BYTES, Node, Tables}
 use Rattle.filesystem.specs.Image.{imageLength}
 use Rattle.rules.specs.Pages.{Change, first, last, fetches, cuts}
-use Rattle.rules.specs.Requests.{asked, Pending, idle, creating, opening, closing, removing, changing, listing, stating, reading, fetching, storing, cutting}
+use Rattle.rules.specs.Requests.{asked, Pending, idle, creating, opening, closing, removing, changing, listing, stating, mapping, unmapping, reading, fetching, storing, cutting}
 use Rattle.rules.specs.Skeleton.{Config, Event, call, reply, save, Answer, done, ask, refused, stopped, Outcome, plain, answerLength, requestLength}
-use Rattle.rules.specs.Rules.{Move, refuse, halt, send, finish, add, delete, readPage, begin, fillPage, stored, cutDone, saving, loading, replyChecks, replyAction, isIdle, eventChecks, eventAction, judge}
+use Rattle.filesystem.specs.MemoryMaps.{Map}
+use Rattle.rules.specs.MapRules.{begins, ends, findMap, mapsAfter, mapNumber}
+use Rattle.rules.specs.Rules.{Move, refuse, halt, send, finish, add, delete, remap, readPage, begin, fillPage, stored, cutDone, saving, loading, reasons, replyAction, isIdle, eventChecks, eventAction, judge}
 use Rattle.machine.specs.Machine.{Store, State, Result, contentAt, sizeAt, cleared, readOn, finishChange, pagesStored, askStore, onPage, pagesFrom, apply, step, outcomes, final}
 use Rattle.machine.specs.StepOutcomes.{onward, pages-onward, after-stop}
 
@@ -50,6 +52,7 @@ module _ (c : Config) (S : Store) where
   move-keeps s (finish t n b) = λ e. absurd (true≢false e)
   move-keeps s (add n) = λ e. absurd (true≢false e)
   move-keeps s (delete k) = λ e. absurd (true≢false e)
+  move-keeps s (remap x) = λ e. absurd (true≢false e)
   move-keeps s (readPage k o p n i r) =
       pick-ind (Keeps s) (S .isPage (contentAt c S s k) i r)
       (λ _. pick-ind (Keeps s) (leb (p + n) (i * PAGE-BYTES + PAGE-BYTES)) (λ _ e. absurd (true≢false e)) (λ _ _. (refl, refl, refl))) (λ _ _. (refl, refl, refl))
@@ -80,6 +83,16 @@ module _ (c : Config) (S : Store) where
   unfolding apply
   deleted s k = (refl, refl)
 
+  pub mapped : (s : State S) (m : Map)
+      → (apply c S s (remap (begins m)) .outcome ≡ plain (done (m .address) [])) × (apply c S s (remap (begins m)) .state .skeleton .maps ≡ s .skeleton .maps ++ (m ∷ []))
+  unfolding apply mapsAfter mapNumber
+  mapped s m = (refl, refl)
+
+  pub unmapped : (s : State S) (a : ℕ)
+      → (apply c S s (remap (ends a)) .outcome ≡ plain (done 0 [])) × (apply c S s (remap (ends a)) .state .skeleton .maps ≡ without (findMap (s .skeleton .maps) a) (s .skeleton .maps))
+  unfolding apply mapsAfter mapNumber
+  unmapped s a = (refl, refl)
+
   pub requested : (s : State S) (p : Pending) (q : List ℕ)
       → (apply c S s (send p q) .outcome ≡ plain (ask q)) × (apply c S s (send p q) .state .skeleton .pending ≡ p)
   unfolding apply
@@ -107,7 +120,7 @@ module _ (c : Config) (S : Store) where
   pageChecks s r (cutting k o q) = []
 
   unfoldable pub stopChecks : State S → List ℕ → List Check
-  stopChecks s r = replyChecks (c .width) (s .skeleton .tables) r (s .skeleton .pending) ++ pageChecks s r (s .skeleton .pending)
+  stopChecks s r = reasons (c .width) (s .skeleton) r ++ pageChecks s r (s .skeleton .pending)
 
   -- an answer that goes on, behind these reasons
   record Behind (cs : List Check) (a : Answer) : Type 0 where
@@ -140,6 +153,8 @@ module _ (c : Config) (S : Store) where
   behind s r (asked (changing k m)) h = at-once _ refl
   behind s r (asked (listing k)) h = at-once _ refl
   behind s r (asked (stating k)) h = at-once _ refl
+  behind s r (asked (mapping n)) h = at-once _ refl
+  behind s r (asked (unmapping x)) h = at-once _ refl
   behind s r (reading k o p n i) h = page-first (S .isPage (contentAt c S s k) i r) _ _ (read-onward s k o p n i _) refl
   behind s r (fetching k o q i) h = page-first (S .isPage (contentAt c S s k) i r) _ _ refl refl
   behind s r (storing k o q i) h = at-once _ (pages-onward c S s k o q (suc i))
@@ -160,7 +175,7 @@ module _ (c : Config) (S : Store) where
     unfolding eventAction stopChecks apply
     acted h =
         let b = behind s r (s .skeleton .pending) h in
-        let cs = replyChecks (c .width) (s .skeleton .tables) r (s .skeleton .pending) in
+        let cs = reasons (c .width) (s .skeleton) r in
         record {
           next = b .next;
           goes = b .goes;

@@ -7,10 +7,10 @@ use lib.ListN.{getD}
 use Rattle.lists.specs.LittleEndian.{encode}
 use Rattle.filesystem.specs.Tables.{PAGE-BYTES, nodeAt}
 use Rattle.rules.specs.Pages.{pageOf}
-use Rattle.rules.specs.Requests.{asked, Pending, idle, creating, opening, closing, removing, changing, listing, stating, reading, fetching, storing, cutting}
+use Rattle.rules.specs.Requests.{asked, Pending, idle, creating, opening, closing, removing, changing, listing, stating, mapping, unmapping, reading, fetching, storing, cutting}
 use Rattle.rules.specs.Skeleton.{Config}
 use Rattle.rules.specs.Rules.{statBytes}
-use Rattle.rules.specs.RightReplies.{RightId, RightDescriptor, RightListing}
+use Rattle.rules.specs.RightReplies.{RightId, RightDescriptor, RightListing, RightMap}
 use Rattle.machine.specs.Machine.{State}
 use Rattle.machine.specs.Tree.{tree}
 
@@ -24,6 +24,8 @@ module _ (c : Config) (t : State (tree c)) (r : List ℕ) where
   RightFor (asked (changing k m)) = r ≡ encode 4 0
   RightFor (asked (listing k)) = RightListing (c .width) (t .skeleton .tables) r k
   RightFor (asked (stating k)) = r ≡ statBytes (c .width) (nodeAt (t .skeleton .tables .nodes) k)
+  RightFor (asked (mapping n)) = RightMap (t .skeleton .maps) n r
+  RightFor (asked (unmapping a)) = r ≡ encode 4 0
   RightFor (reading k o p n i) = r ≡ pageOf (getD (t .contents) k []) i
   RightFor (fetching k o q i) = r ≡ pageOf (getD (t .contents) k []) i
   RightFor (storing k o q i) = r ≡ encode 4 PAGE-BYTES

@@ -10,17 +10,18 @@ use lib.ListN.{length, getD}
 use borrow.Author.Tests.{eq-eqb}
 use Rattle.lists.specs.Pick.{pick-ind, pick-true}
 use Rattle.lists.specs.Equal.{equal, equal-true, equal-refl}
-use Rattle.lists.specs.All.{All, both, none as all-none, all-head, all-tail}
+use Rattle.lists.specs.All.{All, both, none as all-none, all-head, all-tail, all-append}
 use Rattle.lists.specs.Cells.{length-tab}
 use Rattle.lists.specs.Checks.{Check, First, here, later, Passed}
 use Rattle.filesystem.specs.Image.{Image, parse}
 use Rattle.rules.specs.Pages.{pageOf, Change, first, last, fetches, cuts}
-use Rattle.rules.specs.Requests.{asked, Pending, idle, creating, opening, closing, removing, changing, listing, stating, reading, fetching, storing, cutting}
+use Rattle.rules.specs.Requests.{asked, Pending, idle, creating, opening, closing, removing, changing, listing, stating, mapping, unmapping, reading, fetching, storing, cutting}
 use Rattle.rules.specs.Skeleton.{Config, Event, reply, EventBytes}
-use Rattle.rules.specs.Rules.{Move, loading, judge, replyChecks}
+use Rattle.rules.specs.Rules.{Move, loading, judge, replyChecks, mapReasons, reasons}
 use Rattle.machine.specs.Machine.{State, Result, files, readOn, finishChange, pagesStored, askStore, onPage, pagesFrom, cleared, apply, step, fresh, outcomes, final, guard}
-use Rattle.rules.specs.Valid.{Valid, Fits, fRefuse, fHalt, fSend, fFinish, fAdd, fDelete, fReadPage, fBegin, fFillPage, fStored, fCutDone, fSaving, fLoading}
+use Rattle.rules.specs.Valid.{Valid, Fits, fRefuse, fHalt, fSend, fFinish, fAdd, fDelete, fRemap, fReadPage, fBegin, fFillPage, fStored, fCutDone, fSaving, fLoading}
 use Rattle.rules.specs.FitLaws.{judge-fits}
+use Rattle.rules.specs.MapLaws.{right-map}
 use Rattle.rules.specs.ReplyLaws.{right-id, right-descriptor, right-status, right-stat, right-listing}
 use Rattle.machine.specs.Tree.{Saved, lookup, goBack, tree, guardOf}
 use Rattle.machine.specs.Honest.{RightFor, Right}
@@ -51,10 +52,30 @@ module _ (c : Config) (fit : Fit c) where
   right-passes t r v (asked (changing k m)) h = unfold replyChecks in right-status (c .width) (t .skeleton .tables) r 0 (omega arith) h
   right-passes t r v (asked (listing k)) h = right-listing (c .width) (t .skeleton .tables) r k (v .tables .nodes-valid) h
   right-passes t r v (asked (stating k)) h = right-stat (c .width) (t .skeleton .tables) r k h
+  right-passes t r v (asked (mapping n)) h = unfold replyChecks in both (ap not (eq-eqb _ _ (right-map (t .skeleton .maps) n r h .0))) all-none
+  right-passes t r v (asked (unmapping a)) h = unfold replyChecks in right-status (c .width) (t .skeleton .tables) r 0 (omega arith) h
   right-passes t r v (reading k o p n i) h = unfold replyChecks in page-long t k i r h
   right-passes t r v (fetching k o q i) h = unfold replyChecks in page-long t k i r h
   right-passes t r v (storing k o q i) h = unfold replyChecks in right-status (c .width) (t .skeleton .tables) r 1024 (omega arith) h
   right-passes t r v (cutting k o q) h = unfold replyChecks in right-status (c .width) (t .skeleton .tables) r 0 (omega arith) h
+
+  -- and those of maps
+  maps-pass : (t : State (tree c)) (r : List ℕ) (p : Pending) → RightFor c t r p → Passed (mapReasons (t .skeleton .maps) r p)
+  unfolding RightFor mapReasons
+  maps-pass t r idle h = all-none
+  maps-pass t r (asked (creating p k m name)) h = all-none
+  maps-pass t r (asked (opening k rights)) h = all-none
+  maps-pass t r (asked (closing o)) h = all-none
+  maps-pass t r (asked (removing k)) h = all-none
+  maps-pass t r (asked (changing k m)) h = all-none
+  maps-pass t r (asked (listing k)) h = all-none
+  maps-pass t r (asked (stating k)) h = all-none
+  maps-pass t r (asked (mapping n)) h = right-map (t .skeleton .maps) n r h .1
+  maps-pass t r (asked (unmapping a)) h = all-none
+  maps-pass t r (reading k o p n i) h = all-none
+  maps-pass t r (fetching k o q i) h = all-none
+  maps-pass t r (storing k o q i) h = all-none
+  maps-pass t r (cutting k o q) h = all-none
 
   passed-not-first : (n : ℕ) (cs : List Check) → Passed cs → First n cs → ⊥
   passed-not-first n cs p f = go p f
@@ -87,11 +108,13 @@ module _ (c : Config) (fit : Fit c) where
   unfolding apply isStop readOn askStore finishChange
   calm g t v fRefuse ho = refl
   calm g t v {e = e} (fHalt {n = n} {r = r} {a = a} {q = q} he f) ho =
-      absurd (passed-not-first n _ (right-passes t r v (t .skeleton .pending) (unfold Right in right-reply g t e r a q ho he)) f)
+      let h : RightFor c t r (t .skeleton .pending) = unfold Right in right-reply g t e r a q ho he in
+      absurd (passed-not-first n (reasons (c .width) (t .skeleton) r) (unfold reasons in all-append (right-passes t r v (t .skeleton .pending) h) (maps-pass t r (t .skeleton .pending) h)) f)
   calm g t v (fSend h s k) ho = refl
   calm g t v (fFinish pl h s) ho = refl
   calm g t v (fAdd pl z h) ho = refl
   calm g t v (fDelete pl h) ho = refl
+  calm g t v (fRemap pl) ho = refl
   calm g t v {e = e} (fReadPage {k = k} {o = o} {p = p} {n = n} {i = i} {r = r} {a = a} {q = q} he w l h) ho =
       pick-ind Calm _ (λ _. pick-ind Calm (leb (p + n) (i * 1024 + 1024)) (λ _. refl) (λ _. refl))
       (λ x. absurd (true≢false (sym (page-right t (reading k o p n i) r k i (right-reply g t e r a q ho he) w (λ y. unfold RightFor in y)) ∙ x)))
@@ -129,6 +152,7 @@ module _ (c : Config) (fit : Fit c) where
   sure t v (fFinish pl h s) ho mq = tt
   sure t v (fAdd pl z h) ho mq = tt
   sure t v (fDelete pl h) ho mq = tt
+  sure t v (fRemap pl) ho mq = tt
   sure t v {e = e} (fReadPage {k = k} {o = o} {p = p} {n = n} {i = i} {r = r} {a = a} {q = q} he w l h) ho mq =
       same-page r _ (page-right t (reading k o p n i) r k i (right-reply (guardOf c t) t e r a q ho he) w (λ y. unfold RightFor in y))
   sure t v (fBegin pl h) ho mq = tt

@@ -25,7 +25,7 @@ use Rattle.rules.specs.Requests.{asked, storeRequest, cutRequest, Pending, idle
 use Rattle.rules.specs.Skeleton.{Config, Event}
 use Rattle.rules.specs.Rules.{Move}
 use Rattle.machine.specs.Machine.{Files, State, Result, files, sizeAt, descriptorAt, readOn, finishChange, pagesStored, askStore, onPage, pagesFrom, cleared, apply}
-use Rattle.rules.specs.Valid.{ValidNodes, Starts, Fits, fRefuse, fHalt, fSend, fFinish, fAdd, fDelete, fReadPage, fBegin, fFillPage, fStored, fCutDone, fSaving, fLoading}
+use Rattle.rules.specs.Valid.{ValidNodes, Starts, Fits, fRefuse, fHalt, fSend, fFinish, fAdd, fDelete, fReadPage, fBegin, fFillPage, fStored, fCutDone, fSaving, fLoading, fRemap}
 use Rattle.machine.specs.Tree.{Saved, lookup, goBack, digestsOf, tree}
 use Rattle.machine.specs.History.{storedPage, pageAdded, pageOut, imageGiven, imageOut}
 use Rattle.machine.specs.Simulation.{Aligned, aligned-at}
@@ -211,6 +211,7 @@ module _ (c : Config) (M N : List ℕ → Type 0) where
   keeps t v h (fFinish pl x z) n s = record { good = record { aligned = z ∙ v .good .aligned; known = v .good .known }; sofar = tt; saves = v .saves }
   keeps t v h (fAdd {n = m} pl z x) n s = record { good = add-good (files c (tree c) t) m z (v .good); sofar = tt; saves = v .saves }
   keeps t v h (fDelete {k = k} pl x) n s = record { good = delete-good (files c (tree c) t) k (v .good); sofar = tt; saves = v .saves }
+  keeps t v h (fRemap pl) n s = record { good = v .good; sofar = tt; saves = v .saves }
   keeps t v h (fReadPage {k = k} {o = o} {p = p} {n = m} {i = i} {r = r} he w l x) n s =
       pick-ind Keeps (equal r (pageOf (getD (t .contents) k []) i))
       (λ e. unfold readOn in pick-ind Keeps (leb (p + m) (i * 1024 + 1024))

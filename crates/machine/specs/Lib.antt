@@ -20,6 +20,7 @@ pub mod Invariant
 pub mod Run
 pub mod HonestRun
 pub mod TreeProperties
+pub mod MapRuns
 pub mod Truthful
 pub mod Seen
 pub mod SeenLaws

@@ -16,8 +16,9 @@ use Rattle.filesystem.specs.Image.{Image, flatten, divide, print}
 use Rattle.filesystem.specs.Digests.{replaced}
 use Rattle.rules.specs.Pages.{pageOf, pagePart, Change, first, last, fetches, fill, sizeSent, cuts, sizeAfter, cursorAfter, numberOf}
 use Rattle.rules.specs.Requests.{fetchRequest, storeRequest, cutRequest, Pending, reading, fetching, storing, cutting}
-use Rattle.rules.specs.Skeleton.{Config, Event, Answer, done, ask, refused, stopped, Outcome, plain, Skeleton, waiting, resting, halted, freshSkeleton}
-use Rattle.rules.specs.Rules.{Move, refuse, halt, send, finish, add, delete, readPage, begin, fillPage, stored, cutDone, saving, loading, judge}
+use Rattle.rules.specs.Skeleton.{Config, Event, Answer, done, ask, refused, stopped, Outcome, plain, Skeleton, waiting, resting, halted, remapped, freshSkeleton}
+use Rattle.rules.specs.MapRules.{MapChange, mapsAfter, mapNumber}
+use Rattle.rules.specs.Rules.{Move, refuse, halt, send, finish, add, delete, remap, readPage, begin, fillPage, stored, cutDone, saving, loading, judge}
 
 -- nodes, and what is kept of each one's pages; a directory has none
 pub record Files (X : Type 0) : Type 0 where
@@ -147,6 +148,13 @@ module _ (c : Config) (S : Store) where
   abbrev pub loaded : State S → Files (S .Content) → Result S
   loaded s f = ending s (done 0 []) (record { nodes = f .nodes; opens = s .skeleton .tables .opens }) (f .contents)
 
+  -- a map began or ended
+  abbrev pub mapEnding : State S → MapChange → Result S
+  mapEnding s x = record {
+    outcome = plain (done (mapNumber x) []);
+    state = record { skeleton = remapped (s .skeleton) (mapsAfter x (s .skeleton .maps)); contents = s .contents; progress = S .nothing; saves = s .saves };
+  }
+
   unfoldable pub apply : State S → Move → Result S
   apply s (refuse n) = record { outcome = plain (refused n); state = s }
   apply s (halt n) = stopping s n
@@ -156,6 +164,7 @@ module _ (c : Config) (S : Store) where
       ending s (done (n .id) []) (record { nodes = s .skeleton .tables .nodes ++ (n ∷ []); opens = s .skeleton .tables .opens }) (s .contents ++ (S .blank ∷ []))
   apply s (delete k) =
       ending s (done 0 []) (record { nodes = without k (s .skeleton .tables .nodes); opens = s .skeleton .tables .opens }) (without k (s .contents))
+  apply s (remap x) = mapEnding s x
   apply s (readPage k o p n i r) = pick (S .isPage (contentAt s k) i r) (readOn s k o p n i (S .gather (s .progress) p n i r)) (stopping s 5)
   apply s (begin k o q) = pagesFrom (cleared s) k o q (first q)
   apply s (fillPage k o q i r) = pick (S .isPage (contentAt s k) i r) (askStore s k o q i r) (stopping s 5)

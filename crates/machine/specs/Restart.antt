@@ -1,6 +1,6 @@
 -- The claim after power-up (SPECIFICATION 10.9), as types. A life is what was handed in and what came back between two power-ups; its guard is fresh
 -- at first. A client that starts again loads what it saved in an earlier life, so each life but the first begins with a load that is done; loads that
--- are refused may come before it. All lives are measured by one tree: at power-up it forgets its open files, the pending call and a stop, and keeps
+-- are refused may come before it. All lives are measured by one tree: at power-up it forgets its open files, its maps, the pending call and a stop, and keeps
 -- nodes, bytes and saves. Proofs stand elsewhere.
 -- Assumes nothing.
 use mathlib.Core.Path.{_≡_}
@@ -21,7 +21,7 @@ use Rattle.machine.specs.Seen.{Seen, events, answers, pagesSeen, imagesS
 -- just switched on, with these files
 abbrev pub switchedOn : (S : Store) → Files (S .Content) → S .Saves → State S
 switchedOn S f v = record {
-  skeleton = record { tables = record { nodes = f .nodes; opens = [] }; pending = idle; stopped = false };
+  skeleton = record { tables = record { nodes = f .nodes; opens = [] }; pending = idle; stopped = false; maps = [] };
   contents = f .contents;
   progress = S .nothing;
   saves = v;

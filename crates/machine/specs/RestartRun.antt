@@ -1,5 +1,5 @@
--- The claim after power-up (SPECIFICATION 10.9), proved: a load that is done leaves the same guard whatever was held before, so a life that begins
--- with one goes on as if the guard had never been switched off.
+-- The claim after power-up (SPECIFICATION 10.9), proved: a load that is done leaves a guard that was just switched on the same, whatever was held
+-- before, so a life that begins with one goes on as if the guard had never been switched off. It has no map then.
 -- Assumes nothing.
 use mathlib.Core.Path.{_≡_, refl, ap, ap₂, sym, _∙_, subst}
 use mathlib.Core.Logic.{_⊎_, inl, inr}
@@ -15,8 +15,11 @@ use Rattle.rules.specs.Rules.{Move, refuse, loading, imageOr, eventChecks, even
 use Rattle.rules.specs.TableLaws.{bare-valid, fresh-valid}
 use Rattle.rules.specs.Valid.{Valid}
 use Rattle.rules.specs.FitLaws.{judge-fits}
+use Rattle.rules.specs.MapLaws.{none-valid}
+use Rattle.rules.specs.MapMoves.{MapsValid}
 use Rattle.machine.specs.Simulation.{resultOf}
 use Rattle.machine.specs.Machine.{Files, Store, State, Result, files, apply, step, fresh, outcomes, final, guard}
+use Rattle.machine.specs.MapRuns.{run-maps}
 use Rattle.machine.specs.Tree.{tree, progressOf, guardOf}
 use Rattle.machine.specs.History.{awaitsPage, pageOut, imageIn, imageOut, images, Collision}
 use Rattle.machine.specs.Claim.{Fit, isDone, isStop, NoStop, OfLatest, given, LoadOf, LoadsOfSaves, HonestAt, Honest}
@@ -336,3 +339,8 @@ module _ (c : Config) (fit : Fit c) where
       let (n, (s, l)) = quiet c fit (events xs) from t (fresh-guard c fit) h b (honest-as-run t xs q ho) in
       let (ns, r) = later-lives-quiet ls (treeAfter c t xs) (life-leaves t h xs b) qs bs st hos in
       (both (quiet-as-run xs q n) ns, (q ∙ s, l, r))
+
+-- a guard or a tree that is switched on has no map, and valid ones along its life
+pub life-maps : (c : Config) (S : Store) (f : Files (S .Content)) (v : S .Saves) (es : List Event) → All EventBytes es
+    → MapsValid (final c S (switchedOn S f v) es .skeleton)
+life-maps c S f v es a = run-maps c S (switchedOn S f v) (record { valid = none-valid; pending = tt }) es a

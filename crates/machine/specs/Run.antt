@@ -23,7 +23,7 @@ use Rattle.rules.specs.Requests.{Pending}
 use Rattle.rules.specs.Skeleton.{Config, Event, call, reply, save, load, EventBytes, ask, refused, Outcome}
 use Rattle.rules.specs.Rules.{Move, loading, judge}
 use Rattle.machine.specs.Machine.{Files, State, Result, files, readOn, finishChange, pagesStored, askStore, onPage, pagesFrom, cleared, apply, step, fresh, outcomes, final, guard}
-use Rattle.rules.specs.Valid.{ValidNodes, Valid, Plain, sizes, Fits, fRefuse, fHalt, fSend, fFinish, fAdd, fDelete, fReadPage, fBegin, fFillPage, fStored, fCutDone, fSaving, fLoading}
+use Rattle.rules.specs.Valid.{ValidNodes, Valid, Plain, sizes, Fits, fRefuse, fHalt, fSend, fFinish, fAdd, fDelete, fRemap, fReadPage, fBegin, fFillPage, fStored, fCutDone, fSaving, fLoading}
 use Rattle.rules.specs.TableLaws.{fresh-valid}
 use Rattle.rules.specs.FitLaws.{judge-fits}
 use Rattle.machine.specs.ValidLaws.{keeps-valid}
@@ -122,6 +122,7 @@ module _ (c : Config) (fit : Fit c) (M N : List ℕ → Type 0) where
   agree t v (fFinish pl h s) np ni lo = ok tt
   agree t v (fAdd pl z h) np ni lo = ok tt
   agree t v (fDelete pl h) np ni lo = ok tt
+  agree t v (fRemap pl) np ni lo = ok tt
   agree t v {e = e} (fReadPage {k = k} {i = i} {r = r} {a = a} {q = q} he w l h) np ni lo =
       agree-page r (pageOf (getD (t .contents) k []) i) (np r (page-came (t .skeleton .pending) e r a q he (rw w (unfold awaitsPage in refl)) l))
       (known-at c M N (t .contents) k (v .good .known) i (page-in c (t .skeleton .tables .nodes) (t .contents) (v .good .aligned) k i (let x = h .within in let y = h .to in omega arith)))
@@ -187,6 +188,7 @@ module _ (c : Config) (fit : Fit c) (M N : List ℕ → Type 0) where
   remembers t {e = e} (fFinish pl h s) = same-saves t e pl _ _ refl
   remembers t {e = e} (fAdd pl z h) = same-saves t e pl _ _ refl
   remembers t {e = e} (fDelete pl h) = same-saves t e pl _ _ refl
+  remembers t {e = e} (fRemap pl) = same-saves t e pl _ _ refl
   remembers t {e = e} (fReadPage {p = p} {n = n} {i = i} {r = r} {a = a} {q = q} he w l h) =
       same-saves t e (is-plain e r a q he) _ _ (pick-ind (Quiet t) _ (λ _. pick-ind (Quiet t) (leb (p + n) (i * 1024 + 1024)) (λ _. refl) (λ _. refl)) (λ _. refl))
   remembers t {e = e} (fBegin {k = k} {o = o} {q = q} pl h) =

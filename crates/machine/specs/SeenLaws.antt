@@ -14,7 +14,7 @@ use Rattle.rules.specs.Pages.{Change, first, last, fetches, cuts}
 use Rattle.rules.specs.Requests.{isFetch, fetchRequest, storeRequest, cutRequest, asked, Pending, idle, reading, fetching, storing, cutting}
 use Rattle.rules.specs.Skeleton.{Config, Event, call, reply, save, load, EventBytes, Outcome, done, refused, plain}
 use Rattle.rules.specs.Rules.{Move, refuse, eventChecks, eventAction, judge}
-use Rattle.rules.specs.Valid.{Valid, Asks, Starts, Fits, fRefuse, fHalt, fSend, fFinish, fAdd, fDelete, fReadPage, fBegin, fFillPage, fStored, fCutDone, fSaving, fLoading}
+use Rattle.rules.specs.Valid.{Valid, Asks, Starts, Fits, fRefuse, fHalt, fSend, fFinish, fAdd, fDelete, fRemap, fReadPage, fBegin, fFillPage, fStored, fCutDone, fSaving, fLoading}
 use Rattle.rules.specs.FitLaws.{judge-fits}
 use Rattle.machine.specs.Machine.{Store, State, Result, contentAt, sizeAt, imageOf, readOn, finishChange, pagesStored, askStore, onPage, pagesFrom, cleared, apply, step, outcomes, guard}
 use Rattle.machine.specs.Tree.{tree}
@@ -99,6 +99,7 @@ module _ (c : Config) where
   move-stands q g h (fFinish pl v z) = refl
   move-stands q g h (fAdd pl z v) = refl
   move-stands q g h (fDelete pl v) = refl
+  move-stands q g h (fRemap pl) = refl
   move-stands q g h (fReadPage {k = k} {p = p} {n = n} {i = i} {r = r} he w l x) =
       pick-ind (StandsAfter q) (equal (c .digest r) (getD (getD (g .contents) k []) i []))
       (λ _. pick-ind (StandsAfter q) (leb (p + n) (i * 1024 + 1024)) (λ _. refl) (λ _. refl))
@@ -143,6 +144,7 @@ module _ (c : Config) (S : Store) where
   move-bare s ns (fFinish pl v z) = refl
   move-bare s ns (fAdd pl z v) = refl
   move-bare s ns (fDelete pl v) = refl
+  move-bare s ns (fRemap pl) = refl
   move-bare s ns (fReadPage {k = k} {p = p} {n = n} {i = i} {r = r} he w l x) =
       pick-ind Bare (S .isPage (contentAt c S s k) i r) (λ _. pick-ind Bare (leb (p + n) (i * 1024 + 1024)) (λ _. refl) (λ _. refl)) (λ _. refl)
   move-bare s ns (fBegin {k = k} {o = o} {q = x} pl z) = pages-bare (cleared c S s) k o x (first x)

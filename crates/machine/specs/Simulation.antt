@@ -17,9 +17,9 @@ use Rattle.rules.specs.Pages.{pageAt, pageOf, bytesAt, Change, first, last, fet
 use Rattle.rules.specs.PageLaws.{first-last, fill-page, fill-blank, bytesAt-more}
 use Rattle.rules.specs.Requests.{asked, Pending, idle, reading, fetching, storing, cutting}
 use Rattle.rules.specs.Skeleton.{Config, Event}
-use Rattle.rules.specs.Rules.{Move, refuse, halt, send, finish, add, delete, readPage, begin, fillPage, stored, cutDone, saving, loading}
+use Rattle.rules.specs.Rules.{Move, refuse, halt, send, finish, add, delete, remap, readPage, begin, fillPage, stored, cutDone, saving, loading}
 use Rattle.machine.specs.Machine.{Files, State, Result, files, readOn, finishChange, pagesStored, askStore, onPage, pagesFrom, loaded, apply, guard}
-use Rattle.rules.specs.Valid.{ReadingFits, FetchFits, Starts, sizes, Fits, fRefuse, fHalt, fSend, fFinish, fAdd, fDelete, fReadPage, fBegin, fFillPage, fStored, fCutDone, fSaving, fLoading}
+use Rattle.rules.specs.Valid.{ReadingFits, FetchFits, Starts, sizes, Fits, fRefuse, fHalt, fSend, fFinish, fAdd, fDelete, fRemap, fReadPage, fBegin, fFillPage, fStored, fCutDone, fSaving, fLoading}
 use Rattle.machine.specs.Tree.{guardWith, lookup, goBack, digestsOf, tree, sentDigests, progressOf, guardOf}
 use Rattle.machine.specs.DigestLaws.{digests-blank, digest-at, digests-at, replaced-digests}
 
@@ -42,6 +42,7 @@ module _ (c : Config) where
   Agree t (finish u n b) = Unit {0}
   Agree t (add n) = Unit {0}
   Agree t (delete k) = Unit {0}
+  Agree t (remap x) = Unit {0}
   Agree t (readPage k o p n i r) = SamePage r (pageOf (getD (t .contents) k []) i)
   Agree t (begin k o q) = Unit {0}
   Agree t (fillPage k o q i r) = SamePage r (pageOf (getD (t .contents) k []) i)
@@ -169,6 +170,7 @@ module _ (c : Config) where
   commute t al (fFinish pl v s) g = refl
   commute t al (fAdd pl s v) g = rw (map-append (digestsOf c) (t .contents) ([] ∷ []), digests-blank c)
   commute t al (fDelete {k = k} pl v) g = rw (map-without (digestsOf c) k (t .contents))
+  commute t al (fRemap pl) g = refl
   commute t al (fReadPage {k = k} {o = o} {p = p} {n = n} {i = i} {r = r} he w l h) g =
       ap (λ s. apply c (guard c) s (readPage k o p n i r)) (guard-is t w) ∙ read-same t al k o p n i r h g
   commute t al (fBegin {k = k} {o = o} {q = q} pl h) g =

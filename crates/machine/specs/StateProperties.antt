@@ -27,7 +27,7 @@ use Rattle.rules.specs.Skeleton.{resting-same, Config, Event, load, EventBytes,
 use Rattle.rules.specs.Requests.{idle}
 use Rattle.rules.specs.Rules.{Move, refuse, loading, isIdle, isNone, imageOr, eventChecks, eventAction, judge}
 use Rattle.machine.specs.Machine.{State, Result, readOn, finishChange, pagesStored, askStore, onPage, pagesFrom, cleared, imageOf, apply, step, fresh, final, zeroDigest, guard}
-use Rattle.rules.specs.Valid.{ValidNodes, Valid, sizes, Fits, fRefuse, fHalt, fSend, fFinish, fAdd, fDelete, fReadPage, fBegin, fFillPage, fStored, fCutDone, fSaving, fLoading}
+use Rattle.rules.specs.Valid.{ValidNodes, Valid, sizes, Fits, fRefuse, fHalt, fSend, fFinish, fAdd, fDelete, fRemap, fReadPage, fBegin, fFillPage, fStored, fCutDone, fSaving, fLoading}
 use Rattle.rules.specs.TableLaws.{fresh-valid}
 use Rattle.rules.specs.FitLaws.{judge-fits}
 use Rattle.machine.specs.ValidLaws.{keeps-valid}
@@ -179,6 +179,7 @@ module _ (c : Config) (digest-fits : (s : List ℕ) → Digest (c .digest s)) wh
     digested = all-without k (h .digested);
     sent = none;
   }
+  keeps-digested g h m e b (fRemap pl) = record { counted = h .counted; digested = h .digested; sent = none }
   keeps-digested g h m e b (fReadPage {k = k} {o = o} {p = p} {n = n} {i = i} {r = r} he w l x) =
       pick-ind (Keeps c) (equal (c .digest r) (getD (getD (g .contents) k []) i []))
       (λ t. unfold readOn in pick-ind (Keeps c) (leb (p + n) (i * 1024 + 1024))

@@ -17,9 +17,9 @@ use Rattle.filesystem.specs.ImageLaws.{Digest}
 use Rattle.rules.specs.Pages.{pageAt, pagePart, Change, writing, first, last, fetches, sizeSent, cuts, numberOf}
 use Rattle.rules.specs.Requests.{storeLength, cutRequest, reading}
 use Rattle.rules.specs.Skeleton.{Config, Event, reply, EventBytes, done, answerBytes, requestBytes, answerLength, requestLength}
-use Rattle.rules.specs.Rules.{Move, refuse, halt, send, finish, add, delete, readPage, begin, fillPage, stored, cutDone, saving, loading, replyChecks, replyAction, eventChecks, eventAction, judge}
+use Rattle.rules.specs.Rules.{Move, refuse, halt, send, finish, add, delete, remap, readPage, begin, fillPage, stored, cutDone, saving, loading, reasons, replyAction, eventChecks, eventAction, judge}
 use Rattle.machine.specs.Machine.{Store, State, Result, Gathered, contentAt, sizeAt, descriptorAt, readOn, finishChange, pagesStored, askStore, onPage, pagesFrom, cleared, apply, step, fresh, final, guard}
-use Rattle.rules.specs.Valid.{PendingFits, ReadingFits, Valid, Plain, Fits, fRefuse, fHalt, fSend, fFinish, fAdd, fDelete, fReadPage, fBegin, fFillPage, fStored, fCutDone, fSaving, fLoading}
+use Rattle.rules.specs.Valid.{PendingFits, ReadingFits, Valid, Plain, Fits, fRefuse, fHalt, fSend, fFinish, fAdd, fDelete, fRemap, fReadPage, fBegin, fFillPage, fStored, fCutDone, fSaving, fLoading}
 use Rattle.rules.specs.FitLaws.{judge-fits}
 use Rattle.machine.specs.StateProperties.{Holds, step-holds, always-holds, always-valid}
 use Rattle.rules.specs.Lengths.{Gathers, Modest, fetch-short, store-length, judge-modest, page-long, gather-more}
@@ -50,6 +50,7 @@ module _ (c : Config) (S : Store) (long : (x : S .Content) (q : Change) (i : ℕ
   move-short s (finish t n b) h = omega arith
   move-short s (add n) h = omega arith
   move-short s (delete k) h = omega arith
+  move-short s (remap x) h = omega arith
   move-short s (readPage k o p n i r) h =
       pick-ind Short (S .isPage (contentAt c S s k) i r)
       (λ _. pick-ind Short (leb (p + n) (i * 1024 + 1024)) (λ _. omega arith) (λ _. fetch-short c _ (suc i))) (λ _. omega arith)
@@ -106,6 +107,7 @@ module _ (c : Config) where
     move-gives g h d (fFinish pl v z) = record { reads = tt; fits = λ _. d }
     move-gives g h d (fAdd pl z v) = silent tt refl
     move-gives g h d (fDelete pl v) = silent tt refl
+    move-gives g h d (fRemap pl) = silent tt refl
     move-gives g h d (fReadPage {k = k} {o = o} {p = p} {n = n} {i = i} {r = r} he w l x) =
         let (most, len) = subst (λ q. Gathers q (g .progress .bytes)) w h in
         pick-ind (Gives e) _ (λ _. read-gives g k o p n i _ most (gather-more (g .progress .bytes) r p n i len (x .from) (x .to)) (x .from)) (λ _. silent tt refl)
@@ -150,7 +152,7 @@ module _ (c : Config) where
       read-counts r a q =
           decide-ind refuse (λ m. Counts (apply c (guard c) g m)) (eventChecks c (g .skeleton) (reply r a q)) _
           (λ j f m b e. unfold apply in absurd (let z : _≡_ {A = ℕ} 0 1 = cc in omega arith))
-          (λ _. decide-ind halt (λ m. Counts (apply c (guard c) g m)) (replyChecks (c .width) (g .skeleton .tables) r (g .skeleton .pending)) _
+          (λ _. decide-ind halt (λ m. Counts (apply c (guard c) g m)) (reasons (c .width) (g .skeleton) r) _
           (λ j f m b e. unfold apply in absurd (let z : _≡_ {A = ℕ} 0 1 = cc in omega arith))
           (λ _. subst (λ y. Counts (apply c (guard c) g (replyAction (c .width) (g .skeleton .tables) r y))) (sym w) (unfold replyAction in page-counts r)))
 

@@ -11,7 +11,7 @@ use lib.ListN.{length}
 use borrow.Author.Tests.{leb-true}
 use Rattle.lists.specs.Pick.{pick-ind}
 use Rattle.lists.specs.Equal.{and-fst, and-snd, and-both}
-use Rattle.lists.specs.All.{Bytes, both, none as all-none}
+use Rattle.lists.specs.All.{Bytes, both, none as all-none, all-append}
 use Rattle.lists.specs.Search.{every}
 use Rattle.lists.specs.Checks.{First, here, decide-passed}
 use Rattle.filesystem.specs.Tables.{NAME-BYTES}
@@ -19,7 +19,7 @@ use Rattle.filesystem.specs.Paths.{componentForm}
 use Rattle.rules.specs.Calls.{create, callBytes}
 use Rattle.rules.specs.Pages.{Change, first, last, fetches, cuts}
 use Rattle.rules.specs.Skeleton.{Config, Event, call, reply, save, load, Answer, done, ask, refused, stopped, plain, answerLength, requestLength}
-use Rattle.rules.specs.Rules.{Move, refuse, halt, send, finish, add, delete, readPage, begin, fillPage, stored, cutDone, saving, loading, callAction, eventChecks, judge}
+use Rattle.rules.specs.Rules.{Move, refuse, halt, send, finish, add, delete, remap, readPage, begin, fillPage, stored, cutDone, saving, loading, callAction, mapChecks, eventChecks, judge}
 use Rattle.machine.specs.Machine.{Store, State, Result, contentAt, sizeAt, stopping, readOn, finishChange, pagesStored, askStore, onPage, pagesFrom, cleared, apply, step, fresh}
 use Rattle.rules.specs.Outcomes.{known, isReason, first-has, checks-known, refused-exactly, halt-reason, judge-call, fresh-create-passes}
 
@@ -52,6 +52,7 @@ module _ (c : Config) (S : Store) where
   came s (finish t n b) = goes refl
   came s (add n) = goes refl
   came s (delete k) = goes refl
+  came s (remap x) = goes refl
   came s (readPage k o p n i r) =
       pick-ind (Came s (readPage k o p n i r)) (S .isPage (contentAt c S s k) i r)
       (λ _. pick-ind (Came s (readPage k o p n i r)) (leb (p + n) (i * 1024 + 1024)) (λ _. goes refl) (λ _. goes refl)) (λ _. stops (inr refl) refl)
@@ -104,12 +105,12 @@ module _ (c : Config) (S : Store) where
     pub refused-unchanged : step c S s e .outcome .answer ≡ refused n → step c S s e .state ≡ s
     refused-unchanged q = refuses-move q .1
 
-    pub stopped-reason : step c S s e .outcome .answer ≡ stopped n → (1 ≤ n) × (n ≤ 7)
+    pub stopped-reason : step c S s e .outcome .answer ≡ stopped n → (1 ≤ n) × (n ≤ 8)
     unfolding step isReason
     stopped-reason q = go (came-stopped s (judge c (s .skeleton) e) _ n (came s (judge c (s .skeleton) e)) q .0)
       where
-        go : (judge c (s .skeleton) e ≡ halt n) ⊎ (n ≡ 5) → (1 ≤ n) × (n ≤ 7)
-        go (inl h) = let r = halt-reason c (s .skeleton) e n h in (leb-true 1 n (and-fst _ _ r), leb-true n 7 (and-snd (leb 1 n) _ r))
+        go : (judge c (s .skeleton) e ≡ halt n) ⊎ (n ≡ 5) → (1 ≤ n) × (n ≤ 8)
+        go (inl h) = let r = halt-reason c (s .skeleton) e n h in (leb-true 1 n (and-fst _ _ r), leb-true n 8 (and-snd (leb 1 n) _ r))
         go (inr h) = omega arith
 
     pub stopped-stays : step c S s e .outcome .answer ≡ stopped n → step c S s e .state .skeleton .stopped ≡ true
@@ -135,4 +136,4 @@ unfolding step apply callAction every
 fresh-creates c S m x a q mode form short b h l =
     ap (λ m. apply c S (fresh c S) m .outcome)
     (judge-call c (fresh c S .skeleton) (create m (x ∷ [])) a q (mode, record { form = and-both _ _ form refl; bytes = both b all-none }) refl refl h l
-    ∙ decide-passed refuse _ _ (fresh-create-passes m x short))
+    ∙ decide-passed refuse _ _ (all-append (fresh-create-passes m x short) (unfold mapChecks in all-none)))

@@ -1,12 +1,12 @@
 -- The honest host can always answer: a reply that is right for the tree, whatever request stands (ids of two bytes at least: with one they run out).
 -- And right replies differ only in a new id, a descriptor or the order of a listing: the tree takes nothing else from the host.
 use mathlib.Core.Path.{_≡_, refl, ap, sym, _∙_}
-use mathlib.Core.List.{List, [], _∷_, map}
+use mathlib.Core.List.{List, [], _∷_, _++_, map}
 use Prim.Native.Nat.{ℕ, _^_, _≤_}
 use native.Mathlib.Omega.{arith}
 use native.Mathlib.Nat.{pow-le-pow-right}
 use lib.IntN.{pos}
-use lib.ListN.{length, getD, length-map}
+use lib.ListN.{length, getD, replicate, length-map}
 use Rattle.lists.specs.All.{All, both, none, Bytes, all-map}
 use Rattle.lists.specs.Free.{free, Free, free-new}
 use Rattle.lists.specs.Signed.{signed-low}
@@ -16,7 +16,7 @@ use Rattle.lists.specs.Rearranged.{Rearranged, rearranged-self, rearranged-sym,
 use Rattle.filesystem.specs.Tables.{Node, OpenFile, Tables, nodeAt, children}
 use Rattle.filesystem.specs.Sound.{to-sound}
 use Rattle.rules.specs.Pages.{pageOf}
-use Rattle.rules.specs.Requests.{asked, Pending, idle, creating, opening, closing, removing, changing, listing, stating, reading, fetching, storing, cutting}
+use Rattle.rules.specs.Requests.{asked, Pending, idle, creating, opening, closing, removing, changing, listing, stating, mapping, unmapping, reading, fetching, storing, cutting}
 use Rattle.rules.specs.Skeleton.{Config, Event, EventBytes}
 use Rattle.rules.specs.Rules.{Entry, entryForm, entryOf, statBytes}
 use Rattle.rules.specs.RightReplies.{RightId, RightDescriptor}
@@ -26,6 +26,9 @@ use Rattle.machine.specs.Tree.{tree}
 use Rattle.machine.specs.Honest.{RightFor, Right}
 use Rattle.machine.specs.Claim.{Fit}
 use Rattle.machine.specs.TreeProperties.{tree-valid}
+use Rattle.rules.specs.MapLaws.{freeAddress, free-right}
+use Rattle.rules.specs.MapMoves.{MapFits, MapsValid}
+use Rattle.machine.specs.MapRuns.{always-maps}
 
 -- an id from 1 on that no node has, a descriptor from 0 on that no open file has
 unfoldable pub freeId : List Node → ℕ
@@ -44,6 +47,8 @@ module _ (c : Config) (t : State (tree c)) where
   truthfulFor (asked (changing k m)) = encode 4 0
   truthfulFor (asked (listing k)) = put-all (entryForm (c .width)) (map entryOf (children (t .skeleton .tables .nodes) (nodeAt (t .skeleton .tables .nodes) k .id)))
   truthfulFor (asked (stating k)) = statBytes (c .width) (nodeAt (t .skeleton .tables .nodes) k)
+  truthfulFor (asked (mapping n)) = encode 8 (freeAddress (t .skeleton .maps)) ++ replicate n 0
+  truthfulFor (asked (unmapping a)) = encode 4 0
   truthfulFor (reading k o p n i) = pageOf (getD (t .contents) k []) i
   truthfulFor (fetching k o q i) = pageOf (getD (t .contents) k []) i
   truthfulFor (storing k o q i) = encode 4 1024
@@ -94,30 +99,32 @@ module _ (w : ℕ) (t : Tables) (v : ValidTables w t) where
         not-held = all-under (λ o. o .descriptor) (t .opens) (r .new);
       }
 
-module _ (c : Config) (t : State (tree c)) (v : Valid (c .width) (t .skeleton)) (wide : 2 ≤ c .width) where
-  for-right : (p : Pending) → RightFor c t (truthfulFor c t p) p
+module _ (c : Config) (t : State (tree c)) (v : Valid (c .width) (t .skeleton)) (m : MapsValid (t .skeleton)) (wide : 2 ≤ c .width) where
+  for-right : (p : Pending) → MapFits (t .skeleton .maps) p → RightFor c t (truthfulFor c t p) p
   unfolding RightFor truthfulFor
-  for-right idle = tt
-  for-right (asked (creating p k m name)) = id-right (c .width) (t .skeleton .tables) (v .tables) wide
-  for-right (asked (opening k rights)) = descriptor-right (c .width) (t .skeleton .tables) (v .tables)
-  for-right (asked (closing o)) = refl
-  for-right (asked (removing k)) = refl
-  for-right (asked (changing k m)) = refl
-  for-right (asked (listing k)) = record { entries = _; bytes = refl; each-once = rearranged-self _ }
-  for-right (asked (stating k)) = refl
-  for-right (reading k o p n i) = refl
-  for-right (fetching k o q i) = refl
-  for-right (storing k o q i) = refl
-  for-right (cutting k o q) = refl
+  for-right idle f = tt
+  for-right (asked (creating p k m name)) f = id-right (c .width) (t .skeleton .tables) (v .tables) wide
+  for-right (asked (opening k rights)) f = descriptor-right (c .width) (t .skeleton .tables) (v .tables)
+  for-right (asked (closing o)) f = refl
+  for-right (asked (removing k)) f = refl
+  for-right (asked (changing k m)) f = refl
+  for-right (asked (listing k)) f = record { entries = _; bytes = refl; each-once = rearranged-self _ }
+  for-right (asked (stating k)) f = refl
+  for-right (asked (mapping n)) f = free-right (t .skeleton .maps) n (m .valid) (f .1)
+  for-right (asked (unmapping a)) f = refl
+  for-right (reading k o p n i) f = refl
+  for-right (fetching k o q i) f = refl
+  for-right (storing k o q i) f = refl
+  for-right (cutting k o q) f = refl
 
   pub truthful-right : Right c t (truthful c t)
   unfolding Right truthful
-  truthful-right = for-right (t .skeleton .pending)
+  truthful-right = for-right (t .skeleton .pending) (m .pending)
 
 -- along every run of the tree
 pub always-truthful : (c : Config) → Fit c → 2 ≤ c .width → (es : List Event) → All EventBytes es
     → Right c (final c (tree c) (fresh c (tree c)) es) (truthful c (final c (tree c) (fresh c (tree c)) es))
-always-truthful c fit wide es a = truthful-right c _ (tree-valid c fit es a) wide
+always-truthful c fit wide es a = truthful-right c _ (tree-valid c fit es a) (always-maps c (tree c) es a) wide
 
 -- Two right replies to one request.
 module _ (c : Config) (t : State (tree c)) (r s : List ℕ) where
@@ -133,6 +140,9 @@ module _ (c : Config) (t : State (tree c)) (r s : List ℕ) where
   SameBut (asked (listing k)) =
       (es : List Entry) × (fs : List Entry) × (r ≡ put-all (entryForm (c .width)) es) × (s ≡ put-all (entryForm (c .width)) fs) × Rearranged es fs
   SameBut (asked (stating k)) = r ≡ s
+  -- each is one address, and zeros
+  SameBut (asked (mapping n)) = (a : ℕ) × (b : ℕ) × (r ≡ encode 8 a ++ replicate n 0) × (s ≡ encode 8 b ++ replicate n 0)
+  SameBut (asked (unmapping a)) = r ≡ s
   SameBut (reading k o p n i) = r ≡ s
   SameBut (fetching k o q i) = r ≡ s
   SameBut (storing k o q i) = r ≡ s
@@ -148,6 +158,8 @@ module _ (c : Config) (t : State (tree c)) (r s : List ℕ) where
   same-for a b (asked (changing k m)) x y = x ∙ sym y
   same-for a b (asked (listing k)) x y = (x .entries, y .entries, x .bytes, y .bytes, rearranged-trans (x .each-once) (rearranged-sym (y .each-once)))
   same-for a b (asked (stating k)) x y = x ∙ sym y
+  same-for a b (asked (mapping n)) x y = (x .address, y .address, x .bytes, y .bytes)
+  same-for a b (asked (unmapping k)) x y = x ∙ sym y
   same-for a b (reading k o p n i) x y = x ∙ sym y
   same-for a b (fetching k o q i) x y = x ∙ sym y
   same-for a b (storing k o q i) x y = x ∙ sym y

@@ -13,7 +13,7 @@ use Rattle.rules.specs.PageLaws.{fetch-in}
 use Rattle.rules.specs.Skeleton.{Config, Event}
 use Rattle.rules.specs.Rules.{Move, loading}
 use Rattle.machine.specs.Machine.{Store, State, Result, files, contentAt, sizeAt, readOn, finishChange, pagesStored, askStore, onPage, pagesFrom, cleared, apply}
-use Rattle.rules.specs.Valid.{ValidNodes, ValidTables, ReadingFits, ChangeFits, PageFits, Valid, Fits, fRefuse, fHalt, fSend, fFinish, fAdd, fDelete, fReadPage, fBegin, fFillPage, fStored, fCutDone, fSaving, fLoading}
+use Rattle.rules.specs.Valid.{ValidNodes, ValidTables, ReadingFits, ChangeFits, PageFits, Valid, Fits, fRefuse, fHalt, fSend, fFinish, fAdd, fDelete, fRemap, fReadPage, fBegin, fFillPage, fStored, fCutDone, fSaving, fLoading}
 use Rattle.rules.specs.TableLaws.{cursor-valid, change-valid, bare-valid}
 
 module _ (c : Config) (S : Store) where
@@ -72,6 +72,7 @@ keeps-valid c S s v m e (fSend p st k) l = record { tables = v .tables; pending 
 keeps-valid c S s v m e (fFinish pl t z) l = record { tables = t; pending = tt }
 keeps-valid c S s v m e (fAdd pl z t) l = record { tables = t; pending = tt }
 keeps-valid c S s v m e (fDelete pl t) l = record { tables = t; pending = tt }
+keeps-valid c S s v m e (fRemap pl) l = record { tables = v .tables; pending = tt }
 keeps-valid c S s v m e (fReadPage {k = k} {o = o} {p = p} {n = n} {i = i} {r = r} he w len x) l =
     pick-ind (Keeps c S) (S .isPage (contentAt c S s k) i r) (λ t. read-valid c S s k o p n i _ (v .tables) x) (λ t. record { tables = v .tables; pending = tt })
 keeps-valid c S s v m e (fBegin {k = k} {o = o} {q = q} pl x) l = pages-valid c S (cleared c S s) k o q (first q) (v .tables) x (omega arith)

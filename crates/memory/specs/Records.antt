@@ -1,7 +1,7 @@
--- A row of bytes as a record: where each field of a node and of an open file stands.
---   nodeOf, openOf      a row of bytes as a node, as an open file
---   nodeRow, openRow    the row of one, of nodeWidth and openWidth bytes
---   hintAt              the byte of an open file's row that says where its node stood
+-- A row of bytes as a record: where each field of a node, of an open file and of a map stands.
+--   nodeOf, openOf, mapOf       a row of bytes as a node, as an open file, as a map
+--   nodeRow, openRow, mapRow    the row of one, of nodeWidth, openWidth and mapWidth bytes
+--   hintAt                      the byte of an open file's row that says where its node stood
 -- Assumes nothing.
 use Prim.Native.Nat.{ℕ, _+_, _-_, _%_}
 use mathlib.Core.List.{List, [], _∷_, _++_}
@@ -9,6 +9,7 @@ use lib.ListN.{length, replicate}
 use Rattle.lists.specs.LittleEndian.{encode, decode}
 use Rattle.lists.specs.Parts.{part, overwrite}
 use Rattle.filesystem.specs.Tables.{NAME-BYTES, Node, OpenFile}
+use Rattle.filesystem.specs.MemoryMaps.{Map}
 
 -- the number in w bytes from `at`
 unfoldable pub field : ℕ → ℕ → List ℕ → ℕ
@@ -62,3 +63,13 @@ openRow hint o =
     ++ (encode 4 (o .descriptor)
     ++ (o .rights ∷ hint ∷ 0 ∷ 0 ∷ (encode 4 (o .cursor)
     ++ (0 ∷ 0 ∷ 0 ∷ 0 ∷ []))))
+
+-- Maps: rows of 12 bytes.
+abbrev pub mapWidth : ℕ
+mapWidth = 12
+
+unfoldable pub mapOf : List ℕ → Map
+mapOf r = record { address = field 0 8 r; size = field 8 4 r }
+
+unfoldable pub mapRow : Map → List ℕ
+mapRow m = encode 8 (m .address) ++ encode 4 (m .size)

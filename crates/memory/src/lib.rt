@@ -12,12 +12,13 @@ ghost use Rattle.filesystem.specs.Tables.{NODES, PAGES, NAME-BYTES, DIGEST-BYTE
 ghost use Rattle.filesystem.specs.Tables.{newOpenFile, withSize, withCursor, setMode, setSize, setCursor};
 ghost use Rattle.memory.specs.Layout.{memorySize, headNumbers, opensAt, openRows, digestWidth, dataSize};
 ghost use Rattle.memory.specs.Layout.{newDigests, stagingSize, withHead, withNodes, withOpens, withDigests};
-ghost use Rattle.memory.specs.Layout.{withStaged};
+ghost use Rattle.filesystem.specs.MemoryMaps.{MAPS, mapAt};
+ghost use Rattle.memory.specs.Layout.{withStaged, withMaps};
 ghost use Rattle.memory.specs.Memories.{Becomes, IsMemory, was};
-ghost use Rattle.memory.specs.Records.{nodeFront, nodeOf, openOf, openWidth, hintAt};
+ghost use Rattle.memory.specs.Records.{nodeFront, nodeOf, openOf, openWidth, hintAt, mapOf};
 
 // The length that the slice needs; `least_length` says that contracts mean the same by `memorySize`.
-pub const SIZE: usize = STAGING_AT + DATA_SIZE + NEW_DIGESTS * DIGEST_WIDTH;
+pub const SIZE: usize = MAPS_AT + limits::MAPS * MAP_WIDTH;
 
 // The header's numbers, 8 bytes each; more than are in use, so that a later table moves nothing.
 pub const HEAD_NUMBERS: usize = 32;
@@ -32,6 +33,8 @@ pub const NODE_WIDTH: usize = 56;
 
 pub const OPEN_WIDTH: usize = 24;
 
+pub const MAP_WIDTH: usize = 12;
+
 const DIGEST_WIDTH: usize = limits::DIGEST_BYTES;
 
 const DATA_SIZE: usize = limits::DATA_BYTES;
@@ -43,6 +46,8 @@ const OPENS_AT: usize = NODES_AT + limits::NODES * NODE_WIDTH;
 const DIGESTS_AT: usize = OPENS_AT + OPEN_ROWS * OPEN_WIDTH;
 
 const STAGING_AT: usize = DIGESTS_AT + limits::PAGES * DIGEST_WIDTH;
+
+const MAPS_AT: usize = STAGING_AT + DATA_SIZE + NEW_DIGESTS * DIGEST_WIDTH;
 
 pub fn least_length() -> usize
     ensures { λ r. ⌜ r ≡ memorySize ⌝ }
@@ -425,5 +430,63 @@ pub fn keep_digests(m: &mut [u8], i: usize, n: usize)
         STAGING_AT + DATA_SIZE,
         DIGESTS_AT + i * DIGEST_WIDTH,
         n * DIGEST_WIDTH,
+    );
+}
+
+// ---- maps
+
+pub fn map_address(m: &[u8], i: usize) -> u64
+    requires { ⌜ (i < MAPS) × IsMemory m ⌝ }
+    ensures { λ r. ⌜ r ≡ mapAt (was m .maps) i .address ⌝ }
+{
+    numbers::u64_at(m, MAPS_AT + i * MAP_WIDTH)
+}
+
+pub fn map_size(m: &[u8], i: usize) -> u32
+    requires { ⌜ (i < MAPS) × IsMemory m ⌝ }
+    ensures { λ r. ⌜ r ≡ mapAt (was m .maps) i .size ⌝ }
+{
+    numbers::u32_at(m, MAPS_AT + i * MAP_WIDTH + 8)
+}
+
+// A map's row.
+fn map_row(address: u64, size: u32) -> [u8; MAP_WIDTH]
+    ensures { λ r. ⌜ mapOf r ≡ record { address = address; size = size } ⌝ }
+{
+    let a = numbers::bytes8(address);
+    let s = numbers::bytes4(size);
+    [
+        a[0],
+        a[1],
+        a[2],
+        a[3],
+        a[4],
+        a[5],
+        a[6],
+        a[7],
+        s[0],
+        s[1],
+        s[2],
+        s[3],
+    ]
+}
+
+pub fn put_map(m: &mut [u8], i: usize, address: u64, size: u32)
+    requires { ⌜ (i < MAPS) × IsMemory m ⌝ }
+    ensures { λ _. ⌜ Becomes m (withMaps (set (was m .maps) i (record { address = address; size = size }))) ⌝ }
+{
+    let row = map_row(address, size);
+    buffers::put(m, MAPS_AT + i * MAP_WIDTH, &row);
+}
+
+pub fn move_maps(m: &mut [u8], from: usize, to: usize, n: usize)
+    requires { ⌜ (from + n ≤ MAPS) × (to + n ≤ MAPS) × IsMemory m ⌝ }
+    ensures { λ _. ⌜ Becomes m (withMaps (overwrite (was m .maps) to (part from n (was m .maps)))) ⌝ }
+{
+    buffers::shift(
+        m,
+        MAPS_AT + from * MAP_WIDTH,
+        MAPS_AT + to * MAP_WIDTH,
+        n * MAP_WIDTH,
     );
 }

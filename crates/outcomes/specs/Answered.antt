@@ -4,12 +4,12 @@ use mathlib.Core.List.{List}
 use Prim.Native.Nat.{ℕ}
 use Rattle.lists.specs.Checks.{decide}
 use Rattle.rules.specs.Skeleton.{Config}
-use Rattle.rules.specs.Rules.{Move, halt, replyChecks, replyAction}
+use Rattle.rules.specs.Rules.{Move, halt, reasons, replyAction}
 use Rattle.machine.specs.Machine.{State, Result, apply, guard as digestStore}
 
 unfoldable pub taken : (c : Config) → State (digestStore c) → List ℕ → Move
 taken c s r =
-    decide halt (replyChecks (c .width) (s .skeleton .tables) r (s .skeleton .pending))
+    decide halt (reasons (c .width) (s .skeleton) r)
     (replyAction (c .width) (s .skeleton .tables) r (s .skeleton .pending))
 
 unfoldable pub answered : (c : Config) → State (digestStore c) → List ℕ → Result (digestStore c)

@@ -2,6 +2,7 @@
 -- machine's result, for the delivered digest and width of ids, on a consistent state.
 --   Rightly m P              P of that configuration and of the state that the memory has at the entry
 --   Begins m q x r           call x is begun, its request goes to q
+--   BeginsMap m q x r        the same of a call on maps
 --   Finishes m x r           call x is done at once, no buffer is lent
 --   Accepts m p r            the reply p is taken by the pending call, no buffer is lent
 --   AcceptsAsking m p q r    the same, and a next request may go to q
@@ -25,7 +26,7 @@ use Rattle.guard_state.specs.Calls.{LAST}
 use Rattle.guard_state.specs.State.{numbersIn, stateOf}
 use Rattle.outcomes.specs.declared.Outcome.{Outcome}
 use Rattle.outcomes.specs.Sent.{Sends, Fills, Leaves}
-use Rattle.outcomes.specs.Started.{startedBy}
+use Rattle.outcomes.specs.Started.{startedBy, mapStarted}
 use Rattle.outcomes.specs.Answered.{answered}
 
 abbrev pub Rightly : Lent → ((c : Config) → State (digestStore c) → Type 0) → Type 0
@@ -35,6 +36,10 @@ Rightly m P = (c : Config) → c .digest ≡ sha256 → c .width ≡ ID-BYTES �
 abbrev pub Begins : (m q : Lent) → Call → Outcome → Type 0
 Begins m q x r =
     Rightly m (λ c s. Sends c (startedBy c s x) r (now (m .exit)) (now (q .entry)) (now (q .exit))) × KeepsLength m
+
+abbrev pub BeginsMap : (m q : Lent) → Call → Outcome → Type 0
+BeginsMap m q x r =
+    Rightly m (λ c s. Sends c (mapStarted c s x) r (now (m .exit)) (now (q .entry)) (now (q .exit))) × KeepsLength m
 
 abbrev pub Finishes : Lent → Call → Outcome → Type 0
 Finishes m x r = Rightly m (λ c s. (q : List ℕ) → Sends c (startedBy c s x) r (now (m .exit)) q q) × KeepsLength m

@@ -5,7 +5,7 @@ ghost use Prim.Native.Nat.{_≤_};
 ghost use lib.ListN.{length};
 ghost use Rattle.filesystem.specs.Tables.{DATA-BYTES};
 ghost use Rattle.memory.specs.Memories.{IsMemory};
-ghost use Rattle.guard_state.specs.Calls.{CREATING, CHANGING, FETCHING, LAST};
+ghost use Rattle.guard_state.specs.Calls.{CREATING, CHANGING, FETCHING, GROWING, MAPPING, UNMAPPING};
 ghost use Rattle.guard_state.specs.State.{numbersIn};
 ghost use Rattle.outcomes.specs.Contracts.{Accepts, AcceptsAsking, AcceptsPending};
 ghost use Rattle.requests.specs.Room.{HoldsRequest};
@@ -33,7 +33,7 @@ fn accept_page_change(
     reply: &[u8],
     request: &mut [u8],
 ) -> outcomes::Outcome
-    requires { ⌜ (call ≡ numbersIn m .call) × (FETCHING ≤ call) × (call ≤ LAST) × IsMemory m
+    requires { ⌜ (call ≡ numbersIn m .call) × (FETCHING ≤ call) × (call ≤ GROWING) × IsMemory m
         × HoldsRequest request ⌝ }
     ensures { λ r. ⌜ AcceptsAsking m reply request r ⌝ }
 {
@@ -44,6 +44,17 @@ fn accept_page_change(
         calls::SHRINK_STORING => truncations::accept_stored(m, reply, request),
         calls::CUTTING => truncations::accept_cut(m, reply),
         _ => truncations::accept_growth(m, reply),
+    }
+}
+
+// A map, and its end.
+fn accept_on_maps(m: &mut [u8], call: u64, reply: &[u8]) -> outcomes::Outcome
+    requires { ⌜ (call ≡ numbersIn m .call) × (MAPPING ≤ call) × (call ≤ UNMAPPING) × IsMemory m ⌝ }
+    ensures { λ r. ⌜ Accepts m reply r ⌝ }
+{
+    match call {
+        calls::MAPPING => maps::accept_map(m, reply),
+        _ => maps::accept_unmap(m, reply),
     }
 }
 
@@ -64,7 +75,8 @@ pub fn accept_reply(
         calls::LISTING => listings::accept_listing(m, reply, answer),
         calls::STATING => attributes::accept_stat(m, reply, answer),
         calls::READING => reads::accept_page(m, reply, answer, request),
-        calls::FETCHING..=calls::LAST => accept_page_change(m, call, reply, request),
+        calls::FETCHING..=calls::GROWING => accept_page_change(m, call, reply, request),
+        calls::MAPPING..=calls::LAST => accept_on_maps(m, call, reply),
         _ => outcomes::Outcome::Refused(61),
     }
 }

@@ -112,6 +112,25 @@ pub fn write_cut(out: &mut [u8], descriptor: u32, size: u32) -> usize
     9
 }
 
+// map: the size.
+pub fn write_map(out: &mut [u8], size: u32) -> usize
+    requires { ⌜ HoldsRequest out ⌝ }
+    ensures { λ r. ⌜ (now (out .exit) ≡ atFront (14 ∷ encode 4 size) (now (out .entry))) × (r ≡ 5) ⌝ }
+{
+    put_head(out, kinds::MAP, size);
+    5
+}
+
+// unmap: the address.
+pub fn write_unmap(out: &mut [u8], address: u64) -> usize
+    requires { ⌜ HoldsRequest out ⌝ }
+    ensures { λ r. ⌜ (now (out .exit) ≡ atFront (15 ∷ encode 8 address) (now (out .entry))) × (r ≡ 9) ⌝ }
+{
+    numbers::put_number(out, 1, 8, address);
+    out[0] = kinds::UNMAP;
+    9
+}
+
 fn put_zeros(out: &mut [u8], at: usize, n: usize)
     requires { ⌜ at + n ≤ length (now out) ⌝ }
     ensures { λ _. ⌜ Overwritten out at (zeros n) ⌝ }

@@ -20,16 +20,18 @@ use Rattle.filesystem.specs.Rights.{coverTable, covers}
 use Rattle.filesystem.specs.Paths.{joined, pathBytes, componentForm, onto, split, afterSlash, readPath, tooLong, childAt, walk, walkChecks, parentChecks, parentOf, lastOf}
 use Rattle.filesystem.specs.Image.{nodeForm, imageForm, flatten, divide, climb, pathLength, inLimits, parentsEarlier, soundNodes, sound, print, recordsLength, imageLength, parse}
 use Rattle.filesystem.specs.Digests.{replaced}
-use Rattle.rules.specs.Calls.{callBytes, byPath, byNumberAndPath, byHandle, byHandleAndNumber, byHandleAndBytes, readFields, readCall}
+use Rattle.rules.specs.Calls.{callBytes, byPath, byNumberAndPath, byHandle, byHandleAndNumber, byHandleAndBytes, readFields, readCall, byNumber}
 use Rattle.rules.specs.Pages.{pageAt, pageOf, bytesAt, resized, splice, overlay, pagePart, truncating, first, last, fetches, fill, sizeSent, cuts, bytesAfter, sizeAfter, cursorAfter, numberOf}
 use Rattle.rules.specs.Requests.{storeLength, closeRequest, fetchRequest, storeRequest, cutRequest, idle}
-use Rattle.rules.specs.Rules.{noRoom, callChecks, readAction, callAction, isNumber, isDescriptor, entryForm, sameEntry, isListing, statBytes, replyChecks, replyAction, isIdle, callOr, imageOr, isNone, eventChecks, eventAction, judge}
+use Rattle.filesystem.specs.MemoryMaps.{Map}
+use Rattle.rules.specs.MapRules.{isMapSize, mapFaults, findMap, overlaps, mapsAfter, mapNumber}
+use Rattle.rules.specs.Rules.{noRoom, callChecks, readAction, callAction, isNumber, isDescriptor, entryForm, sameEntry, isListing, statBytes, replyChecks, replyAction, isIdle, callOr, imageOr, isNone, eventChecks, eventAction, judge, mapChecks, mapReasons, reasons}
 use Rattle.rules.specs.Skeleton.{answerLength, requestLength, Answer, done, ask, refused, stopped, Outcome}
 use Rattle.machine.specs.Machine.{Store, State, readOn, finishChange, pagesStored, askStore, onPage, pagesFrom, apply, step, zeroDigest, guard}
 use Rattle.machine.specs.Tree.{tree, digestsOf, lookup, goBack}
 use Rattle.rule_examples.specs.Bytes.{bytesOf, times, pagesOf, pages, ends, digest, config}
 use Rattle.rule_examples.specs.Given.{Item, Given, concatenated, bytesIn, digestsIn}
-use Rattle.rule_examples.specs.Rows.{placed, itsBytes, Expect, isDone, isSaved, asks, begins, carries, isRefused, isStopped, Line, _⇒_, holds, Row}
+use Rattle.rule_examples.specs.Rows.{placed, itsBytes, Expect, isDone, isSaved, asks, begins, carries, isRefused, isStopped, Line, _⇒_, holds, lives, Row}
 use Rattle.rule_examples.specs.Events.{lent}
 
 -- 1,037 bytes, of which i are passed, with these at these places: in one pass, since a page is costly to make
@@ -99,6 +101,9 @@ abbrev pub sameOpen : OpenFile → OpenFile → Bool
 sameOpen m n =
     eqb (m .handle) (n .handle) && (eqb (m .descriptor) (n .descriptor) && (eqb (m .rights) (n .rights) && eqb (m .cursor) (n .cursor)))
 
+abbrev pub sameMap : Map → Map → Bool
+sameMap m n = eqb (m .address) (n .address) && eqb (m .size) (n .size)
+
 -- a store, and what it keeps of a file's bytes
 pub record Side : Type 1 where
   pub store : Store
@@ -114,7 +119,7 @@ treeSide = record { store = tree config; keeps = λ n b. b; isKept = λ n b x. e
 module _ (S : Side) where
   abbrev pub begun : Given → State (S .store)
   begun w = record {
-    skeleton = record { tables = record { nodes = map (λ i. i .node) (w .items); opens = w .opens }; pending = idle; stopped = false };
+    skeleton = record { tables = record { nodes = map (λ i. i .node) (w .items); opens = w .opens }; pending = idle; stopped = false; maps = w .maps };
     contents = map (λ i. S .keeps (i .node .size) (bytesIn i)) (w .items);
     progress = S .store .nothing;
     saves = S .store .unsaved;
@@ -124,13 +129,14 @@ module _ (S : Side) where
   isContent i x = elim (i .bytes) [ none ↦ true | some b ↦ S .isKept (i .node .size) b x ]
 
   unfoldable pub runs : State (S .store) → List Line → Bool
-  unfolding scan answers digestFor alike isContent bytesOf times pagesOf ends digest placed lent bytesIn digestsIn itsBytes concatenated step judge eventChecks eventAction callChecks callAction readAction replyChecks replyAction isIdle callOr isNone decide pick noRoom apply readOn finishChange pagesStored askStore onPage pagesFrom answerLength requestLength storeLength signed isNumber isDescriptor closeRequest fetchRequest storeRequest cutRequest pageAt overlay truncating first last fetches fill sizeSent cuts sizeAfter cursorAfter numberOf callBytes byPath byNumberAndPath byHandle byHandleAndNumber byHandleAndBytes readFields readCall joined pathBytes componentForm onto split afterSlash readPath tooLong childAt walk walkChecks parentChecks parentOf lastOf coverTable covers pagesFor pageTotal nodeAt openAt findId findChild children findHandle findDescriptor setMode setSize setCursor bind front get₂ get-as get-all ended whole encode decode every any place select without tab equal imageOr unique put-all nodeForm imageForm flatten divide climb pathLength inLimits parentsEarlier soundNodes sound print recordsLength imageLength parse pageOf bytesAt resized splice pagePart bytesAfter zeroDigest replaced digestsOf lookup goBack entryForm sameEntry isListing statBytes isRearranged
+  unfolding scan answers digestFor alike isContent bytesOf times pagesOf ends digest placed lent bytesIn digestsIn itsBytes concatenated step judge eventChecks eventAction callChecks callAction readAction replyChecks replyAction isIdle callOr isNone decide pick noRoom apply readOn finishChange pagesStored askStore onPage pagesFrom answerLength requestLength storeLength signed isNumber isDescriptor closeRequest fetchRequest storeRequest cutRequest pageAt overlay truncating first last fetches fill sizeSent cuts sizeAfter cursorAfter numberOf callBytes byPath byNumberAndPath byHandle byHandleAndNumber byHandleAndBytes readFields readCall joined pathBytes componentForm onto split afterSlash readPath tooLong childAt walk walkChecks parentChecks parentOf lastOf coverTable covers pagesFor pageTotal nodeAt openAt findId findChild children findHandle findDescriptor setMode setSize setCursor bind front get₂ get-as get-all ended whole encode decode every any place select without tab equal imageOr unique put-all nodeForm imageForm flatten divide climb pathLength inLimits parentsEarlier soundNodes sound print recordsLength imageLength parse pageOf bytesAt resized splice pagePart bytesAfter zeroDigest replaced digestsOf lookup goBack entryForm sameEntry isListing statBytes isRearranged mapChecks mapReasons reasons byNumber isMapSize mapFaults findMap overlaps mapsAfter mapNumber
   runs s [] = true
   runs s ((e ⇒ x) ∷ ls) = let r = step config (S .store) s e in meets x (r .outcome) && runs (r .state) ls
   runs s (holds is os ∷ ls) =
       alike (λ i n. sameNode (i .node) n) is (s .skeleton .tables .nodes)
       && (alike isContent is (s .contents)
       && (alike sameOpen os (s .skeleton .tables .opens) && runs s ls))
+  runs s (lives ms ∷ ls) = alike sameMap ms (s .skeleton .maps) && runs s ls
 
 -- the titles of the rows that do not hold on both
 unfoldable pub wrong : List Row → List String

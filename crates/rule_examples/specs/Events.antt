@@ -1,4 +1,4 @@
--- Events: the thirteen calls, replies, loads.
+-- Events: the fifteen calls, replies, loads.
 use mathlib.Core.List.{List, _∷_, _++_}
 use Prim.Native.Nat.{ℕ, _-_, _^_}
 use Prim.Native.String.{String}
@@ -60,7 +60,16 @@ readdir p = callOf (12 ∷ bytesOf p)
 abbrev pub stat : String → Event
 stat p = callOf (13 ∷ bytesOf p)
 
--- replies: a status; the status -n; an id or a descriptor; a page that begins so; a listing; a stat
+abbrev pub mapOf : (size : ℕ) → Event
+mapOf n = callOf (14 ∷ four n)
+
+abbrev pub unmap : (address : ℕ) → Event
+unmap a = callOf (15 ∷ eight a)
+
+-- replies: a map at an address with these bytes; a status; the status -n; an id or a descriptor; a page that begins so; a listing; a stat
+abbrev pub hands : (address : ℕ) → List ℕ → Event
+hands a b = replies (eight a ++ b)
+
 abbrev pub says : ℕ → Event
 says n = replies (four n)
 

@@ -5,6 +5,7 @@ use Prim.Native.Nat.{ℕ}
 use Prim.Native.String.{String}
 use lib.ListN.{length}
 use Rattle.filesystem.specs.Tables.{Node, OpenFile}
+use Rattle.filesystem.specs.MemoryMaps.{Map}
 use Rattle.rule_examples.specs.Bytes.{bytesOf, four, pages, digest}
 
 -- Nodes with what is in them. A `sparse` file has zeros behind these bytes; of a `sized` one the bytes are not looked at.
@@ -42,9 +43,17 @@ opened h d r c = record { handle = h; descriptor = d; rights = r; cursor = c }
 pub record Given : Type 0 where
   pub items : List Item
   pub opens : List OpenFile
+  pub maps : List Map
 
 abbrev pub given : List Item → List OpenFile → Given
-given is os = record { items = is; opens = os }
+given is os = record { items = is; opens = os; maps = [] }
+
+-- a map of this size at an address; the root alone beside these
+abbrev pub map-at : (address size : ℕ) → Map
+map-at a n = record { address = a; size = n }
+
+abbrev pub mapped : List Map → Given
+mapped ms = record { items = root ∷ []; opens = []; maps = ms }
 
 -- the image of these nodes, digests worked out from their bytes
 abbrev pub recordOf : Node → List ℕ

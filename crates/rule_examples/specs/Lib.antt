@@ -17,6 +17,7 @@ pub mod Reads
 pub mod Writes
 pub mod Truncations
 pub mod Replies
+pub mod Maps
 pub mod SaveLoad
 pub mod Soundness
 pub mod LargeNumbers

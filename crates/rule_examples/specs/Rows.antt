@@ -3,6 +3,7 @@ use mathlib.Core.List.{List, [], _∷_, _++_}
 use Prim.Native.Nat.{ℕ, suc, _+_}
 use Prim.Native.String.{String}
 use Rattle.filesystem.specs.Tables.{OpenFile}
+use Rattle.filesystem.specs.MemoryMaps.{Map}
 use Rattle.rules.specs.Skeleton.{Event, call, reply, save, load}
 use Rattle.rule_examples.specs.Bytes.{four}
 use Rattle.rule_examples.specs.Given.{Item, Given}
@@ -44,10 +45,11 @@ has i b = (13 + i, b)
 abbrev pub cutsTo : (descriptor size : ℕ) → Expect
 cutsTo d s = asks (8 ∷ (four d ++ four s))
 
--- A line: an event and what it comes to; or the nodes in order with what is in them, and the open files, as they now are.
+-- A line: an event and what it comes to; or the nodes in order with what is in them, and the open files, as they now are; or the maps.
 pub data Line : Type 0 where
   _⇒_ : Event → Expect → Line
   holds : List Item → List OpenFile → Line
+  lives : List Map → Line
 
 infix 70 _⇒_
 infixr 66 _then_

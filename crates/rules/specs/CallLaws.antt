@@ -20,7 +20,8 @@ use Rattle.lists.specs.Formats.{num, then}
 use Rattle.filesystem.specs.Tables.{DATA-BYTES}
 use Rattle.filesystem.specs.Paths.{Path, joined, pathBytes, componentForm}
 use Rattle.filesystem.specs.PathLaws.{readPath-pathBytes, readPath-was-bytes}
-use Rattle.rules.specs.Calls.{Call, create, mkdir, openAs, close, seek, read, write, truncate, remove, rmdir, chmod, readdir, stat, callBytes, byPath, byNumberAndPath, byHandle, byHandleAndNumber, byHandleAndBytes, readFields, readCall}
+use Rattle.rules.specs.Calls.{Call, create, mkdir, openAs, close, seek, read, write, truncate, remove, rmdir, chmod, readdir, stat, mapMemory, unmap, callBytes, byPath, byNumberAndPath, byHandle, byHandleAndNumber, byHandleAndBytes, byNumber, readFields, readCall}
+use Rattle.rules.specs.MapRules.{isMapSize}
 
 pub record PathFits (p : Path) : Type 0 where
   pub form : every componentForm p ≡ true
@@ -41,6 +42,8 @@ CallFits w (rmdir p) = PathFits p
 CallFits w (chmod m p) = (m ≤ 7) × PathFits p
 CallFits w (readdir p) = PathFits p
 CallFits w (stat p) = PathFits p
+CallFits w (mapMemory n) = isMapSize n ≡ true
+CallFits w (unmap a) = a < 256 ^ 8
 
 joined-bytes : (p : Path) → Bytes (joined p) → All Bytes p
 unfolding joined
@@ -99,6 +102,15 @@ module _ (w : ℕ) where
       let (t, z) = pick-some (leb (length (p .1)) DATA-BYTES) (make (p .0) (p .1)) c e₂ in
       (p .0, p .1, z, q, o, leb-true _ _ t, r)
 
+  number-written : (v : ℕ) (f : ℕ → Bool) (make : ℕ → Call) (s : List ℕ) (c : Call) → Bytes s → byNumber v f make s ≡ some c
+      → (n : ℕ) × (make n ≡ c) × (s ≡ encode v n) × (n < 256 ^ v) × (f n ≡ true)
+  unfolding byNumber
+  number-written v f make s c b e =
+      let (n, en, e₂) = bind-some _ _ _ e in
+      let (o, q) = whole-was-written (num v) s n b en in
+      let (t, z) = pick-some (f n) (make n) c e₂ in
+      (n, z, q, o, t)
+
   -- one arm of the list of kinds, and the arms after it
   arm : (kind k : ℕ) (s : List ℕ) (c : Call) (x y : Option Call) → (x ≡ some c → Written (k ∷ s) c) → (y ≡ some c → Written (kind ∷ s) c)
       → pick (eqb kind k) x y ≡ some c → Written (kind ∷ s) c
@@ -142,7 +154,9 @@ module _ (w : ℕ) where
       (arm kind 11 s c _ _ (with-number-path 11 0 7 chmod s c b (λ n p. refl) (λ n p h f. (h .1, f)))
       (arm kind 12 s c _ _ (with-path 12 readdir s c b (λ p. refl) (λ p f. f))
       (arm kind 13 s c _ _ (with-path 13 stat s c b (λ p. refl) (λ p f. f))
-      (λ e. absurd (some≢none c (sym e)))))))))))))))
+      (arm kind 14 s c _ _ (λ e. let (n, z, q, x, t) = number-written 4 isMapSize mapMemory s c b e in subst (λ c. Written (14 ∷ s) c) z (ap (λ l. 14 ∷ l) q, t))
+      (arm kind 15 s c _ _ (λ e. let (a, z, q, x, t) = number-written 8 (λ a. true) unmap s c b e in subst (λ c. Written (15 ∷ s) c) z (ap (λ l. 15 ∷ l) q, x))
+      (λ e. absurd (some≢none c (sym e)))))))))))))))))
 
   pub call-was-written : (s : List ℕ) (c : Call) → Bytes s → readCall w s ≡ some c → (s ≡ callBytes w c) × CallFits w c
   unfolding readCall
@@ -173,6 +187,14 @@ module _ (w : ℕ) where
   unfolding byHandleAndBytes bind
   handle-bytes-read make h d x y = rw (num w .read-back h d x) (pick-true _ _ _ (le-leb _ _ y))
 
+  number-read : (v : ℕ) (f : ℕ → Bool) (make : ℕ → Call) (n : ℕ) → n < 256 ^ v → f n ≡ true → byNumber v f make (encode v n) ≡ some (make n)
+  unfolding byNumber bind
+  number-read v f make n x t = rw (whole-read-back (num v) n x) (pick-true _ _ _ t)
+
+  map-size-fits : (n : ℕ) → isMapSize n ≡ true → n < 256 ^ 4
+  unfolding isMapSize
+  map-size-fits n e = let z : n ≤ 65536 = leb-true _ _ (and-fst _ _ (and-snd (leb 4096 n) _ e)) in omega arith
+
   pub call-read-back : (c : Call) → CallFits w c → readCall w (callBytes w c) ≡ some c
   unfolding readCall readFields callBytes pick
   call-read-back (create m p) (h, f) = number-path-read 0 7 create m p (omega arith, h) f
@@ -188,3 +210,5 @@ module _ (w : ℕ) where
   call-read-back (chmod m p) (h, f) = number-path-read 0 7 chmod m p (omega arith, h) f
   call-read-back (readdir p) f = path-read readdir p f
   call-read-back (stat p) f = path-read stat p f
+  call-read-back (mapMemory n) f = number-read 4 isMapSize mapMemory n (map-size-fits n f) f
+  call-read-back (unmap a) f = number-read 8 (λ a. true) unmap a f refl

@@ -1,4 +1,4 @@
--- The thirteen calls (SPECIFICATION 4.1, 4.2): their bytes, and how they are read from any bytes.
+-- The fifteen calls (SPECIFICATION 4.1, 4.2): their bytes, and how they are read from any bytes.
 -- Assumes nothing.
 use mathlib.Core.Bool.{Bool, _&&_}
 use mathlib.Core.List.{List, [], _∷_, _++_}
@@ -12,6 +12,7 @@ use Rattle.lists.specs.Form.{bind, whole}
 use Rattle.lists.specs.Formats.{num, then}
 use Rattle.filesystem.specs.Tables.{DATA-BYTES}
 use Rattle.filesystem.specs.Paths.{Path, pathBytes, readPath}
+use Rattle.rules.specs.MapRules.{isMapSize}
 
 -- `openAs` is the call open
 pub data Call : Type 0 where
@@ -25,6 +26,8 @@ pub data Call : Type 0 where
   remove rmdir : (path : Path) → Call
   chmod : (mode : ℕ) (path : Path) → Call
   readdir stat : (path : Path) → Call
+  mapMemory : (size : ℕ) → Call
+  unmap : (address : ℕ) → Call
 
 -- one byte for the kind, then exactly the fields; ids and handles have w bytes
 unfoldable pub callBytes : ℕ → Call → List ℕ
@@ -41,6 +44,8 @@ callBytes w (rmdir p) = 10 ∷ pathBytes p
 callBytes w (chmod m p) = 11 ∷ m ∷ pathBytes p
 callBytes w (readdir p) = 12 ∷ pathBytes p
 callBytes w (stat p) = 13 ∷ pathBytes p
+callBytes w (mapMemory n) = 14 ∷ encode 4 n
+callBytes w (unmap a) = 15 ∷ encode 8 a
 
 -- the fields after the kind byte, by their shapes; nothing where the bytes are not exactly of the shape (22)
 unfoldable pub byPath : (Path → Call) → List ℕ → Option Call
@@ -59,6 +64,9 @@ byHandleAndNumber w v allowed make s = bind (whole (then (num w) (λ _. num v)) 
 unfoldable pub byHandleAndBytes : ℕ → (ℕ → List ℕ → Call) → List ℕ → Option Call
 byHandleAndBytes w make s = bind (num w .get s) (λ p. pick (leb (length (p .1)) DATA-BYTES) (some (make (p .0) (p .1))) none)
 
+unfoldable pub byNumber : (v : ℕ) → (ℕ → Bool) → (ℕ → Call) → List ℕ → Option Call
+byNumber v allowed make s = bind (whole (num v) s) (λ n. pick (allowed n) (some (make n)) none)
+
 unfoldable pub readFields : ℕ → (kind : ℕ) → List ℕ → Option Call
 readFields w kind s =
     pick (eqb kind 1) (byNumberAndPath 0 7 create s)
@@ -74,7 +82,9 @@ readFields w kind s =
     (pick (eqb kind 11) (byNumberAndPath 0 7 chmod s)
     (pick (eqb kind 12) (byPath readdir s)
     (pick (eqb kind 13) (byPath stat s)
-    none))))))))))))
+    (pick (eqb kind 14) (byNumber 4 isMapSize mapMemory s)
+    (pick (eqb kind 15) (byNumber 8 (λ a. Bool.true) unmap s)
+    none))))))))))))))
 
 unfoldable pub readCall : ℕ → List ℕ → Option Call
 readCall w [] = none

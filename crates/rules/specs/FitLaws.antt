@@ -26,13 +26,13 @@ use Rattle.filesystem.specs.PathLaws.{walk-place, walk-last, parent-place}
 use Rattle.filesystem.specs.Image.{Image, parse}
 use Rattle.filesystem.specs.Sound.{gone, Sound, to-sound, limits-at, by-kind, findId-only}
 use Rattle.filesystem.specs.SoundLaws.{root-parent-length, file-children}
-use Rattle.rules.specs.Calls.{Call, create, mkdir, openAs, close, seek, read, write, truncate, remove, rmdir, chmod, readdir, stat, callBytes, readCall}
+use Rattle.rules.specs.Calls.{Call, create, mkdir, openAs, close, seek, read, write, truncate, remove, rmdir, chmod, readdir, stat, callBytes, readCall, mapMemory, unmap}
 use Rattle.rules.specs.CallLaws.{PathFits, CallFits, call-was-written}
 use Rattle.rules.specs.Pages.{pageAt, writing, truncating, sizeAfter}
-use Rattle.rules.specs.Requests.{asked, closeRequest, fetchRequest, isFetch, Pending, idle, creating, opening, closing, removing, changing, listing, stating, reading, fetching, storing, cutting}
+use Rattle.rules.specs.Requests.{asked, closeRequest, fetchRequest, isFetch, Pending, idle, creating, opening, closing, removing, changing, listing, stating, reading, fetching, storing, cutting, mapping, unmapping}
 use Rattle.rules.specs.Skeleton.{Config, Event, call, reply, save, load, EventBytes, Skeleton}
-use Rattle.rules.specs.Rules.{Move, refuse, halt, loading, target, holder, isOpen, openPlace, filePlace, opened, file, noRoom, newChecks, callChecks, readAction, callAction, signedOf, isDescriptor, replyChecks, replyAction, isIdle, callOr, imageOr, isNone, eventChecks, eventAction, judge}
-use Rattle.rules.specs.Valid.{ValidOpen, ValidTables, Valid, CreatingFits, OpeningFits, RemovingFits, Opened, ChangeFits, PendingFits, sizes, Plain, Fits, fRefuse, fHalt, fSend, fFinish, fAdd, fDelete, fReadPage, fBegin, fFillPage, fStored, fCutDone, fSaving, fLoading}
+use Rattle.rules.specs.Rules.{Move, refuse, halt, loading, target, holder, isOpen, openPlace, filePlace, opened, file, noRoom, newChecks, callChecks, readAction, callAction, signedOf, isDescriptor, replyChecks, replyAction, isIdle, callOr, imageOr, isNone, eventChecks, eventAction, judge, mapReasons, reasons}
+use Rattle.rules.specs.Valid.{ValidOpen, ValidTables, Valid, CreatingFits, OpeningFits, RemovingFits, Opened, ChangeFits, PendingFits, sizes, Plain, Fits, fRefuse, fHalt, fSend, fFinish, fAdd, fDelete, fReadPage, fBegin, fFillPage, fStored, fCutDone, fSaving, fLoading, fRemap}
 use Rattle.rules.specs.Positions.{seek-exactly}
 use Rattle.rules.specs.TableLaws.{cursor-valid, open-valid, close-valid, mode-valid, add-valid, delete-valid}
 
@@ -240,6 +240,8 @@ module _ (c : Config) (sk : Skeleton) (v : ValidTables (c .width) (sk .tables)) 
       fSend {p = asked (changing (walk ns 0 p) m)} (record { known = reached p a; modes = h }) tt refl
   call-fits e pl (readdir p) f a = let (x, y) = reach-walk p _ a in fSend (reached p x) tt refl
   call-fits e pl (stat p) f (both _ a) = fSend (reached p a) tt refl
+  call-fits e pl (mapMemory n) f a = fSend {p = asked (mapping n)} tt tt refl
+  call-fits e pl (unmap x) f a = fSend {p = asked (unmapping x)} tt tt refl
 
   -- Each reply.
   reply-fits : (r : List ℕ) (a b : ℕ) → Bytes r → (p : Pending) → sk .pending ≡ p → isIdle p ≡ false → PendingFits ns os p → Passed (replyChecks w t r p)
@@ -259,6 +261,8 @@ module _ (c : Config) (sk : Skeleton) (v : ValidTables (c .width) (sk .tables)) 
   reply-fits r a b bs (asked (changing k m)) e i f c = fFinish tt (mode-valid w t k m v f) (same-sizes ns k m)
   reply-fits r a b bs (asked (listing k)) e i f c = fFinish tt v refl
   reply-fits r a b bs (asked (stating k)) e i f c = fFinish tt v refl
+  reply-fits r a b bs (asked (mapping n)) e i f c = fRemap tt
+  reply-fits r a b bs (asked (unmapping x)) e i f c = fRemap tt
   reply-fits r a b bs (reading k o p n j) e i f (both l _) = fReadPage refl e (eqb-true _ _ (not-false _ l)) f
   reply-fits r a b bs (fetching k o q j) e i f (both l _) = fFillPage refl e (eqb-true _ _ (not-false _ l)) f
   reply-fits r a b bs (storing k o q j) e i f c = fStored tt e f
@@ -293,10 +297,11 @@ module _ (c : Config) (sk : Skeleton) (v : Valid (c .width) sk) where
 
   action-fits : (e : Event) → EventBytes e → Passed (eventChecks c sk e) → Fits c sk e (eventAction c sk e)
   unfolding eventChecks eventAction EventBytes
-  action-fits (call s a b) bs (both _ (both _ (both _ (both n p)))) = read-call-fits s a b bs (readCall (c .width) s) refl n p
+  action-fits (call s a b) bs (both _ (both _ (both _ (both n p)))) = read-call-fits s a b bs (readCall (c .width) s) refl n (all-left _ _ p)
   action-fits (reply r a b) bs (both _ (both i _)) =
-      decide-ind halt (Fits c sk (reply r a b)) (replyChecks (c .width) (sk .tables) r (sk .pending)) _ (λ n f. fHalt refl f)
-      (λ p. reply-fits c sk (v .tables) r a b bs (sk .pending) refl i (v .pending) p)
+      decide-ind halt (Fits c sk (reply r a b)) (reasons (c .width) sk r) _ (λ n f. fHalt refl f)
+      (λ p. reply-fits c sk (v .tables) r a b bs (sk .pending) refl i (v .pending)
+      (unfold reasons in all-left (replyChecks (c .width) (sk .tables) r (sk .pending)) (mapReasons (sk .maps) r (sk .pending)) p))
   action-fits (save n) bs (both _ (both i (both o _))) = fSaving refl (is-idle (sk .pending) (not-false _ i)) (none-open _ o)
   action-fits (load image d) bs (both _ (both i (both o (both h (both p _))))) =
       loading-fits image d (none-open _ o) (equal-true _ _ (not-false _ h)) (parse (c .width) image) refl p

@@ -12,7 +12,7 @@ use lib.ListN.{length, length-append, length-map}
 use borrow.Author.Tests.{eqb-true, ltb-false, ne-eqb, not-false}
 use Rattle.lists.specs.Pick.{pick, pick-false, pick-ind}
 use Rattle.lists.specs.Equal.{or-snd}
-use Rattle.lists.specs.All.{All, both, Bytes}
+use Rattle.lists.specs.All.{All, both, Bytes, all-left}
 use Rattle.lists.specs.Cells.{tab, length-tab}
 use Rattle.lists.specs.Search.{any, select}
 use Rattle.lists.specs.Places.{at-all}
@@ -24,12 +24,12 @@ use Rattle.filesystem.specs.Tables.{DATA-BYTES, NAME-BYTES, PATH-BYTES, PAGE-BY
 use Rattle.filesystem.specs.Paths.{Path, pathBytes, tooLong}
 use Rattle.filesystem.specs.LongestImage.{leafName, leaf, full, full-sound, full-named}
 use Rattle.filesystem.specs.Sound.{Sound, to-sound, limits-at, root-parent, name-short}
-use Rattle.rules.specs.Calls.{Call, create, mkdir, openAs, close, seek, read, write, truncate, remove, rmdir, chmod, readdir, stat, callBytes, readCall}
+use Rattle.rules.specs.Calls.{Call, create, mkdir, openAs, close, seek, read, write, truncate, remove, rmdir, chmod, readdir, stat, callBytes, readCall, mapMemory, unmap}
 use Rattle.rules.specs.CallLaws.{CallFits, call-was-written}
 use Rattle.rules.specs.Pages.{pageAt, bytesAt, pagePart, overlay, Change, writing, shrinking, growing, fill}
-use Rattle.rules.specs.Requests.{storeLength, asked, closeRequest, fetchRequest, storeRequest, Pending, idle, creating, opening, closing, removing, changing, listing, stating, reading, fetching, storing, cutting}
+use Rattle.rules.specs.Requests.{storeLength, asked, closeRequest, fetchRequest, storeRequest, Pending, idle, creating, opening, closing, removing, changing, listing, stating, reading, fetching, storing, cutting, mapping, unmapping}
 use Rattle.rules.specs.Skeleton.{Config, Event, call, reply, save, load, EventBytes, answerLength, requestLength, Skeleton}
-use Rattle.rules.specs.Rules.{Move, refuse, halt, send, finish, add, delete, readPage, begin, fillPage, stored, cutDone, saving, loading, openPlace, filePlace, opened, file, Entry, entryForm, entryOf, callChecks, readAction, callAction, replyChecks, replyAction, callOr, isNone, eventChecks, eventAction, judge}
+use Rattle.rules.specs.Rules.{Move, refuse, halt, send, finish, add, delete, readPage, begin, fillPage, stored, cutDone, saving, loading, openPlace, filePlace, opened, file, Entry, entryForm, entryOf, callChecks, readAction, callAction, replyChecks, replyAction, callOr, isNone, eventChecks, eventAction, judge, remap, mapReasons, reasons}
 use Rattle.rules.specs.RightReplies.{RightListing}
 use Rattle.rules.specs.Valid.{ValidNodes, ValidTables, PendingFits, Valid}
 use Rattle.rules.specs.TableLaws.{bare-valid}
@@ -110,6 +110,7 @@ Modest c (send p q) = (length q ≤ requestLength c) × Gathers p []
 Modest c (finish t n b) = length b ≤ answerLength c
 Modest c (add n) = Unit {0}
 Modest c (delete k) = Unit {0}
+Modest c (remap x) = Unit {0}
 Modest c (readPage k o p n i r) = Unit {0}
 Modest c (begin k o q) = Unit {0}
 Modest c (fillPage k o q i r) = Unit {0}
@@ -154,6 +155,8 @@ module _ (c : Config) (t : Tables) where
   call-modest (chmod m p) f (both e _) = let z = path-short p e in (omega arith, tt)
   call-modest (readdir p) f (both e _) = let z = path-short p e in (omega arith, tt)
   call-modest (stat p) f (both e _) = let z = path-short p e in (omega arith, tt)
+  call-modest (mapMemory n) f a = (omega arith, tt)
+  call-modest (unmap x) f a = (omega arith, tt)
 
   reply-modest : (r : List ℕ) → Bytes r → ValidNodes (c .width) (t .nodes) → (p : Pending) → PendingFits (t .nodes) (t .opens) p
       → Passed (replyChecks (c .width) t r p)
@@ -167,6 +170,8 @@ module _ (c : Config) (t : Tables) where
   reply-modest r b v (asked (changing k m)) f a = omega arith
   reply-modest r b v (asked (listing k)) f a = listing-length (c .width) t r k v f (listing-right (c .width) t r k b a)
   reply-modest r b v (asked (stating k)) f (both l _) = let z : length r ≡ c .width + 6 = eqb-true _ _ (not-false _ l) in omega arith
+  reply-modest r b v (asked (mapping n)) f a = tt
+  reply-modest r b v (asked (unmapping x)) f a = tt
   reply-modest r b v (reading k o p n i) f a = tt
   reply-modest r b v (fetching k o q i) f a = tt
   reply-modest r b v (storing k o q i) f a = tt
@@ -181,10 +186,11 @@ module _ (c : Config) (sk : Skeleton) (v : Valid (c .width) sk) where
 
   action-modest : (e : Event) → EventBytes e → Passed (eventChecks c sk e) → Modest c (eventAction c sk e)
   unfolding eventChecks eventAction EventBytes
-  action-modest (call s a q) b (both _ (both _ (both _ (both n p)))) = read-modest s b (readCall (c .width) s) refl n p
+  action-modest (call s a q) b (both _ (both _ (both _ (both n p)))) = read-modest s b (readCall (c .width) s) refl n (all-left _ _ p)
   action-modest (reply r a q) b _ =
-      decide-ind halt (Modest c) (replyChecks (c .width) (sk .tables) r (sk .pending)) _ (λ n f. tt)
-      (λ p. reply-modest c (sk .tables) r b (v .tables .nodes-valid) (sk .pending) (v .pending) p)
+      decide-ind halt (Modest c) (reasons (c .width) sk r) _ (λ n f. tt)
+      (λ p. reply-modest c (sk .tables) r b (v .tables .nodes-valid) (sk .pending) (v .pending)
+      (unfold reasons in all-left (replyChecks (c .width) (sk .tables) r (sk .pending)) (mapReasons (sk .maps) r (sk .pending)) p))
   action-modest (save n) b p = tt
   action-modest (load i d) b p = tt
 

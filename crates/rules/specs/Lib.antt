@@ -1,3 +1,4 @@
+pub mod MapRules
 pub mod Calls
 pub mod CallLaws
 pub mod Pages
@@ -11,5 +12,7 @@ pub mod Valid
 pub mod TableLaws
 pub mod FitLaws
 pub mod ReplyLaws
+pub mod MapLaws
+pub mod MapMoves
 pub mod Outcomes
 pub mod Lengths

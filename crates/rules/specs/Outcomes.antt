@@ -16,22 +16,24 @@ use Rattle.lists.specs.Search.{any, place}
 use Rattle.lists.specs.Checks.{Check, Passed, First, here, decide, decide-passed, decide-ind, decide-exactly}
 use Rattle.filesystem.specs.Tables.{NODES, OPEN-FILES, NAME-BYTES, PATH-BYTES, Node, Tables, freshTables, nodeAt, findChild}
 use Rattle.filesystem.specs.Paths.{Path, joined, pathBytes, tooLong, childAt, walk, walkChecks, parentChecks, parentOf}
-use Rattle.rules.specs.Calls.{Call, create, mkdir, openAs, close, seek, read, write, truncate, remove, rmdir, chmod, readdir, stat, callBytes, readCall}
+use Rattle.rules.specs.Calls.{Call, create, mkdir, openAs, close, seek, read, write, truncate, remove, rmdir, chmod, readdir, stat, mapMemory, unmap, callBytes, readCall}
 use Rattle.rules.specs.CallLaws.{CallFits, call-read-back}
-use Rattle.rules.specs.Requests.{asked, Pending, idle, creating, opening, closing, removing, changing, listing, stating, reading, fetching, storing, cutting}
+use Rattle.filesystem.specs.MemoryMaps.{Map}
+use Rattle.rules.specs.MapRules.{mapFaults}
+use Rattle.rules.specs.Requests.{asked, Pending, idle, creating, opening, closing, removing, changing, listing, stating, mapping, unmapping, reading, fetching, storing, cutting}
 use Rattle.rules.specs.Skeleton.{Config, Event, call, reply, save, load, stopped, answerLength, requestLength, Skeleton}
-use Rattle.rules.specs.Rules.{Move, refuse, halt, send, finish, add, delete, readPage, begin, fillPage, stored, cutDone, saving, loading, callChecks, readAction, callAction, replyChecks, replyAction, isIdle, callOr, isNone, eventChecks, eventAction, judge}
+use Rattle.rules.specs.Rules.{Move, refuse, halt, send, finish, add, delete, remap, readPage, begin, fillPage, stored, cutDone, saving, loading, callChecks, readAction, callAction, replyChecks, replyAction, mapChecks, mapReasons, reasons, isIdle, callOr, isNone, eventChecks, eventAction, judge}
 
 -- SPECIFICATION 7.1
 abbrev pub numbers : List ℕ
-numbers = 5 ∷ 114 ∷ 61 ∷ 34 ∷ 22 ∷ 36 ∷ 20 ∷ 13 ∷ 2 ∷ 17 ∷ 21 ∷ 16 ∷ 39 ∷ 24 ∷ 9 ∷ 27 ∷ 28 ∷ 74 ∷ 84 ∷ []
+numbers = 5 ∷ 114 ∷ 61 ∷ 34 ∷ 22 ∷ 36 ∷ 12 ∷ 20 ∷ 13 ∷ 2 ∷ 17 ∷ 21 ∷ 16 ∷ 39 ∷ 24 ∷ 9 ∷ 27 ∷ 28 ∷ 74 ∷ 84 ∷ []
 
 unfoldable pub known : ℕ → Bool
 known n = any (eqb n) numbers
 
 -- SPECIFICATION 5.10
 unfoldable pub isReason : ℕ → Bool
-isReason n = leb 1 n && leb n 7
+isReason n = leb 1 n && leb n 8
 
 abbrev Reason : Check → Type 0
 Reason ch = isReason (ch .0) ≡ true
@@ -82,10 +84,32 @@ module _ (t : Tables) where
   call-known (chmod m p) = both refl (walk-known p)
   call-known (readdir p) = both refl (all-append (walk-known p) (both refl (both refl all-none)))
   call-known (stat p) = both refl (walk-known p)
+  call-known (mapMemory n) = all-none
+  call-known (unmap a) = all-none
+
+map-known : (ms : List Map) (q : Call) → All Known (mapChecks ms q)
+unfolding mapChecks known any
+map-known ms (create m p) = all-none
+map-known ms (mkdir m p) = all-none
+map-known ms (openAs r p) = all-none
+map-known ms (close h) = all-none
+map-known ms (seek h n) = all-none
+map-known ms (read h n) = all-none
+map-known ms (write h d) = all-none
+map-known ms (truncate h n) = all-none
+map-known ms (remove p) = all-none
+map-known ms (rmdir p) = all-none
+map-known ms (chmod m p) = all-none
+map-known ms (readdir p) = all-none
+map-known ms (stat p) = all-none
+map-known ms (mapMemory n) = both refl all-none
+map-known ms (unmap a) = both refl all-none
 
 pub checks-known : (c : Config) (sk : Skeleton) (e : Event) → All (λ (ch : Check). known (ch .0) ≡ true) (eventChecks c sk e)
 unfolding eventChecks known any
-checks-known c sk (call s a q) = both refl (both refl (both refl (both refl (call-known (sk .tables) (callOr (readCall (c .width) s))))))
+checks-known c sk (call s a q) =
+    both refl (both refl (both refl (both refl
+    (all-append (call-known (sk .tables) (callOr (readCall (c .width) s))) (map-known (sk .maps) (callOr (readCall (c .width) s)))))))
 checks-known c sk (reply r a q) = both refl (both refl (both refl all-none))
 checks-known c sk (save n) = both refl (both refl (both refl (both refl all-none)))
 checks-known c sk (load i d) = both refl (both refl (both refl (both refl (both refl all-none))))
@@ -98,6 +122,7 @@ Acts (send p q) = Unit {0}
 Acts (finish t n b) = Unit {0}
 Acts (add n) = Unit {0}
 Acts (delete k) = Unit {0}
+Acts (remap x) = Unit {0}
 Acts (readPage k o p n i r) = Unit {0}
 Acts (begin k o q) = Unit {0}
 Acts (fillPage k o q i r) = Unit {0}
@@ -121,6 +146,8 @@ call-acts t w (rmdir p) = tt
 call-acts t w (chmod m p) = tt
 call-acts t w (readdir p) = tt
 call-acts t w (stat p) = tt
+call-acts t w (mapMemory n) = tt
+call-acts t w (unmap a) = tt
 
 module _ (w : ℕ) (t : Tables) (r : List ℕ) where
   reply-reasons : (p : Pending) → All Reason (replyChecks w t r p)
@@ -133,10 +160,29 @@ module _ (w : ℕ) (t : Tables) (r : List ℕ) where
   reply-reasons (asked (changing k m)) = both refl (both refl all-none)
   reply-reasons (asked (listing k)) = both refl all-none
   reply-reasons (asked (stating k)) = both refl (both refl all-none)
+  reply-reasons (asked (mapping n)) = both refl all-none
+  reply-reasons (asked (unmapping a)) = both refl (both refl all-none)
   reply-reasons (reading k o p n i) = both refl all-none
   reply-reasons (fetching k o q i) = both refl all-none
   reply-reasons (storing k o q i) = both refl (both refl all-none)
   reply-reasons (cutting k o q) = both refl (both refl all-none)
+
+  map-reasons : (ms : List Map) (p : Pending) → All Reason (mapReasons ms r p)
+  unfolding mapReasons mapFaults isReason
+  map-reasons ms idle = all-none
+  map-reasons ms (asked (creating p k m name)) = all-none
+  map-reasons ms (asked (opening k rights)) = all-none
+  map-reasons ms (asked (closing o)) = all-none
+  map-reasons ms (asked (removing k)) = all-none
+  map-reasons ms (asked (changing k m)) = all-none
+  map-reasons ms (asked (listing k)) = all-none
+  map-reasons ms (asked (stating k)) = all-none
+  map-reasons ms (asked (mapping n)) = both refl (both refl (both refl (both refl (both refl all-none))))
+  map-reasons ms (asked (unmapping a)) = all-none
+  map-reasons ms (reading k o p n i) = all-none
+  map-reasons ms (fetching k o q i) = all-none
+  map-reasons ms (storing k o q i) = all-none
+  map-reasons ms (cutting k o q) = all-none
 
   reply-acts : (p : Pending) → isIdle p ≡ false → Acts (replyAction w t r p)
   unfolding replyAction isIdle
@@ -148,6 +194,8 @@ module _ (w : ℕ) (t : Tables) (r : List ℕ) where
   reply-acts (asked (changing k m)) e = tt
   reply-acts (asked (listing k)) e = tt
   reply-acts (asked (stating k)) e = tt
+  reply-acts (asked (mapping n)) e = tt
+  reply-acts (asked (unmapping a)) e = tt
   reply-acts (reading k o p n i) e = tt
   reply-acts (fetching k o q i) e = tt
   reply-acts (storing k o q i) e = tt
@@ -155,10 +203,11 @@ module _ (w : ℕ) (t : Tables) (r : List ℕ) where
 
 module _ (c : Config) (sk : Skeleton) where
   action-acts : (e : Event) → Passed (eventChecks c sk e) → Acts (eventAction c sk e)
-  unfolding eventChecks eventAction
+  unfolding eventChecks eventAction reasons
   action-acts (call s a q) p = call-acts (sk .tables) (c .width) (callOr (readCall (c .width) s))
   action-acts (reply r a q) (both _ (both i _)) =
-      decide-ind halt Acts (replyChecks (c .width) (sk .tables) r (sk .pending)) _ (λ n f. first-has (reply-reasons (c .width) (sk .tables) r (sk .pending)) f)
+      decide-ind halt Acts (reasons (c .width) sk r) _
+      (λ n f. first-has (all-append (reply-reasons (c .width) (sk .tables) r (sk .pending)) (map-reasons (c .width) (sk .tables) r (sk .maps) (sk .pending))) f)
       (λ _. reply-acts (c .width) (sk .tables) r (sk .pending) i)
   action-acts (save n) p = tt
   action-acts (load i d) p = tt
@@ -176,7 +225,7 @@ module _ (c : Config) (sk : Skeleton) where
 
 -- SPECIFICATION 13.3: a reply that no reason stops is acted on.
 pub reply-goes : (c : Config) (sk : Skeleton) (r : List ℕ) (a q : ℕ) → Passed (eventChecks c sk (reply r a q))
-    → Passed (replyChecks (c .width) (sk .tables) r (sk .pending))
+    → Passed (reasons (c .width) sk r)
     → judge c sk (reply r a q) ≡ replyAction (c .width) (sk .tables) r (sk .pending)
 unfolding judge eventAction
 reply-goes c sk r a q p h = decide-passed refuse _ _ p ∙ decide-passed halt _ _ h
@@ -220,7 +269,7 @@ module _ (t : Tables) where
 -- A call in range, with long enough buffers, while nothing stands: its own checks decide.
 pub judge-call : (c : Config) (sk : Skeleton) (q : Call) (a b : ℕ) → CallFits (c .width) q → sk .stopped ≡ false → sk .pending ≡ idle → answerLength c ≤ a
     → requestLength c ≤ b
-    → judge c sk (call (callBytes (c .width) q) a b) ≡ decide refuse (callChecks (sk .tables) q) (callAction (sk .tables) (c .width) q)
+    → judge c sk (call (callBytes (c .width) q) a b) ≡ decide refuse (callChecks (sk .tables) q ++ mapChecks (sk .maps) q) (callAction (sk .tables) (c .width) q)
 unfolding judge eventChecks eventAction decide isIdle isNone callOr
 judge-call c sk q a b f running quiet h l =
     let e = call-read-back (c .width) q f in
@@ -228,7 +277,7 @@ judge-call c sk q a b f running quiet h l =
     ∙ (pick-false _ _ _ (ap (λ p. not (isIdle p)) quiet)
     ∙ (pick-false _ _ _ (or-both _ _ (le-ltb _ _ h) (le-ltb _ _ l))
     ∙ (pick-false _ _ _ (ap isNone e)
-    ∙ ap (λ o. decide refuse (callChecks (sk .tables) (callOr o)) (callAction (sk .tables) (c .width) (callOr o))) e)))
+    ∙ ap (λ o. decide refuse (callChecks (sk .tables) (callOr o) ++ mapChecks (sk .maps) (callOr o)) (callAction (sk .tables) (c .width) (callOr o))) e)))
 
 -- On fresh tables a create of a name that is not too long passes.
 pub fresh-create-passes : (m : ℕ) (x : List ℕ) → length x ≤ NAME-BYTES → Passed (callChecks freshTables (create m (x ∷ [])))

@@ -38,6 +38,8 @@ pub data Question : Type 0 where
   changing : (k mode : ℕ) → Question
   listing : (k : ℕ) → Question
   stating : (k : ℕ) → Question
+  mapping : (size : ℕ) → Question
+  unmapping : (address : ℕ) → Question
 
 -- the pending call and how far it has come: i is the page that was asked last
 pub data Pending : Type 0 where

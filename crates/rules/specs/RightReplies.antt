@@ -1,15 +1,18 @@
 -- Replies that are right for the tables, from SPECIFICATION 5.5 alone: neither the rules that judge nor the step is named.
 -- Assumes nothing.
 use mathlib.Core.Path.{_≡_}
-use mathlib.Core.List.{List, map}
-use Prim.Native.Nat.{ℕ, _<_}
-use lib.ListN.{length}
+use mathlib.Core.Logic.{_⊎_}
+use mathlib.Core.List.{List, map, _++_}
+use Prim.Native.Nat.{ℕ, _+_, _*_, _<_, _≤_}
+use lib.ListN.{length, replicate}
 use lib.IntN.{pos}
 use Rattle.lists.specs.All.{All}
-use Rattle.lists.specs.LittleEndian.{decode}
+use Rattle.lists.specs.LittleEndian.{encode, decode}
 use Rattle.lists.specs.Form.{put-all}
 use Rattle.lists.specs.Rearranged.{Rearranged}
 use Rattle.filesystem.specs.Tables.{DESCRIPTORS, Node, OpenFile, Tables, nodeAt, children}
+use Rattle.filesystem.specs.MemoryMaps.{Map, MAP-UNIT}
+use Rattle.rules.specs.MapRules.{ADDRESSES}
 use Rattle.rules.specs.Rules.{signedOf, Entry, entryForm, entryOf}
 
 -- an id that is not 0 and that no node has
@@ -31,3 +34,18 @@ pub record RightListing (w : ℕ) (t : Tables) (r : List ℕ) (k : ℕ) : Type 0
   pub entries : List Entry
   pub bytes : r ≡ put-all (entryForm w) entries
   pub each-once : Rearranged entries (map entryOf (children (t .nodes) (nodeAt (t .nodes) k .id)))
+
+-- one map lies wholly before the other: they touch at most
+abbrev pub Apart : Map → Map → Type 0
+Apart m n = (m .address + m .size ≤ n .address) ⊎ (n .address + n .size ≤ m .address)
+
+-- an address of 8 bytes and n zeros: a multiple of 4,096 and not 0, no byte beyond 2^64 - 1, no live map overlapped
+pub record RightMap (ms : List Map) (n : ℕ) (r : List ℕ) : Type 0 where
+  pub address : ℕ
+  pub units : ℕ
+  pub low : address < ADDRESSES
+  pub bytes : r ≡ encode 8 address ++ replicate n 0
+  pub whole-units : address ≡ units * MAP-UNIT
+  pub not-zero : address ≡ 0 → ⊥
+  pub ends-inside : address + n ≤ ADDRESSES
+  pub apart : All (Apart (record { address = address; size = n })) ms

@@ -23,9 +23,11 @@ use Rattle.filesystem.specs.Tables.{NODES, OPEN-FILES, PAGES, PAGE-BYTES, FILE-
 use Rattle.filesystem.specs.Rights.{covers}
 use Rattle.filesystem.specs.Paths.{Path, tooLong, walk, walkChecks, parentChecks, parentOf, lastOf}
 use Rattle.filesystem.specs.Image.{Image, imageLength, parse}
-use Rattle.rules.specs.Calls.{Call, create, mkdir, openAs, close, seek, read, write, truncate, remove, rmdir, chmod, readdir, stat, callBytes, readCall}
+use Rattle.filesystem.specs.MemoryMaps.{Map, MAPS}
+use Rattle.rules.specs.MapRules.{MapChange, begins, ends, mapIn, findMap, mapFaults}
+use Rattle.rules.specs.Calls.{Call, create, mkdir, openAs, close, seek, read, write, truncate, remove, rmdir, chmod, readdir, stat, callBytes, readCall, mapMemory, unmap}
 use Rattle.rules.specs.Pages.{pageAt, Change, writing, truncating}
-use Rattle.rules.specs.Requests.{asked, closeRequest, fetchRequest, Pending, idle, creating, opening, closing, removing, changing, listing, stating, reading, fetching, storing, cutting}
+use Rattle.rules.specs.Requests.{asked, closeRequest, fetchRequest, Pending, idle, creating, opening, closing, removing, changing, listing, stating, reading, fetching, storing, cutting, mapping, unmapping}
 use Rattle.rules.specs.Skeleton.{Config, Event, call, reply, save, load, answerLength, requestLength, Skeleton}
 
 -- What an event leads to.
@@ -36,6 +38,8 @@ pub data Move : Type 0 where
   finish : Tables → (number : ℕ) → (bytes : List ℕ) → Move
   add : Node → Move
   delete : ℕ → Move
+  -- a map begins or ends
+  remap : MapChange → Move
   -- a page came for a read
   readPage : (k o position n i : ℕ) → List ℕ → Move
   -- a change of a file's bytes begins; a page came for it; a page is stored; the file is cut
@@ -124,6 +128,9 @@ module _ (t : Tables) where
   callChecks (chmod m p) = reach p
   callChecks (readdir p) = reach p ++ ((20, not (isDirectory (target p))) ∷ (13, not (hasBit 4 (target p))) ∷ [])
   callChecks (stat p) = reach p
+  -- no table of the files is read: `mapChecks`
+  callChecks (mapMemory n) = []
+  callChecks (unmap a) = []
 
   -- and what it does where none of them holds (SPECIFICATION 5.2); w is the width of ids
   module _ (w : ℕ) where
@@ -148,6 +155,26 @@ module _ (t : Tables) where
     callAction (chmod m p) = send (asked (changing (walk (t .nodes) 0 p) m)) (callBytes w (chmod m p))
     callAction (readdir p) = send (asked (listing (walk (t .nodes) 0 p))) (callBytes w (readdir p))
     callAction (stat p) = send (asked (stating (walk (t .nodes) 0 p))) (callBytes w (stat p))
+    callAction (mapMemory n) = send (asked (mapping n)) (callBytes w (mapMemory n))
+    callAction (unmap a) = send (asked (unmapping a)) (callBytes w (unmap a))
+
+-- Maps: a list of their own, behind the others (SPECIFICATION 7.8)
+unfoldable pub mapChecks : List Map → Call → List Check
+mapChecks ms (create m p) = []
+mapChecks ms (mkdir m p) = []
+mapChecks ms (openAs r p) = []
+mapChecks ms (close h) = []
+mapChecks ms (seek h n) = []
+mapChecks ms (read h n) = []
+mapChecks ms (write h d) = []
+mapChecks ms (truncate h n) = []
+mapChecks ms (remove p) = []
+mapChecks ms (rmdir p) = []
+mapChecks ms (chmod m p) = []
+mapChecks ms (readdir p) = []
+mapChecks ms (stat p) = []
+mapChecks ms (mapMemory n) = (12, leb MAPS (length ms)) ∷ []
+mapChecks ms (unmap a) = (22, absent ms (findMap ms a)) ∷ []
 
 -- Replies.
 
@@ -203,6 +230,8 @@ module _ (w : ℕ) (t : Tables) (r : List ℕ) where
   replyChecks (asked (changing k m)) = statusChecks 0
   replyChecks (asked (listing k)) = (7, not (isListing w (children (t .nodes) (nodeAt (t .nodes) k .id)) r)) ∷ []
   replyChecks (asked (stating k)) = lengthCheck (w + 6) ∷ (6, not (equal r (statBytes w (nodeAt (t .nodes) k)))) ∷ []
+  replyChecks (asked (mapping n)) = lengthCheck (8 + n) ∷ []
+  replyChecks (asked (unmapping a)) = statusChecks 0
   replyChecks (reading k o p n i) = lengthCheck PAGE-BYTES ∷ []
   replyChecks (fetching k o q i) = lengthCheck PAGE-BYTES ∷ []
   replyChecks (storing k o q i) = statusChecks PAGE-BYTES
@@ -219,10 +248,33 @@ module _ (w : ℕ) (t : Tables) (r : List ℕ) where
   replyAction (asked (changing k m)) = finish (record { nodes = setMode (t .nodes) k m; opens = t .opens }) 0 []
   replyAction (asked (listing k)) = finish t (length (children (t .nodes) (nodeAt (t .nodes) k .id))) r
   replyAction (asked (stating k)) = finish t (nodeAt (t .nodes) k .size) r
+  replyAction (asked (mapping n)) = remap (begins (mapIn n r))
+  replyAction (asked (unmapping a)) = remap (ends a)
   replyAction (reading k o p n i) = readPage k o p n i r
   replyAction (fetching k o q i) = fillPage k o q i r
   replyAction (storing k o q i) = stored k o q i
   replyAction (cutting k o q) = cutDone k o q
+
+-- the reasons of a reply that names a map, behind its length
+unfoldable pub mapReasons : List Map → List ℕ → Pending → List Check
+mapReasons ms r idle = []
+mapReasons ms r (asked (creating p k m name)) = []
+mapReasons ms r (asked (opening k rights)) = []
+mapReasons ms r (asked (closing o)) = []
+mapReasons ms r (asked (removing k)) = []
+mapReasons ms r (asked (changing k m)) = []
+mapReasons ms r (asked (listing k)) = []
+mapReasons ms r (asked (stating k)) = []
+mapReasons ms r (asked (mapping n)) = mapFaults ms n r
+mapReasons ms r (asked (unmapping a)) = []
+mapReasons ms r (reading k o p n i) = []
+mapReasons ms r (fetching k o q i) = []
+mapReasons ms r (storing k o q i) = []
+mapReasons ms r (cutting k o q) = []
+
+-- every reason to stop at a reply, in their order (SPECIFICATION 5.10); a page's digest (5) apart
+unfoldable pub reasons : ℕ → Skeleton → List ℕ → List Check
+reasons w sk r = replyChecks w (sk .tables) r (sk .pending) ++ mapReasons (sk .maps) r (sk .pending)
 
 -- Every event: the one list of its numbers, and what it leads to.
 unfoldable pub isIdle : Pending → Bool
@@ -262,7 +314,7 @@ module _ (c : Config) (sk : Skeleton) where
   unfoldable pub eventChecks : Event → List Check
   eventChecks (call s answer request) =
       stoppedCheck ∷ busyCheck ∷ shortCheck answer request ∷ (22, isNone (readCall (c .width) s))
-      ∷ callChecks (sk .tables) (callOr (readCall (c .width) s))
+      ∷ (callChecks (sk .tables) (callOr (readCall (c .width) s)) ++ mapChecks (sk .maps) (callOr (readCall (c .width) s)))
   eventChecks (reply r answer request) = stoppedCheck ∷ (61, isIdle (sk .pending)) ∷ shortCheck answer request ∷ []
   eventChecks (save buffer) = stoppedCheck ∷ busyCheck ∷ inUseCheck ∷ (34, ltb buffer (imageLength (c .width) (sk .tables .nodes))) ∷ []
   eventChecks (load image digest) =
@@ -271,7 +323,7 @@ module _ (c : Config) (sk : Skeleton) where
   unfoldable pub eventAction : Event → Move
   eventAction (call s answer request) = callAction (sk .tables) (c .width) (callOr (readCall (c .width) s))
   eventAction (reply r answer request) =
-      decide halt (replyChecks (c .width) (sk .tables) r (sk .pending)) (replyAction (c .width) (sk .tables) r (sk .pending))
+      decide halt (reasons (c .width) sk r) (replyAction (c .width) (sk .tables) r (sk .pending))
   eventAction (save buffer) = saving
   eventAction (load image digest) = loading (imageOr (parse (c .width) image)) digest
 

@@ -7,6 +7,7 @@ use Prim.Native.Nat.{ℕ, _+_, _-_, _*_}
 use Rattle.lists.specs.All.{Bytes}
 use Rattle.lists.specs.Parts.{overwrite}
 use Rattle.filesystem.specs.Tables.{NODES, NAME-BYTES, Tables, freshTables}
+use Rattle.filesystem.specs.MemoryMaps.{Map}
 use Rattle.rules.specs.Requests.{storeLength, Pending, idle}
 
 -- what may vary: the digest, and the width of ids in bytes
@@ -85,19 +86,25 @@ pub record Skeleton : Type 0 where
   pub tables : Tables
   pub pending : Pending
   pub stopped : Bool
+  -- the maps that live, in the order in which they began
+  pub maps : List Map
 
 -- a call waits for its reply; none does, with these tables; a stop
 abbrev pub waiting : Skeleton → Pending → Skeleton
-waiting sk p = record { tables = sk .tables; pending = p; stopped = false }
+waiting sk p = record { tables = sk .tables; pending = p; stopped = false; maps = sk .maps }
 
 abbrev pub resting : Skeleton → Tables → Skeleton
-resting sk t = record { tables = t; pending = idle; stopped = false }
+resting sk t = record { tables = t; pending = idle; stopped = false; maps = sk .maps }
 
 abbrev pub halted : Skeleton → Skeleton
-halted sk = record { tables = sk .tables; pending = idle; stopped = true }
+halted sk = record { tables = sk .tables; pending = idle; stopped = true; maps = sk .maps }
+
+-- a map began or ended
+abbrev pub remapped : Skeleton → List Map → Skeleton
+remapped sk ms = record { tables = sk .tables; pending = idle; stopped = false; maps = ms }
 
 pub resting-same : (sk : Skeleton) → sk .pending ≡ idle → sk .stopped ≡ false → resting sk (sk .tables) ≡ sk
-resting-same sk quiet running = λ x. record { tables = sk .tables; pending = sym quiet x; stopped = sym running x }
+resting-same sk quiet running = λ x. record { tables = sk .tables; pending = sym quiet x; stopped = sym running x; maps = sk .maps }
 
 abbrev pub freshSkeleton : Skeleton
-freshSkeleton = record { tables = freshTables; pending = idle; stopped = false }
+freshSkeleton = record { tables = freshTables; pending = idle; stopped = false; maps = [] }

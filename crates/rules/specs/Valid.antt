@@ -16,9 +16,10 @@ use Rattle.filesystem.specs.Tables.{NODES, OPEN-FILES, PAGES, PAGE-BYTES, FILE-
 use Rattle.filesystem.specs.Paths.{componentForm}
 use Rattle.filesystem.specs.Image.{Image, soundNodes, pathLength, parse}
 use Rattle.rules.specs.Pages.{pageAt, Change, first, last, sizeAfter, FitsSize}
-use Rattle.rules.specs.Requests.{isFetch, asked, Pending, idle, creating, opening, closing, removing, changing, listing, stating, reading, fetching, storing, cutting}
+use Rattle.rules.specs.Requests.{isFetch, asked, Pending, idle, creating, opening, closing, removing, changing, listing, stating, mapping, unmapping, reading, fetching, storing, cutting}
+use Rattle.rules.specs.MapRules.{MapChange}
 use Rattle.rules.specs.Skeleton.{Config, Event, call, reply, save, load, Skeleton}
-use Rattle.rules.specs.Rules.{Move, refuse, halt, send, finish, add, delete, readPage, begin, fillPage, stored, cutDone, saving, loading, replyChecks}
+use Rattle.rules.specs.Rules.{Move, refuse, halt, send, finish, add, delete, remap, readPage, begin, fillPage, stored, cutDone, saving, loading, reasons}
 
 -- an open file is a file of the tables; its cursor lies between 0 and the size, its descriptor in 0 to 1,023
 pub record ValidOpen (ns : List Node) (o : OpenFile) : Type 0 where
@@ -118,6 +119,8 @@ module _ (ns : List Node) (os : List OpenFile) where
   PendingFits (asked (changing k m)) = ChangingFits k m
   PendingFits (asked (listing k)) = k < length ns
   PendingFits (asked (stating k)) = k < length ns
+  PendingFits (asked (mapping n)) = Unit {0}
+  PendingFits (asked (unmapping a)) = Unit {0}
   PendingFits (reading k o p n i) = ReadingFits k o p n i
   PendingFits (fetching k o q i) = FetchFits k o q i
   PendingFits (storing k o q i) = PageFits k o q i
@@ -158,12 +161,14 @@ Plain (load i d) = ⊥
 -- What holds of the move that the rules come to.
 pub data Fits (c : Config) (sk : Skeleton) (e : Event) : Move → Type 0 where
   fRefuse : {n : ℕ} → Fits c sk e (refuse n)
-  fHalt : {n : ℕ} {r : List ℕ} {a q : ℕ} → e ≡ reply r a q → First n (replyChecks (c .width) (sk .tables) r (sk .pending)) → Fits c sk e (halt n)
+  fHalt : {n : ℕ} {r : List ℕ} {a q : ℕ} → e ≡ reply r a q → First n (reasons (c .width) sk r) → Fits c sk e (halt n)
   fSend : {p : Pending} {q : List ℕ} → PendingFits (sk .tables .nodes) (sk .tables .opens) p → Starts p → Asks p q → Fits c sk e (send p q)
   fFinish : {t : Tables} {n : ℕ} {b : List ℕ} → Plain e → ValidTables (c .width) t → sizes (t .nodes) ≡ sizes (sk .tables .nodes) → Fits c sk e (finish t n b)
   fAdd : {n : Node} → Plain e → n .size ≡ 0
       → ValidTables (c .width) (record { nodes = sk .tables .nodes ++ (n ∷ []); opens = sk .tables .opens }) → Fits c sk e (add n)
   fDelete : {k : ℕ} → Plain e → ValidTables (c .width) (record { nodes = without k (sk .tables .nodes); opens = sk .tables .opens }) → Fits c sk e (delete k)
+  -- that the maps stay valid is a law of its own (MapLaws)
+  fRemap : {x : MapChange} → Plain e → Fits c sk e (remap x)
   fReadPage : {k o p n i : ℕ} {r : List ℕ} {a q : ℕ} → e ≡ reply r a q → sk .pending ≡ reading k o p n i → length r ≡ PAGE-BYTES
       → ReadingFits (sk .tables .nodes) (sk .tables .opens) k o p n i → Fits c sk e (readPage k o p n i r)
   fBegin : {k o : ℕ} {q : Change} → Plain e → ChangeFits (sk .tables .nodes) (sk .tables .opens) k o q → Fits c sk e (begin k o q)

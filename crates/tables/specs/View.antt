@@ -20,6 +20,7 @@ use Rattle.lists.specs.Rows.{rows}
 use Rattle.lists.specs.Search.{without}
 use Rattle.filesystem.specs.Tables.{NODES, PAGES, Node, OpenFile, Tables, nodeAt, pagesFor, pageTotal, setMode, setSize}
 use Rattle.filesystem.specs.Tables.{setCursor}
+use Rattle.filesystem.specs.MemoryMaps.{Map}
 use Rattle.filesystem.specs.Image.{divide}
 use Rattle.filesystem.specs.Digests.{replaced}
 use Rattle.memory.specs.Layout.{Mem, digestWidth, dataSize, newDigests, withNodes, withDigests}
@@ -33,6 +34,7 @@ pub record View : Type 0 where
   pub contents : List (List (List ℕ))
   pub opens : List OpenFile
   pub staged : List ℕ
+  pub maps : List Map
 
 unfoldable pub viewOf : (n o : ℕ) → Mem → View
 viewOf n o m = record {
@@ -41,6 +43,7 @@ viewOf n o m = record {
   contents = divide (take n (m .nodes)) (m .digests);
   opens = take o (m .opens);
   staged = m .staged;
+  maps = m .maps;
 }
 
 -- the tables alone
@@ -54,13 +57,13 @@ stagedDigests n s = rows digestWidth n (part dataSize (n * digestWidth) s)
 -- the page of zeros
 -- Changes of the view: other nodes and contents, other open files, other staged bytes.
 abbrev pub withFiles : List Node → List (List (List ℕ)) → View → View
-withFiles ns x v = record { head = v .head; nodes = ns; contents = x; opens = v .opens; staged = v .staged }
+withFiles ns x v = record { head = v .head; nodes = ns; contents = x; opens = v .opens; staged = v .staged; maps = v .maps }
 
 abbrev pub withOpens : List OpenFile → View → View
-withOpens os v = record { head = v .head; nodes = v .nodes; contents = v .contents; opens = os; staged = v .staged }
+withOpens os v = record { head = v .head; nodes = v .nodes; contents = v .contents; opens = os; staged = v .staged; maps = v .maps }
 
 abbrev pub withStaging : List ℕ → View → View
-withStaging s v = record { head = v .head; nodes = v .nodes; contents = v .contents; opens = v .opens; staged = s }
+withStaging s v = record { head = v .head; nodes = v .nodes; contents = v .contents; opens = v .opens; staged = s; maps = v .maps }
 
 abbrev pub withNode : Node → View → View
 withNode x v = withFiles (v .nodes ++ (x ∷ [])) (v .contents ++ ([] ∷ [])) v

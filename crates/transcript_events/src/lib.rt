@@ -4,7 +4,7 @@ pub mod handed;
 pub mod images;
 
 // The most bytes of an event.
-const EVENT_BYTES: usize = 49152;
+const EVENT_BYTES: usize = 65552;
 
 // The lengths of both buffers that are lent.
 pub struct Lengths {

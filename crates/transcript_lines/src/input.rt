@@ -3,7 +3,7 @@ ghost use Prim.Native.Nat.{_≤_};
 ghost use lib.ListN.{length};
 
 // The most of a line that is kept: one that is longer is cut.
-const LINE: usize = 131072;
+const LINE: usize = 131200;
 
 // Where a line stands in the buffer, where the next one begins, and how far the buffer is filled.
 pub struct Place {

@@ -5,7 +5,7 @@ ghost use lib.ListN.{length};
 ghost use Rattle.transcript_lines.specs.Room.{answerLine};
 use transcript_lines::counts::Counts;
 
-// More than the longest line, of which 131,072 bytes are kept.
+// More than the longest line, of which 131,200 bytes are kept.
 const TEXT: usize = 262144;
 
 struct Progress {

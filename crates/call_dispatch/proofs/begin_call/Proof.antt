@@ -4,9 +4,10 @@ use mathlib.Core.Path.{refl, ap, subst}
 use lib.ListN.{length}
 use Rattle.filesystem.specs.Tables.{DATA-BYTES}
 use Rattle.guard_state.specs.State.{stateOf}
+use Rattle.rules.specs.Rules.{mapChecks}
 use Rattle.call_reader.specs.declared.ParsedCall.{ParsedCall}
 use Rattle.call_reader.specs.Meaning.{meant, Ranges}
-use Rattle.call_dispatch.specs.laws.CalledLaws.{call-as, path-as, none-as, rest-length, write-as}
+use Rattle.call_dispatch.specs.laws.CalledLaws.{call-as, path-as, none-as, rest-length, write-as, map-as, unmap-as}
 use borrow.Author.Needs.{needs}
 use Rattle.call_dispatch.proofs.begin_call.Statement.{statement}
 use Rattle.call_dispatch.proofs.begin_call.Tie as tie
@@ -54,27 +55,27 @@ begin-close-requires c κs =
     (omega arith, omega (arith, c .before .before .before .before .before .before .before .before .before .pre .1))
 
 returns-2 : tie.Need-returns-2
-unfolding meant
+unfolding meant mapChecks
 returns-2 c =
     let s = c .before .before .before .before in
     let v = s .before .before .before .before in
     let k = v .before .before in
     let a = k .before .before .before .before .args in (
       λ q d w h. call-as q w (stateOf q (a .m .now)) (a .call .now) (k .read-call .result) (k .read-call .ensures .0) _
-          (ap (λ (z : ParsedCall). meant z (a .call .now)) (v .p2 .given .1)) _ _ (a .request .now) _
+          refl (ap (λ (z : ParsedCall). meant z (a .call .now)) (v .p2 .given .1)) _ _ (a .request .now) _
           (s .begin-close .ensures .0 q d w h),
       omega arith,
     )
 
 returns-3 : tie.Need-returns-3
-unfolding meant
+unfolding meant mapChecks
 returns-3 c =
     let s = c .before .before in
     let v = s .before .before .before in
     let k = v .before .before in
     let a = k .before .before .before .before .args in (
       λ q d w h. call-as q w (stateOf q (a .m .now)) (a .call .now) (k .read-call .result) (k .read-call .ensures .0) _
-          (ap (λ (z : ParsedCall). meant z (a .call .now)) (v .p3 .given .1)) _ _ (a .request .now) _
+          refl (ap (λ (z : ParsedCall). meant z (a .call .now)) (v .p3 .given .1)) _ _ (a .request .now) _
           (s .finish-seek .ensures .0 q d w h (a .request .now)),
       omega arith,
     )
@@ -90,14 +91,14 @@ begin-read-requires c κs =
     (r .1, omega arith, omega (arith, b .pre .1))
 
 returns-4 : tie.Need-returns-4
-unfolding meant
+unfolding meant mapChecks
 returns-4 c =
     let s = c .before .before .before .before in
     let v = s .before .before .before .before in
     let k = v .before .before in
     let a = k .before .before .before .before .args in (
       λ q d w h. call-as q w (stateOf q (a .m .now)) (a .call .now) (k .read-call .result) (k .read-call .ensures .0) _
-          (ap (λ (z : ParsedCall). meant z (a .call .now)) (v .p4 .given .1)) _ _ (a .request .now) _
+          refl (ap (λ (z : ParsedCall). meant z (a .call .now)) (v .p4 .given .1)) _ _ (a .request .now) _
           (s .begin-read .ensures .0 q d w h),
       omega arith,
     )
@@ -147,21 +148,61 @@ begin-truncate-requires c κs =
     (omega arith, omega (arith, c .before .before .before .before .before .before .before .before .before .pre .1))
 
 returns-6 : tie.Need-returns-6
-unfolding meant
+unfolding meant mapChecks
 returns-6 c =
     let s = c .before .before .before .before in
     let v = s .before .before .before .before in
     let k = v .before .before in
     let a = k .before .before .before .before .args in (
       λ q d w h. call-as q w (stateOf q (a .m .now)) (a .call .now) (k .read-call .result) (k .read-call .ensures .0) _
-          (ap (λ (z : ParsedCall). meant z (a .call .now)) (v .p6 .given .1)) _ _ (a .request .now) _
+          refl (ap (λ (z : ParsedCall). meant z (a .call .now)) (v .p6 .given .1)) _ _ (a .request .now) _
           (s .begin-truncate .ensures .0 q d w h),
       omega arith,
     )
 
--- no call
+-- map and unmap
+begin-map-requires : tie.Need-begin-map-requires
+begin-map-requires c κs =
+    let v = c .before .before .before in
+    let k = v .before .before in
+    let b = k .before .before .before .before in
+    let r = subst (λ (z : ParsedCall). Ranges z (length (b .args .call .now))) (v .p7 .given .1)
+    (k .read-call .ensures .1) in
+    (r, omega arith, omega (arith, b .pre .1))
+
+begin-unmap-requires : tie.Need-begin-unmap-requires
+begin-unmap-requires c κs =
+    (omega arith, omega (arith, c .before .before .before .before .before .before .before .before .before .pre .1))
+
 returns-7 : tie.Need-returns-7
+unfolding meant
 returns-7 c =
+    let s = c .before .before .before .before in
+    let v = s .before .before .before .before in
+    let k = v .before .before in
+    let a = k .before .before .before .before .args in (
+      λ q d w h. map-as q w (stateOf q (a .m .now)) (a .call .now) (k .read-call .result) (k .read-call .ensures .0) _
+          (ap (λ (z : ParsedCall). meant z (a .call .now)) (v .p7 .given .1)) _ _ (a .request .now) _
+          (s .begin-map .ensures .0 q d w h),
+      omega arith,
+    )
+
+returns-8 : tie.Need-returns-8
+unfolding meant
+returns-8 c =
+    let s = c .before .before .before .before in
+    let v = s .before .before .before .before in
+    let k = v .before .before in
+    let a = k .before .before .before .before .args in (
+      λ q d w h. unmap-as q w (stateOf q (a .m .now)) (a .call .now) (k .read-call .result) (k .read-call .ensures .0) _
+          (ap (λ (z : ParsedCall). meant z (a .call .now)) (v .p8 .given .1)) _ _ (a .request .now) _
+          (s .begin-unmap .ensures .0 q d w h),
+      omega arith,
+    )
+
+-- no call
+returns-9 : tie.Need-returns-9
+returns-9 c =
     let k = c .before .before in
     let a = k .before .before .before .before .args in (
       λ q d w h. none-as q w (stateOf q (a .m .now)) (a .call .now) (k .read-call .result) (k .read-call .ensures .0)
@@ -177,8 +218,10 @@ begin-call-spec =
     (λ c. search needs) begin-close-requires (λ c. search needs) (λ c κs. search needs) (λ c. search needs)
     (λ c. search needs) begin-read-requires
     (λ c. search needs) sub-begin-write part-begin-write-start (λ c. search needs) begin-write-requires
-    (λ c. search needs) begin-truncate-requires (λ c. search needs)
+    (λ c. search needs) begin-truncate-requires (λ c. search needs) begin-map-requires (λ c. search needs)
+    begin-unmap-requires (λ c. search needs)
     (λ c. search needs) (λ c. search needs) returns (λ c. search needs) (λ c. search needs) returns-2
     (λ c. search needs) returns-3
     (λ c. search needs) (λ c. search needs) returns-4 (λ c. search needs) (λ c. search needs) returns-5
-    (λ c. search needs) (λ c. search needs) returns-6 returns-7)
+    (λ c. search needs) (λ c. search needs) returns-6 (λ c. search needs) (λ c. search needs) returns-7
+    (λ c. search needs) (λ c. search needs) returns-8 returns-9)

@@ -1,17 +1,20 @@
 -- What a call's bytes were read as is what the machine makes of them; and what a consistent state has for every call.
 -- Assumes nothing.
 use mathlib.Core.Path.{_≡_, refl, ap, sym, _∙_, subst}
-use mathlib.Core.List.{List}
+use mathlib.Core.List.{List, [], _++_}
 use mathlib.Core.Option.{some, Option, none}
 use Prim.Native.Nat.{ℕ, _-_, _<_, _≤_}
 use native.Mathlib.Omega.{arith}
+use lib.Dec.{eqb}
 use lib.ListN.{length, take, drop, length-drop}
 use lib.Seq.{take-all}
 use Rattle.filesystem.specs.Tables.{ID-BYTES}
 use Rattle.filesystem.specs.Sound.{to-sound}
-use Rattle.rules.specs.Calls.{Call, openAs, remove, rmdir, chmod, readdir, stat, write, readCall, byPath}
+use Rattle.filesystem.specs.MemoryMaps.{Map}
+use Rattle.rules.specs.Calls.{Call, openAs, remove, rmdir, chmod, readdir, stat, write, mapMemory, unmap, readCall}
+use Rattle.rules.specs.Calls.{byPath}
 use Rattle.rules.specs.Skeleton.{Config}
-use Rattle.rules.specs.Rules.{refuse, callChecks, callAction, callOr, isNone}
+use Rattle.rules.specs.Rules.{refuse, callChecks, mapChecks, callAction, callOr, isNone}
 use Rattle.machine.specs.Machine.{State, Result, guard as digestStore, apply}
 use Rattle.machine.specs.Consistent.{Consistent}
 use Rattle.call_reader.specs.declared.ParsedCall.{ParsedCall}
@@ -23,11 +26,11 @@ use Rattle.outcomes.specs.declared.Outcome.{Outcome}
 use Rattle.outcomes.specs.declared.Outcome.the-variants.{Refused}
 use Rattle.outcomes.specs.Sent.{Sends}
 use Rattle.outcomes.specs.laws.SentLaws.{refusal-sends}
-use Rattle.outcomes.specs.Started.{startedBy}
+use Rattle.outcomes.specs.Started.{startedBy, mapStarted}
 use Rattle.call_dispatch.specs.Called.{called, calledWith}
-use Rattle.lists.specs.Pick.{pick}
+use Rattle.lists.specs.Pick.{pick, pick-ind}
 use Rattle.lists.specs.Form.{bind}
-use Rattle.lists.specs.Checks.{decide}
+use Rattle.lists.specs.Checks.{Check, decide, decide-append}
 use Rattle.filesystem.specs.Paths.{Path, readPath}
 use Rattle.path_calls.specs.Judged.{judged}
 
@@ -37,13 +40,36 @@ module _ (c : Config) (s : State (digestStore c)) where
   unfolding called isNone decide pick
   called-none = refl
 
-  pub called-some : (q : Call) → called c s (some q) ≡ startedBy c s q
-  unfolding called isNone callOr decide pick startedBy
-  called-some q = refl
+  -- a call on files asks nothing of the maps
+  abbrev OnFiles : Call → Type 0
+  OnFiles q = mapChecks (s .skeleton .maps) q ≡ []
 
-  pub called-path : (make : Path → Call) (path : List ℕ) → called c s (byPath make path) ≡ begun c s path make
+  file-move : (q : Call) → OnFiles q
+      → decide refuse (callChecks (s .skeleton .tables) q ++ mapChecks (s .skeleton .maps) q) (callAction (s .skeleton .tables) (c .width) q)
+      ≡ decide refuse (callChecks (s .skeleton .tables) q) (callAction (s .skeleton .tables) (c .width) q)
+  unfolding decide
+  file-move q f =
+      decide-append refuse (callChecks (s .skeleton .tables) q) _ _
+      ∙ ap (λ (cs : List Check). decide refuse (callChecks (s .skeleton .tables) q)
+      (decide refuse cs (callAction (s .skeleton .tables) (c .width) q))) f
+
+  pub called-some : (q : Call) → OnFiles q → called c s (some q) ≡ startedBy c s q
+  unfolding called isNone callOr decide pick startedBy
+  called-some q f = ap (apply c (digestStore c) s) (file-move q f)
+
+  -- and one on maps nothing of the files
+  pub called-map : (n : ℕ) → called c s (some (mapMemory n)) ≡ mapStarted c s (mapMemory n)
+  unfolding called isNone callOr callChecks decide pick mapStarted
+  called-map n = refl
+
+  pub called-unmap : (a : ℕ) → called c s (some (unmap a)) ≡ mapStarted c s (unmap a)
+  unfolding called isNone callOr callChecks decide pick mapStarted
+  called-unmap a = refl
+
+  pub called-path : (make : Path → Call) → ((p : Path) → OnFiles (make p)) → (path : List ℕ)
+      → called c s (byPath make path) ≡ begun c s path make
   unfolding byPath begun judged bind called isNone callOr decide pick
-  called-path make path = go (readPath path)
+  called-path make f path = go (readPath path)
     where
       go : (p : Option Path) → called c s (bind p (λ x. some (make x)))
           ≡ apply c (digestStore c) s
@@ -53,7 +79,20 @@ module _ (c : Config) (s : State (digestStore c)) where
                 (callAction (s .skeleton .tables) (c .width) (make x))
           ])
       go none = refl
-      go (some x) = refl
+      go (some x) = ap (apply c (digestStore c) s) (file-move (make x) (f x))
+
+-- no call by path asks anything of the maps
+made-on-files : (ms : List Map) (k n : ℕ) (p : Path) → mapChecks ms (madeBy k n p) ≡ []
+unfolding madeBy mapChecks
+made-on-files ms k n p =
+    let F : Call → Type 0 = λ q. mapChecks ms q ≡ [] in
+    pick-ind F (eqb k 1) (λ _. refl) (λ _.
+    pick-ind F (eqb k 2) (λ _. refl) (λ _.
+    pick-ind F (eqb k 3) (λ _. refl) (λ _.
+    pick-ind F (eqb k 9) (λ _. refl) (λ _.
+    pick-ind F (eqb k 10) (λ _. refl) (λ _.
+    pick-ind F (eqb k 11) (λ _. refl) (λ _.
+    pick-ind F (eqb k 12) (λ _. refl) (λ _. refl)))))))
 
 -- the bytes from a place on, as a slice has them
 rest : (b : List ℕ) (start : ℕ) → take (length b - start) (drop start b) ≡ drop start b
@@ -70,10 +109,20 @@ module _ (c : Config) (wide : c .width ≡ ID-BYTES) (s : State (digestStore c))
   unfolding calledWith
   read-as = ap (λ (w : ℕ). called c s (readCall w b)) wide ∙ ap (called c s) (sym known)
 
-  pub call-as : (q : Call) → meant p b ≡ some q → (r : Outcome) (m x x′ : List ℕ) → Sends c (startedBy c s q) r m x x′
+  pub call-as : (q : Call) → mapChecks (s .skeleton .maps) q ≡ [] → meant p b ≡ some q → (r : Outcome) (m x x′ : List ℕ) → Sends c (startedBy c s q) r m x x′
       → Sends c (calledWith c s b) r m x x′
-  call-as q e r m x x′ = subst (λ (y : Result (digestStore c)). Sends c y r m x x′) (sym (read-as ∙ ap (called c s) e
-      ∙ called-some c s q))
+  call-as q f e r m x x′ = subst (λ (y : Result (digestStore c)). Sends c y r m x x′) (sym (read-as ∙ ap (called c s) e
+      ∙ called-some c s q f))
+
+  pub map-as : (n : ℕ) → meant p b ≡ some (mapMemory n) → (r : Outcome) (m x x′ : List ℕ)
+      → Sends c (mapStarted c s (mapMemory n)) r m x x′ → Sends c (calledWith c s b) r m x x′
+  map-as n e r m x x′ = subst (λ (y : Result (digestStore c)). Sends c y r m x x′) (sym (read-as ∙ ap (called c s) e
+      ∙ called-map c s n))
+
+  pub unmap-as : (a : ℕ) → meant p b ≡ some (unmap a) → (r : Outcome) (m x x′ : List ℕ)
+      → Sends c (mapStarted c s (unmap a)) r m x x′ → Sends c (calledWith c s b) r m x x′
+  unmap-as a e r m x x′ = subst (λ (y : Result (digestStore c)). Sends c y r m x x′) (sym (read-as ∙ ap (called c s) e
+      ∙ called-unmap c s a))
 
   pub path-as : (k n start : ℕ) → p ≡ ByPath k n start → (r : Outcome) (m x x′ : List ℕ)
       → Sends c (begun c s (take (length b - start) (drop start b)) (madeBy k n)) r m x x′
@@ -82,14 +131,15 @@ module _ (c : Config) (wide : c .width ≡ ID-BYTES) (s : State (digestStore c))
   path-as k n start e r m x x′ =
       subst (λ (y : Result (digestStore c)). Sends c y r m x x′)
       (ap (λ (l : List ℕ). begun c s l (madeBy k n)) (rest b start)
-      ∙ sym (read-as ∙ ap (λ (z : ParsedCall). called c s (meant z b)) e ∙ called-path c s (madeBy k n) (drop start b)))
+      ∙ sym (read-as ∙ ap (λ (z : ParsedCall). called c s (meant z b)) e ∙ called-path c s (madeBy k n)
+      (made-on-files (s .skeleton .maps) k n) (drop start b)))
 
   pub write-as : (h start : ℕ) → p ≡ Write h start → (r : Outcome) (m x x′ : List ℕ)
       → Sends c (startedBy c s (write h (take (length b - start) (drop start b)))) r m x x′
       → Sends c (calledWith c s b) r m x x′
-  unfolding meant
+  unfolding meant mapChecks
   write-as h start e r m x x′ f =
-      call-as (write h (drop start b)) (ap (λ (z : ParsedCall). meant z b) e) r m x x′
+      call-as (write h (drop start b)) refl (ap (λ (z : ParsedCall). meant z b) e) r m x x′
       (subst (λ (l : List ℕ). Sends c (startedBy c s (write h l)) r m x x′) (rest b start) f)
 
   pub none-as : p ≡ Malformed → (m x : List ℕ) → stateOf c m ≡ s → Sends c (calledWith c s b) (Refused 22) m x x

@@ -32,6 +32,15 @@ read-by-handle-requires c κs = (
 read-by-path-requires : tie.Need-read-by-path-requires
 read-by-path-requires c κs = search needs
 
+read-on-maps-requires : tie.Need-read-on-maps-requires
+read-on-maps-requires c κs = (
+  omega arith,
+  bytes-of (c .before .before .before .before .before .before .before .before .args .s .now)
+      (λ k. omega (arith, c .before .before .before .before .before .shared-slice-known2 .given k)),
+  omega arith,
+  omega arith,
+)
+
 returns-2 : tie.Need-returns-2
 returns-2 c = (
   c .read-opening .ensures .0 ∙ kind-read ID-BYTES (c .before .before .before .before .before .before .args .s .now)
@@ -55,15 +64,23 @@ returns-4 c = (
 )
 
 returns-5 : tie.Need-returns-5
-unfolding meant
-returns-5 c =
-    let s = c .before .before .before .before .args .s .now in
-    (kind-none ID-BYTES (getD s 0 0) (drop 1 s) (λ h. omega arith) ∙ kind-read ID-BYTES s (omega arith), tt)
+returns-5 c = (
+  c .read-on-maps .ensures .0
+      ∙ kind-read ID-BYTES (c .before .before .before .before .before .before .before .before .before .args .s .now)
+      (omega arith),
+  c .read-on-maps .ensures .1,
+)
 
 returns-6 : tie.Need-returns-6
 unfolding meant
 returns-6 c =
-    let s = c .before .before .before .before .before .before .before .args .s .now in
+    let s = c .before .before .before .before .args .s .now in
+    (kind-none ID-BYTES (getD s 0 0) (drop 1 s) (λ h. omega arith) ∙ kind-read ID-BYTES s (omega arith), tt)
+
+returns-7 : tie.Need-returns-7
+unfolding meant
+returns-7 c =
+    let s = c .before .before .before .before .before .before .before .before .args .s .now in
     (kind-none ID-BYTES (getD s 0 0) (drop 1 s) (λ h. omega arith) ∙ kind-read ID-BYTES s (omega arith), tt)
 
 pub read-call-spec : {M : Type 1} → statement M
@@ -75,8 +92,10 @@ read-call-spec =
     read-opening-requires
     read-by-handle-requires
     read-by-path-requires
+    read-on-maps-requires
     returns-2
     returns-3
     returns-4
     returns-5
-    returns-6)
+    returns-6
+    returns-7)

@@ -22,7 +22,7 @@ use Rattle.lists.specs.Formats.{num, then}
 use Rattle.filesystem.specs.Tables.{DATA-BYTES}
 use Rattle.filesystem.specs.Paths.{Path}
 use Rattle.rules.specs.Calls.{Call, byPath, byNumberAndPath, byHandle, byHandleAndNumber, byHandleAndBytes, readFields}
-use Rattle.rules.specs.Calls.{readCall}
+use Rattle.rules.specs.Calls.{byNumber, readCall}
 
 -- a number of w bytes from `at` on, and what is after it
 module _ (w at : ℕ) (s : List ℕ) where
@@ -120,6 +120,28 @@ module _ (w : ℕ) (s : List ℕ) (there : 0 < length s) where
         ap (λ x. some (make x (drop (1 + w) s))) e
         ∙ sym (rw (num-got w 1 s l) (pick-true _ _ _ (le-leb (length (drop (1 + w) s)) DATA-BYTES (rw length-drop m))))
 
+-- a number alone
+module _ (v : ℕ) (allowed : ℕ → Bool) (make : ℕ → Call) (s : List ℕ) (there : 0 < length s) where
+  pub alone-wrong : Bytes s → (length s ≡ 1 + v → ⊥) → none ≡ byNumber v allowed make (drop 1 s)
+  unfolding byNumber bind
+  alone-wrong b wrong = sym (rw (whole-none (num v) v (length-encode v) s b there wrong))
+
+  module _ (n : ℕ) (e : n ≡ decode (part 1 v s)) (l : length s ≡ 1 + v) where
+    alone-got : byNumber v allowed make (drop 1 s) ≡ pick (allowed n) (some (make n)) none
+    unfolding byNumber whole bind
+    alone-got =
+        rw (
+          num-got v 1 s (omega arith),
+          ended-all (num v) (decode (part 1 v s)) (drop (1 + v) s) (rw length-drop (omega arith)),
+          e,
+        )
+
+    pub alone-allowed : allowed n ≡ true → some (make n) ≡ byNumber v allowed make (drop 1 s)
+    alone-allowed t = sym (alone-got ∙ pick-true _ _ _ t)
+
+    pub alone-refused : allowed n ≡ false → none ≡ byNumber v allowed make (drop 1 s)
+    alone-refused t = sym (alone-got ∙ pick-false _ _ _ t)
+
 -- a number and a path
 module _ (least most : ℕ) (make : ℕ → Path → Call) (s : List ℕ) where
   pub number-missing : length s ≡ 1 → none ≡ byNumberAndPath least most make (drop 1 s)
@@ -158,10 +180,10 @@ module _ (w : ℕ) where
   pub of-kind : (k kind : ℕ) (t : List ℕ) (c : Option Call) → kind ≡ k → c ≡ readFields w k t → c ≡ readFields w kind t
   of-kind k kind t c e q = q ∙ ap (λ (j : ℕ). readFields w j t) (sym e)
 
-  pub kind-none : (kind : ℕ) (t : List ℕ) → (1 ≤ kind → 13 < kind) → none ≡ readFields w kind t
+  pub kind-none : (kind : ℕ) (t : List ℕ) → (1 ≤ kind → 15 < kind) → none ≡ readFields w kind t
   unfolding readFields pick
   kind-none kind t past =
-      let other : (k : ℕ) → 1 ≤ k → k ≤ 13 → eqb kind k ≡ false = λ k a b. ne-eqb kind k
+      let other : (k : ℕ) → 1 ≤ k → k ≤ 15 → eqb kind k ≡ false = λ k a b. ne-eqb kind k
       (λ e. omega (arith, past (omega arith))) in
       sym (simp (
         other 1 (omega arith) (omega arith),
@@ -177,4 +199,6 @@ module _ (w : ℕ) where
         other 11 (omega arith) (omega arith),
         other 12 (omega arith) (omega arith),
         other 13 (omega arith) (omega arith),
+        other 14 (omega arith) (omega arith),
+        other 15 (omega arith) (omega arith),
       ))

@@ -9,7 +9,7 @@ use Rattle.deskrun.proofs.main.Statement.{statement}
 use Rattle.deskrun.proofs.main.Tie as tie
 
 abbrev Inv-loop : tie.InvT-loop
-Inv-loop memory₀ text₀ rest₀ turns₀ memory text rest turns = (length memory ≡ 52672) × (length text ≡ 65536)
+Inv-loop memory₀ text₀ rest₀ turns₀ memory text rest turns = (length memory ≡ 52864) × (length text ≡ 65536)
     × (rest .kept ≤ 19383)
 
 abbrev μ-loop : tie.MeasureT-loop

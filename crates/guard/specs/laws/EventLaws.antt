@@ -3,7 +3,7 @@
 -- Assumes nothing.
 use mathlib.Core.Path.{_≡_, refl, ap, sym, _∙_}
 use mathlib.Core.Bool.{Bool, true, false, not, _||_}
-use mathlib.Core.List.{List, [], _∷_}
+use mathlib.Core.List.{List, [], _∷_, _++_}
 use Prim.Native.Nat.{ℕ, _<_, _≤_}
 use native.Mathlib.Omega.{arith}
 use lib.Dec.{eqb, ltb}
@@ -14,7 +14,7 @@ use Rattle.lists.specs.Checks.{Check, decide, check-last, check-stops, check-pa
 use Rattle.rules.specs.Requests.{storeLength}
 use Rattle.rules.specs.Skeleton.{Config, Event, call, reply, save, load, answerLength, requestLength, Skeleton}
 use Rattle.rules.specs.Calls.{readCall}
-use Rattle.rules.specs.Rules.{Move, refuse, isIdle, isNone, callOr, callChecks, eventChecks, eventAction, judge}
+use Rattle.rules.specs.Rules.{Move, refuse, isIdle, isNone, callOr, callChecks, mapChecks, eventChecks, eventAction, judge}
 use Rattle.configuration.specs.Delivered.{delivered}
 use Rattle.machine.specs.Machine.{State, apply, guard as digestStore}
 use Rattle.call_dispatch.specs.Called.{called, calledWith}
@@ -90,7 +90,8 @@ module _ (c : Config) (s : State (digestStore c)) where
     unfoldable pub callNext : Move
     callNext =
         decide refuse ((34, isShort) ∷ (22, isNone (readCall (c .width) b))
-        ∷ callChecks (s .skeleton .tables) (callOr (readCall (c .width) b)))
+        ∷ (callChecks (s .skeleton .tables) (callOr (readCall (c .width) b))
+        ++ mapChecks (s .skeleton .maps) (callOr (readCall (c .width) b))))
         (eventAction c (s .skeleton) (call b a q))
 
     unfoldable pub replyNext : Move

@@ -23,7 +23,7 @@ returns c =
     let e : memOf _ ≡ withHead (set (set (clearedHead (z .head)) 3 3) 5 (a .opened)) z =
     p2 .put-head2 .ensures .0 ∙ rw (p1 .put-head .ensures .0, k .clear .ensures .0) in
     let f = ap (λ (n : ℕ). asked (closing n)) (kept (a .opened) openRows (omega arith)) in
-    (λ q. waits-as q (a .m .now) _ _ e refl refl (asked (closing (a .opened))) gatheredNone refl f refl, omega arith)
+    (λ q. waits-as q (a .m .now) _ _ e refl refl refl (asked (closing (a .opened))) gatheredNone refl f refl, omega arith)
 
 pub wait-close-spec : {M : Type 1} → statement M
 wait-close-spec = tie.close (tie.spec (λ c κs. search needs) (λ c κs. search needs) (λ c κs. search needs)

@@ -45,7 +45,7 @@ returns c =
     (omega (arith, s .before .before .before .before .pre .0)) in
     let f = ap (λ (x : List ℕ). asked (creating (a .parent) (a .kind) (a .mode) x))
     (ap (λ (i : ℕ). take i (overwrite (z .staged) 0 (a .name .now))) n ∙ t) in (
-      λ q. staged-waits q (a .m .now) _ _ (overwrite (z .staged) 0 (a .name .now)) e refl refl
+      λ q. staged-waits q (a .m .now) _ _ (overwrite (z .staged) 0 (a .name .now)) e refl refl refl
           (asked (creating (a .parent) (a .kind) (a .mode) (a .name .now))) gatheredNone refl f refl,
       omega arith,
     )

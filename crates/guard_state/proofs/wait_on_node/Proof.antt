@@ -26,7 +26,7 @@ returns c =
     ∙ rw (p3 .put-head3 .ensures .0, p2 .put-head2 .ensures .0, p1 .put-head .ensures .0, k .clear .ensures .0) in
     let f = node-pending (z .head) (z .staged) (a .node) (a .number) (b .pre .1) (b .pre .0) in
     let g = node-gathered (z .head) (z .staged) (a .node) (a .number) (b .pre .1) (b .pre .0) in
-    (λ q. waits-as q (a .m .now) _ y e refl refl _ _ refl f g, omega arith)
+    (λ q. waits-as q (a .m .now) _ y e refl refl refl _ _ refl f g, omega arith)
 
 pub wait-on-node-spec : {M : Type 1} → statement M
 wait-on-node-spec =

@@ -43,7 +43,7 @@ returns c =
     ++ a .more .now = bytes-more (z .staged) (length-staged (a .m .now) (omega arith)) (a .more .now) (a .bytes)
     (omega (arith, b .pre .5)) in
     let w = ap (λ (i : ℕ). gatheredRead (take i y)) h ∙ ap gatheredRead x in (
-      λ q. staged-waits q (a .m .now) _ _ y e refl refl (reading (a .node) (a .opened) (a .position) (a .count)
+      λ q. staged-waits q (a .m .now) _ _ y e refl refl refl (reading (a .node) (a .opened) (a .position) (a .count)
           (a .page)) (gatheredRead (take (a .bytes) (z .staged) ++ a .more .now)) refl
           (λ i. reading (n i) (o i) (s i) (l i) (g i)) w,
       omega arith,

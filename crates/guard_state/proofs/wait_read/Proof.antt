@@ -23,7 +23,7 @@ returns c =
     let s = kept (a .position) (FILE-BYTES + 1) (omega arith) in
     let l = kept (a .count) (DATA-BYTES + 1) (omega arith) in
     let g = kept (a .page) (filePages + 1) (omega arith) in (
-      λ q. waits-as q (a .m .now) _ _ (p .put-read .ensures .0) refl refl (reading (a .node) (a .opened) (a .position)
+      λ q. waits-as q (a .m .now) _ _ (p .put-read .ensures .0) refl refl refl (reading (a .node) (a .opened) (a .position)
           (a .count) (a .page)) gatheredNone refl (λ i. reading (n i) (o i) (s i) (l i) (g i)) refl,
       omega arith,
     )

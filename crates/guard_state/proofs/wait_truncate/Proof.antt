@@ -28,7 +28,7 @@ returns c =
     ∙ rw (p3 .put-head3 .ensures .0, p2 .put-head2 .ensures .0, p1 .put-head .ensures .0, k .clear .ensures .0) in
     let n = truncate-numbers (z .head) (a .node) (a .opened) (b .pre .1) (b .pre .2) (a .call) (a .size) (b .pre .3) in
     let g = numbersOf (z .head) in (
-      λ q. waits-as q (a .m .now) _ y e refl refl _ _ refl
+      λ q. waits-as q (a .m .now) _ y e refl refl refl _ _ refl
           (ap (λ (h : Guard). pendingIn h (z .staged)) n
           ∙ truncate-pending g (z .staged) (a .node) (a .opened) (a .size) (b .pre .0))
           (ap (λ (h : Guard). gatheredIn h (z .staged)) n

@@ -51,7 +51,7 @@ returns c =
     (length (a .bytes .now)) (omega arith) (omega arith) in
     let n = write-numbers (z .head) (a .node) (a .opened) (b .pre .0) (b .pre .1) (a .position) (length (a .bytes .now))
     (b .pre .2) (b .pre .3) in (
-      λ q. staged-waits q (a .m .now) _ y l e refl refl
+      λ q. staged-waits q (a .m .now) _ y l e refl refl refl
           (fetching (a .node) (a .opened) (writing (a .position) (a .bytes .now)) 0) gatheredNone refl
           (ap (λ (g : Guard). pendingIn g l) n
           ∙ ap (λ (x : List ℕ). fetching (a .node) (a .opened) (writing (a .position) x) 0) t)

@@ -1,23 +1,25 @@
 -- A change of a file's bytes, read from the header: the numbers as it begins, what it has gathered, and the state as it
 -- goes on.
 -- Assumes nothing.
+use mathlib.Core.Logic.{_≢_}
 use mathlib.Core.Path.{_≡_, refl, ap, ap₂, sym, _∙_}
 use mathlib.Core.Bool.{false}
 use mathlib.Core.List.{List, [], _∷_, _++_}
 use Prim.Native.Nat.{ℕ, zero, suc, _+_, _-_, _*_, _%_, _≤_, _<_}
 use native.Mathlib.Omega.{arith}
-use lib.ListN.{length, getD, set}
+use lib.ListN.{length, getD, take, set}
 use lib.Seq.{getD-drop, getD-set-same, getD-set-other}
 use Rattle.lists.specs.Cells.{tab}
 use Rattle.lists.specs.Pick.{pick}
 use Rattle.lists.specs.Rows.{rows}
 use Rattle.lists.specs.Parts.{overwrite}
 use Rattle.filesystem.specs.Tables.{NODES, FILE-BYTES, DATA-BYTES}
+use Rattle.filesystem.specs.MemoryMaps.{MAPS}
 use Rattle.memory.specs.Layout.{Mem, memOf, headNumbers, openRows, newDigests, digestWidth, dataSize, memorySize}
 use Rattle.memory.specs.Layout.{withHead, withStaged}
 use Rattle.memory.specs.laws.MemLaws.{length-head, length-staged}
 use Rattle.rules.specs.Requests.{asked, Pending, idle, creating, opening, closing, removing, changing, listing, stating}
-use Rattle.rules.specs.Requests.{reading, fetching, storing, cutting}
+use Rattle.rules.specs.Requests.{reading, fetching, storing, cutting, mapping, unmapping}
 use Rattle.rules.specs.Pages.{writing, shrinking, growing}
 use Rattle.rules.specs.Skeleton.{Config}
 use Rattle.machine.specs.Machine.{Gathered}
@@ -26,7 +28,7 @@ use Rattle.guard_state.specs.Calls.{FETCHING, CUTTING, GROWING, Truncati
 use Rattle.guard_state.specs.declared.Guard.{Guard}
 use Rattle.guard_state.specs.State.{filePages, numbersOf, pendings, pendingIn, gatheredIn, gatheredNone}
 use Rattle.guard_state.specs.State.{gatheredBytes, gatheredDigests, stagedBytes, stateWith, stateIn, stateOf}
-use Rattle.guard_state.specs.State.{clearedHead}
+use Rattle.guard_state.specs.State.{clearedHead, mapCount}
 use Rattle.guard_state.specs.laws.StageLaws.{bytes-kept, digests-more}
 use Rattle.guard_state.specs.Waits.{waits}
 use Rattle.guard_state.specs.Onward.{writeNumbers, truncateNumbers, goesOn}
@@ -142,6 +144,8 @@ pending-kept g s t e =
     ∷ storing (g .node) (g .opened) (shrinking (g .size)) (g .page)
     ∷ cutting (g .node) (g .opened) (shrinking (g .size))
     ∷ cutting (g .node) (g .opened) (growing (g .size))
+    ∷ asked (mapping (g .size))
+    ∷ asked (unmapping (g .parent))
     ∷ [])
     (g .call) idle)
     e
@@ -179,10 +183,10 @@ numbers-onward h call page e f =
 
 -- the counts stay, and with them the tables
 module _ (h : List ℕ) (call page : ℕ) where
-  count-onward : (k : ℕ) → k < 2 → getD (onwardHead call page h) k 0 ≡ getD h k 0
-  count-onward k f =
-      getD-set-other (set (set h 2 1) 3 call) 13 k page 0 (omega arith) ∙ getD-set-other (set h 2 1) 3 k call 0
-      (omega arith) ∙ getD-set-other h 2 k 1 0 (omega arith)
+  count-onward : (k : ℕ) → k ≢ 2 → k ≢ 3 → k ≢ 13 → getD (onwardHead call page h) k 0 ≡ getD h k 0
+  count-onward k a b f =
+      getD-set-other (set (set h 2 1) 3 call) 13 k page 0 f ∙ getD-set-other (set h 2 1) 3 k call 0 b
+      ∙ getD-set-other h 2 k 1 0 a
 
   stop-onward : 2 < length h → getD (onwardHead call page h) 2 0 ≡ 1
   stop-onward f =
@@ -203,8 +207,9 @@ goes-on c m x call page a b f g p e =
     let was : gatheredIn (numbersOf h) s ≡ gatheredDigests (numbersOf h) s = gathered-change (numbersOf h) s a b in
     let is : gatheredIn (numbersOf (onwardHead call page h)) s ≡ gatheredIn (numbersOf h) s =
     ap (λ (q : Guard). gatheredIn q s) n ∙ gathered-change (onwardNumbers call page (numbersOf h)) s f g ∙ sym was in
-    waits-as c m x (onwardHead call page h) e (count-onward h call page 0 (omega arith))
-    (count-onward h call page 1 (omega arith))
+    waits-as c m x (onwardHead call page h) e (count-onward h call page 0 (omega arith) (omega arith) (omega arith))
+    (count-onward h call page 1 (omega arith) (omega arith) (omega arith))
+    (count-onward h call page 16 (omega arith) (omega arith) (omega arith))
     (pendingIn (goesOn call page (numbersOf h)) s) (gatheredIn (numbersOf h) s)
     (stop-onward h call page (omega (arith, length-head m))) (ap (λ (q : Guard). pendingIn q s) n) is
 
@@ -212,11 +217,13 @@ goes-on c m x call page a b f g p e =
 waits-over : (c : Config) (m x y s : List ℕ) (p : Pending) (a : Gathered)
     → memOf x ≡ withHead y (withStaged s (memOf m))
     → getD y 0 0 ≡ getD (memOf m .head) 0 0 → getD y 1 0 ≡ getD (memOf m .head) 1 0
+    → getD y 16 0 ≡ getD (memOf m .head) 16 0
     → waits c (stateOf c x) p a ≡ waits c (stateOf c m) p a
-unfolding stateOf stateIn viewOf waits numbersOf
-waits-over c m x y s p a e n o =
+unfolding stateOf stateIn viewOf mapCount waits numbersOf
+waits-over c m x y s p a e n o l =
     ap (λ (t : Mem). let q = numbersOf (t .head) in waits c (stateIn c q (viewOf (q .nodes) (q .opens) t)) p a) e
-    ∙ (λ i. stateWith c (viewOf (n i % (NODES + 1)) (o i % (openRows + 1)) (memOf m)) p false a)
+    ∙ (λ i. stateWith c (viewOf (n i % (NODES + 1)) (o i % (openRows + 1)) (memOf m))
+    (take (l i % (MAPS + 1)) (memOf m .maps)) p false a)
 
 -- one digest more: number 15 of the header
 abbrev digestNumbers : ℕ → Guard → Guard
@@ -301,4 +308,4 @@ module _ (m x d : List ℕ) (k : ℕ) (at : k ≡ numbersOf (memOf m .head) .dig
       ∙ waits-over c m x (set (memOf m .head) 15 (k + 1)) (overwrite (memOf m .staged) (dataSize + k * digestWidth) d) _
       _ e
       (getD-set-other (memOf m .head) 15 0 (k + 1) 0 (omega arith)) (getD-set-other (memOf m .head) 15 1 (k + 1) 0
-      (omega arith))
+      (omega arith)) (getD-set-other (memOf m .head) 15 16 (k + 1) 0 (omega arith))

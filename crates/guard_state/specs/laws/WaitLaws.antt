@@ -9,6 +9,7 @@ use lib.Dec.{eqb}
 use lib.ListN.{length, getD, take, drop, set}
 use Rattle.lists.specs.Cells.{tab}
 use Rattle.filesystem.specs.Tables.{NODES, root, pagesFor}
+use Rattle.filesystem.specs.MemoryMaps.{MAPS}
 use Rattle.filesystem.specs.Image.{divide}
 use Rattle.memory.specs.Layout.{Mem, memOf, headNumbers, openRows, withHead, withNodes, withStaged}
 use Rattle.memory.specs.laws.MemLaws.{length-head}
@@ -18,8 +19,8 @@ use Rattle.machine.specs.Machine.{Gathered, fresh, guard as digestStore}
 use Rattle.tables.specs.View.{viewOf}
 use Rattle.guard_state.specs.Calls.{OnNode, forOpen, forRemove, forChmod, forReaddir, forStat, questionOn}
 use Rattle.guard_state.specs.State.{numbersOf, stateWith, stateIn, stateOf, clearedHead, clearedCall, clearedSpan}
-use Rattle.guard_state.specs.State.{pendings, pendingIn, gatheredIn, gatheredNone}
-use Rattle.guard_state.specs.Waits.{waits, ends, stops, restingState}
+use Rattle.guard_state.specs.State.{pendings, pendingIn, gatheredIn, gatheredNone, mapCount}
+use Rattle.guard_state.specs.Waits.{waits, ends, stops, remaps, restingState}
 
 -- a number within its limit is read as it is
 pub kept : (x n : ℕ) → x < n → x % n ≡ x
@@ -37,26 +38,28 @@ clears h = clearedSpan (clearedCall h)
 
 pub head-cleared : (h : List ℕ) → length h ≡ headNumbers → clears h ≡ clearedHead h
 unfolding clearedHead tab
-head-cleared h e = ap clears (head-cells 16 h (omega arith))
+head-cleared h e = ap clears (head-cells 17 h (omega arith))
 
 -- a call's number taken back, the others left
-head-idle : (h : List ℕ) → length h ≡ headNumbers → set (set h 2 1) 3 0 ≡ getD h 0 0 ∷ getD h 1 0 ∷ 1 ∷ 0 ∷ drop 4 h
-unfolding tab
-head-idle h e = ap (λ (l : List ℕ). set (set l 2 1) 3 0) (head-cells 4 h (omega arith))
+head-idle : (h : List ℕ) → length h ≡ headNumbers
+    → set (set h 2 1) 3 0 ≡ set (set (tab 17 (λ i. getD h i 0) ++ drop 17 h) 2 1) 3 0
+head-idle h e = ap (λ (l : List ℕ). set (set l 2 1) 3 0) (head-cells 17 h (omega arith))
 
 -- numbers that are read as a pending call, over the tables as they are; s is staged
 module _ (c : Config) (m x y s : List ℕ) (e : memOf x ≡ withHead y (withStaged s (memOf m)))
-    (n : getD y 0 0 ≡ getD (memOf m .head) 0 0) (o : getD y 1 0 ≡ getD (memOf m .head) 1 0) where
+    (n : getD y 0 0 ≡ getD (memOf m .head) 0 0) (o : getD y 1 0 ≡ getD (memOf m .head) 1 0)
+    (l : getD y 16 0 ≡ getD (memOf m .head) 16 0) where
   pub staged-waits : (p : Pending) (a : Gathered) → getD y 2 0 ≡ 1 → pendingIn (numbersOf y) s ≡ p
       → gatheredIn (numbersOf y) s ≡ a
       → stateOf c x ≡ waits c (stateOf c m) p a
-  unfolding stateIn stateOf viewOf waits numbersOf
+  unfolding stateIn stateOf viewOf mapCount waits numbersOf
   staged-waits p a z f g =
       ap (λ (t : Mem). let q = numbersOf (t .head) in stateIn c q (viewOf (q .nodes) (q .opens) t)) e
-      ∙ (λ i. stateWith c (viewOf (n i % (NODES + 1)) (o i % (openRows + 1)) (memOf m)) (f i) (eqb (z i) 0) (g i))
+      ∙ (λ i. stateWith c (viewOf (n i % (NODES + 1)) (o i % (openRows + 1)) (memOf m))
+      (take (l i % (MAPS + 1)) (memOf m .maps)) (f i) (eqb (z i) 0) (g i))
 
 pub waits-as : (c : Config) (m x y : List ℕ) → memOf x ≡ withHead y (memOf m) → getD y 0 0 ≡ getD (memOf m .head) 0 0
-    → getD y 1 0 ≡ getD (memOf m .head) 1 0
+    → getD y 1 0 ≡ getD (memOf m .head) 1 0 → getD y 16 0 ≡ getD (memOf m .head) 16 0
     → (p : Pending) (a : Gathered) → getD y 2 0 ≡ 1 → pendingIn (numbersOf y) (memOf m .staged) ≡ p
     → gatheredIn (numbersOf y) (memOf m .staged) ≡ a → stateOf c x ≡ waits c (stateOf c m) p a
 waits-as c m x y = staged-waits c m x y (memOf m .staged)
@@ -92,31 +95,40 @@ pending-at c m k e = ap (λ (i : ℕ). getD (pendings (numbersOf (memOf m .head)
 module _ (c : Config) (m x : List ℕ) where
   pub ends-as : memOf x ≡ withHead (set (set (memOf m .head) 2 1) 3 0) (memOf m)
       → stateOf c x ≡ ends c (stateOf c m) (stateOf c m .skeleton .tables) (stateOf c m .contents)
-  unfolding stateOf stateIn viewOf numbersOf pendings pendingIn gatheredIn ends
+  unfolding stateOf stateIn viewOf mapCount numbersOf tab pendings pendingIn gatheredIn ends
   ends-as e =
       ap (λ (s : Mem). let g = numbersOf (s .head) in stateIn c g (viewOf (g .nodes) (g .opens) s))
       (e ∙ ap (λ (h : List ℕ). withHead h (memOf m)) (head-idle (memOf m .head) (length-head m)))
 
   pub stops-as : memOf x ≡ withHead (set (clearedHead (memOf m .head)) 2 0) (memOf m)
       → stateOf c x ≡ stops c (stateOf c m)
-  unfolding stateOf stateIn viewOf numbersOf clearedHead pendings pendingIn gatheredIn stops
+  unfolding stateOf stateIn viewOf mapCount numbersOf clearedHead pendings pendingIn gatheredIn stops
   stops-as e = ap (λ (s : Mem). let g = numbersOf (s .head) in stateIn c g (viewOf (g .nodes) (g .opens) s)) e
 
   pub rests-as : (n o : ℕ) → n ≤ NODES → o ≤ openRows
       → memOf x ≡ withHead (set (set (clearedHead (memOf m .head)) 0 n) 1 o) (memOf m)
       → stateOf c x ≡ restingState c (viewOf n o (memOf m))
-  unfolding stateOf stateIn viewOf numbersOf clearedHead pendings pendingIn gatheredIn restingState
+  unfolding stateOf stateIn viewOf mapCount numbersOf clearedHead pendings pendingIn gatheredIn restingState
   rests-as n o f g e =
       ap (λ (s : Mem). let q = numbersOf (s .head) in stateIn c q (viewOf (q .nodes) (q .opens) s)) e
       ∙ ap₂ (λ i j. restingState c (viewOf i j (memOf m))) (kept n (NODES + 1) (omega arith))
       (kept o (openRows + 1) (omega arith))
+
+  -- a call is done that left n maps, in these rows
+  pub remaps-as : (n : ℕ) → n ≤ MAPS → memOf x ≡ withHead (set (set (set (memOf m .head) 2 1) 3 0) 16 n) (memOf m)
+      → stateOf c x ≡ remaps c (stateOf c m) (take n (memOf m .maps))
+  unfolding stateOf stateIn viewOf mapCount numbersOf tab pendings pendingIn gatheredIn remaps
+  remaps-as n f e =
+      ap (λ (s : Mem). let g = numbersOf (s .head) in stateIn c g (viewOf (g .nodes) (g .opens) s))
+      (e ∙ ap (λ (h : List ℕ). withHead (set h 16 n) (memOf m)) (head-idle (memOf m .head) (length-head m)))
+      ∙ ap (λ (k : ℕ). remaps c (stateOf c m) (take k (memOf m .maps))) (kept n (MAPS + 1) (omega arith))
 
 first-row : {A : Type 0} (l : List A) (x : A) → 0 < length l → take 1 (set l 0 x) ≡ x ∷ []
 first-row [] x h = absurd (omega arith)
 first-row (y ∷ l) x h = refl
 
 -- the root's row, and nothing pending
-pub rests-fresh : (c : Config) (m : Mem) → 0 < length (m .nodes)
+pub rests-fresh : (c : Config) (m : Mem) → 0 < length (m .nodes) → getD (m .head) 16 0 ≡ 0
     → restingState c (viewOf 1 0 (withNodes (set (m .nodes) 0 root) m)) ≡ fresh c (digestStore c)
-unfolding restingState viewOf divide pagesFor
-rests-fresh c m h = rw (first-row (m .nodes) root h)
+unfolding restingState viewOf mapCount divide pagesFor
+rests-fresh c m h z = rw (first-row (m .nodes) root h, z)

@@ -20,16 +20,18 @@ use Rattle.lists.specs.Areas.{total, areas}
 use Rattle.lists.specs.AreaLaws.{areas-overwrite}
 use Rattle.filesystem.specs.Tables.{Node, OpenFile, NODES, PAGES, NAME-BYTES, noNode, noOpenFile, nodeAt, openAt}
 use Rattle.filesystem.specs.Tables.{withMode, withSize, withCursor, setMode, setSize, setCursor}
+use Rattle.filesystem.specs.MemoryMaps.{Map, MAPS, mapAt, noMap}
+use Rattle.memory.specs.Records.{mapOf, mapWidth}
 use Rattle.memory.specs.Records.{field, setField, rowName, nodeOf, nodeWidth, openOf, openWidth}
 use Rattle.memory.specs.laws.RecordLaws.{field-part, field-byte, node-with-mode, node-with-size, open-with-cursor}
 use Rattle.memory.specs.Layout.{memOf, memFrom, memorySize, areaSizes, headNumbers, openRows, digestWidth}
 use Rattle.memory.specs.Layout.{stagingSize, dataSize, newDigests, nodesAt, opensAt, digestsAt, stagingAt}
-use Rattle.memory.specs.Layout.{withHead, withNodes, withOpens, withDigests, withStaged}
+use Rattle.memory.specs.Layout.{withHead, withNodes, withOpens, withDigests, withStaged, mapsAt, withMaps}
 
 -- One law for each area: a write of x at b of the area changes that field of the view as it changes the area, and
 -- leaves the others.
 module _ (m x : List ℕ) (fits : memorySize ≤ length m) (b : ℕ) where
-  written : (at k : ℕ) → at ≡ total (take k areaSizes) + b → k < 5 → b + length x ≤ getD areaSizes k 0
+  written : (at k : ℕ) → at ≡ total (take k areaSizes) + b → k < 6 → b + length x ≤ getD areaSizes k 0
       → memOf (overwrite m at x) ≡ memFrom (set (areas 0 areaSizes m) k (overwrite (getD (areas 0 areaSizes m) k []) b
       x))
   unfolding memOf
@@ -65,6 +67,12 @@ module _ (m x : List ℕ) (fits : memorySize ≤ length m) (b : ℕ) where
       (overwrite (memOf m .staged) b x) (memOf m)
   unfolding memOf memFrom
   mem-staged h = written (stagingAt + b) 4 (omega arith) (omega arith) h
+
+  in-maps : (y : List Map) → b + length x ≤ MAPS * mapWidth
+      → table mapOf mapWidth MAPS (overwrite (part mapsAt (MAPS * mapWidth) m) b x) ≡ y
+      → memOf (overwrite m (mapsAt + b) x) ≡ withMaps y (memOf m)
+  unfolding memOf memFrom
+  in-maps y h e = written (mapsAt + b) 5 (omega arith) (omega arith) h ∙ ap (λ (r : List Map). withMaps r (memOf m)) e
 
 -- rows and parts of rows
 module _ (m x : List ℕ) (fits : memorySize ≤ length m) (i : ℕ) where
@@ -120,6 +128,12 @@ module _ (m x : List ℕ) (fits : memorySize ≤ length m) (i : ℕ) where
   mem-digest e h = in-digests m x fits (i * digestWidth) _ (omega arith) (table-set (λ r. r) digestWidth PAGES
       (part digestsAt (PAGES * digestWidth) m) i x e h (whole digestsAt (PAGES * digestWidth) (omega arith)))
 
+  pub mem-map : length x ≡ mapWidth → i < MAPS → memOf (overwrite m (mapsAt + i * mapWidth) x) ≡ withMaps
+      (set (memOf m .maps) i (mapOf x)) (memOf m)
+  unfolding memOf memFrom
+  mem-map e h = in-maps m x fits (i * mapWidth) _ (omega arith) (table-set mapOf mapWidth MAPS
+      (part mapsAt (MAPS * mapWidth) m) i x e h (whole mapsAt (MAPS * mapWidth) (omega arith)))
+
 -- rows moved within their table
 module _ (m : List ℕ) (fits : memorySize ≤ length m) (from to n : ℕ) where
   size : (a w c : ℕ) → from + n ≤ c → a + c * w ≤ memorySize → length (part (a + from * w) (n * w) m) ≡ n * w
@@ -154,6 +168,15 @@ module _ (m : List ℕ) (fits : memorySize ≤ length m) (from to n : ℕ) where
       in-digests m (part (digestsAt + from * digestWidth) (n * digestWidth) m) fits (to * digestWidth) _ (omega arith)
       (table-move (λ r. r) digestWidth PAGES digestsAt m from to n h g (omega arith))
 
+  pub mem-maps-move : from + n ≤ MAPS → to + n ≤ MAPS
+      → memOf (overwrite m (mapsAt + to * mapWidth) (part (mapsAt + from * mapWidth) (n * mapWidth) m)) ≡ withMaps
+      (overwrite (memOf m .maps) to (part from n (memOf m .maps))) (memOf m)
+  unfolding memOf memFrom
+  mem-maps-move h g =
+      let e = size mapsAt mapWidth MAPS h (omega arith) in
+      in-maps m (part (mapsAt + from * mapWidth) (n * mapWidth) m) fits (to * mapWidth) _ (omega arith)
+      (table-move mapOf mapWidth MAPS mapsAt m from to n h g (omega arith))
+
 -- n digests of the staging area, from its byte 4,096 on, kept as digests from i on
 module _ (m : List ℕ) (fits : memorySize ≤ length m) (i n : ℕ) where
   pub mem-keep : i + n ≤ PAGES → n ≤ newDigests
@@ -179,6 +202,10 @@ no-node = refl
 no-open : openOf [] ≡ noOpenFile
 unfolding openOf field part decode
 no-open = refl
+
+no-map : mapOf [] ≡ noMap
+unfolding mapOf field part decode
+no-map = refl
 
 module _ (m : List ℕ) (i : ℕ) where
   pub head-at : i < headNumbers → getD (memOf m .head) i 0 ≡ decode (part (i * 8) 8 m)
@@ -226,6 +253,10 @@ module _ (m : List ℕ) (i : ℕ) where
   pub digest-at : i < PAGES → getD (memOf m .digests) i [] ≡ part (digestsAt + i * digestWidth) digestWidth m
   unfolding memOf memFrom
   digest-at h = table-at (λ r. r) digestWidth PAGES digestsAt m i h
+
+  pub map-at : i < MAPS → mapAt (memOf m .maps) i ≡ mapOf (part (mapsAt + i * mapWidth) mapWidth m)
+  unfolding memOf memFrom mapAt
+  map-at h = ap (getD (memOf m .maps) i) (sym no-map) ∙ table-at mapOf mapWidth MAPS mapsAt m i h
 
   pub staged-at : (n : ℕ) → i + n ≤ stagingSize → part i n (memOf m .staged) ≡ part (stagingAt + i) n m
   unfolding memOf memFrom
@@ -284,6 +315,10 @@ module _ (m : List ℕ) where
   pub length-digests : length (memOf m .digests) ≡ PAGES
   unfolding memOf memFrom
   length-digests = length-table (λ r. r) digestWidth PAGES (part digestsAt (PAGES * digestWidth) m)
+
+  pub length-maps : length (memOf m .maps) ≡ MAPS
+  unfolding memOf memFrom
+  length-maps = length-table mapOf mapWidth MAPS (part mapsAt (MAPS * mapWidth) m)
 
   pub length-digest : (i : ℕ) → i < PAGES → memorySize ≤ length m → length (getD (memOf m .digests) i []) ≡ digestWidth
   length-digest i h f = ap length (digest-at m i h) ∙ length-part (digestsAt + i * digestWidth) digestWidth m

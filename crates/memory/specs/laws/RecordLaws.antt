@@ -13,7 +13,8 @@ use Rattle.lists.specs.PartLaws.{part-part, part-before, part-after, part-withi
 use Rattle.lists.specs.PartLaws.{overwrite-front, overwrite-behind}
 use Rattle.filesystem.specs.Tables.{Node, OpenFile, newNode, withMode, withSize, withCursor}
 use Rattle.memory.specs.Records.{field, setField, rowName, nodeOf, nodeFront, nodeRow, openOf, openRow, nodeWidth}
-use Rattle.memory.specs.Records.{openWidth}
+use Rattle.filesystem.specs.MemoryMaps.{Map}
+use Rattle.memory.specs.Records.{openWidth, mapOf, mapRow}
 
 -- fields
 pub field-part : (a n at w : ℕ) (l : List ℕ) → at + w ≤ n → field at w (part a n l) ≡ field (a + at) w l
@@ -159,3 +160,7 @@ open-with-cursor x r fits h =
       kept-before 16 4 x r 12 1 (omega arith) (omega arith),
     )
     (ap (λ (k : ℕ). withCursor k (openOf r)) (field-same 16 4 x r (omega arith) h))
+
+pub map-of-row : (m : Map) → m .address < 256 ^ 8 → m .size < 256 ^ 4 → mapOf (mapRow m) ≡ m
+unfolding mapOf mapRow field part encode
+map-of-row m a s = λ k. record { address = decode-encode 8 (m .address) a k; size = decode-encode 4 (m .size) s k }

@@ -2,7 +2,6 @@
 -- makes of the call.
 -- Assumes nothing.
 use mathlib.Core.Path.{_≡_, ap, _∙_}
-use mathlib.Core.Bool.{false}
 use mathlib.Core.List.{List, []}
 use Prim.Native.Nat.{ℕ, _<_, _≤_}
 use native.Mathlib.Omega.{arith}
@@ -10,15 +9,15 @@ use lib.ListN.{length}
 use Rattle.lists.specs.LittleEndian.{length-encode}
 use Rattle.filesystem.specs.Tables.{Tables, openAt, setCursor}
 use Rattle.rules.specs.Calls.{Call, close, seek}
-use Rattle.rules.specs.Requests.{idle, asked, closing, closeRequest, storeLength}
+use Rattle.rules.specs.Requests.{asked, closing, closeRequest, storeLength}
 use Rattle.rules.specs.Skeleton.{Config, atFront}
 use Rattle.rules.specs.Rules.{send, finish, callAction}
 use Rattle.machine.specs.Machine.{State, guard as digestStore}
 use Rattle.memory.specs.Layout.{Mem, memOf, withOpens}
 use Rattle.tables.specs.View.{View, viewOf}
 use Rattle.tables.specs.laws.ViewLaws.{view-cursor}
-use Rattle.guard_state.specs.State.{numbersOf, stateWith, stateIn, stateOf, gatheredNone}
-use Rattle.guard_state.specs.Waits.{waits, ends}
+use Rattle.guard_state.specs.State.{numbersOf, stateIn, stateOf, gatheredNone}
+use Rattle.guard_state.specs.Waits.{waits, ends, restingState}
 use Rattle.handle_calls.specs.declared.Handled.{Handled}
 use Rattle.handle_calls.specs.declared.Handled.the-variants.{Open, Refused as refusedHandle}
 use Rattle.handle_calls.specs.Judged.{handledFor}
@@ -69,10 +68,9 @@ pub cursor-ends : (c : Config) (m x y : List ℕ) (k p : ℕ) → memOf x ≡ wi
     → k < numbersOf (memOf m .head) .opens
     → stateOf c y ≡ ends c (stateOf c x) (stateOf c x .skeleton .tables) (stateOf c x .contents)
     → stateOf c y ≡ cursorMoved c (stateOf c m) k p
-unfolding stateOf stateIn viewOf ends
+unfolding stateOf stateIn viewOf ends restingState
 cursor-ends c m x y k p e h u =
     let g = numbersOf (memOf m .head) in
     u
-    ∙ ap (λ (t : Mem). let n = numbersOf (t .head) in stateWith c (viewOf (n .nodes) (n .opens) t) idle false
-    gatheredNone) e
-    ∙ ap (λ (v : View). stateWith c v idle false gatheredNone) (view-cursor (memOf m) (g .nodes) (g .opens) k p h)
+    ∙ ap (λ (t : Mem). let n = numbersOf (t .head) in restingState c (viewOf (n .nodes) (n .opens) t)) e
+    ∙ ap (λ (v : View). restingState c v) (view-cursor (memOf m) (g .nodes) (g .opens) k p h)

@@ -10,10 +10,11 @@ use Rattle.lists.specs.PartLaws.{take-overwrite, overwrite-none}
 use Rattle.filesystem.specs.Tables.{Tables}
 use Rattle.rules.specs.Requests.{Pending}
 use Rattle.rules.specs.Skeleton.{Config, Answer, done, ask, answerBytes, requestBytes, atFront}
-use Rattle.rules.specs.Rules.{Move, refuse, halt, send, finish}
+use Rattle.rules.specs.MapRules.{MapChange, mapsAfter, mapNumber}
+use Rattle.rules.specs.Rules.{Move, refuse, halt, send, finish, remap}
 use Rattle.machine.specs.Machine.{State, Result, Gathered, asking, ending, apply, guard as digestStore}
 use Rattle.guard_state.specs.State.{stateOf, gatheredNone}
-use Rattle.guard_state.specs.Waits.{waits, ends, stops}
+use Rattle.guard_state.specs.Waits.{waits, ends, stops, remaps}
 use Rattle.outcomes.specs.declared.Outcome.{Outcome}
 use Rattle.outcomes.specs.declared.Outcome.the-variants.{Done, Ask, Refused, Stopped}
 use Rattle.outcomes.specs.Values.{lengthOf, bytesIn, answerIn}
@@ -114,6 +115,17 @@ module _ (c : Config) (s : State (digestStore c)) (v : Move) where
       → Sends c (apply c (digestStore c) s v) (Done n 0) m q q
   unfolding apply
   finish-sends t n m q z g = done-sends t (s .contents) n m q (ap (apply c (digestStore c) s) z) g
+
+  pub remap-sends : (x : MapChange) (m q : List ℕ) → v ≡ remap x
+      → stateOf c m ≡ remaps c s (mapsAfter x (s .skeleton .maps))
+      → Sends c (apply c (digestStore c) s v) (Done (mapNumber x) 0) m q q
+  unfolding apply answerIn lengthOf bytesIn settled requestBytes overwrite remaps
+  remap-sends x m q z g = record {
+    state = g ∙ ap (λ d. apply c (digestStore c) s d .state) (sym z);
+    answer = λ a. ap (λ d. apply c (digestStore c) s d .outcome .answer) (sym z);
+    count = ap (λ d. bytesIn (apply c (digestStore c) s d .outcome .answer)) (sym z);
+    request = ap (λ d. atFront (requestBytes (apply c (digestStore c) s d .outcome .answer)) q) (sym z);
+  }
 
   pub request-sends : (p : Pending) (x m q q′ : List ℕ) (o : Outcome) → v ≡ send p x
       → stateOf c m ≡ waits c s p gatheredNone → q′ ≡ atFront x q

@@ -2,7 +2,7 @@
 -- Assumes nothing.
 use mathlib.Core.Path.{_≡_, refl, ap, sym, _∙_, subst}
 use mathlib.Core.Bool.{not}
-use mathlib.Core.List.{List, []}
+use mathlib.Core.List.{List, [], _++_}
 use Prim.Native.Nat.{ℕ, suc, _<_, _≤_}
 use native.Mathlib.Omega.{arith}
 use lib.Dec.{eqb}
@@ -18,7 +18,7 @@ use Rattle.tables.specs.View.{viewOf}
 use Rattle.rules.specs.Pages.{Change, last}
 use Rattle.rules.specs.Requests.{Pending, fetching, storing, cutting}
 use Rattle.rules.specs.Skeleton.{Config}
-use Rattle.rules.specs.Rules.{halt, fillPage, replyChecks, replyAction}
+use Rattle.rules.specs.Rules.{halt, fillPage, replyChecks, mapReasons, reasons, replyAction}
 use Rattle.machine.specs.Machine.{State, Result, askStore, pagesStored, pagesFrom, finishChange, apply}
 use Rattle.machine.specs.Machine.{guard as digestStore}
 use Rattle.machine.specs.Consistent.{Consistent}
@@ -51,9 +51,9 @@ module _ (c : Config) (same : c .digest ≡ sha256) (s : State (digestStore c)) 
   kept = getD (getD (s .contents) k []) i []
 
   move : taken c s r ≡ pick (not (eqb (length r) PAGE-BYTES)) (halt 1) (fillPage k o q i r)
-  unfolding taken replyChecks replyAction decide
-  move = ap (λ (p : Pending). decide halt (replyChecks (c .width) (s .skeleton .tables) r p)
-      (replyAction (c .width) (s .skeleton .tables) r p)) waiting
+  unfolding taken reasons replyChecks mapReasons replyAction decide
+  move = ap (λ (p : Pending). decide halt (replyChecks (c .width) (s .skeleton .tables) r p
+      ++ mapReasons (s .skeleton .maps) r p) (replyAction (c .width) (s .skeleton .tables) r p)) waiting
 
   as-digest : equal (c .digest r) kept ≡ equal (sha256 r) kept
   as-digest = ap (λ (f : List ℕ → List ℕ). equal (f r) kept) same
@@ -95,13 +95,13 @@ module _ (c : Config) (wide : c .width ≡ ID-BYTES) (s : State (digestStore c))
   unfolding answered apply replyAction
   stored-goes i e h =
       ap (apply c (digestStore c) s) (taken-passes c wide s r (storing k o q i) e (h
-      ∙ sym (storing-reason (s .skeleton .tables) r k o q i)))
+      ∙ sym (storing-reason (s .skeleton .tables) r k o q i)) refl)
 
   pub cut-goes : s .skeleton .pending ≡ cutting k o q → 0 ≡ statusReason r 0
       → answered c s r ≡ finishChange c (digestStore c) s k o q
   unfolding answered apply replyAction
   cut-goes e h = ap (apply c (digestStore c) s) (taken-passes c wide s r (cutting k o q) e (h
-      ∙ sym (cutting-reason (s .skeleton .tables) r k o q)))
+      ∙ sym (cutting-reason (s .skeleton .tables) r k o q)) refl)
 
 -- a fetched page that was judged
 module _ (c : Config) (m : List ℕ) (q : Change) (h : Consistent c (stateOf c m))

@@ -12,12 +12,14 @@ use Rattle.lists.specs.Pick.{pick}
 use Rattle.lists.specs.All.{All, both, none, Bytes}
 use Rattle.lists.specs.PartLaws.{take-overwrite}
 use Rattle.lists.specs.Search.{without}
-use Rattle.lists.specs.Checks.{Check, Passed, decide}
+use Rattle.lists.specs.Checks.{Check, Passed, decide, decide-append}
 use Rattle.filesystem.specs.Tables.{ID-BYTES, Node, Tables, freshTables}
 use Rattle.rules.specs.Requests.{asked, Pending, idle, creating, opening, closing, removing, changing, listing, stating}
-use Rattle.rules.specs.Requests.{reading, fetching, storing, cutting}
+use Rattle.rules.specs.Requests.{reading, fetching, storing, cutting, mapping, unmapping}
 use Rattle.rules.specs.Skeleton.{Config, done, answerBytes, answerLength, atFront}
-use Rattle.rules.specs.Rules.{Move, halt, finish, add, delete, lengthCheck, replyChecks, replyAction}
+use Rattle.rules.specs.Rules.{Move, refuse, halt, send, finish, add, delete, remap, readPage, begin, fillPage, stored}
+use Rattle.rules.specs.Rules.{cutDone, saving, loading, lengthCheck, replyChecks, replyAction, mapReasons, reasons}
+use Rattle.filesystem.specs.MemoryMaps.{Map}
 use Rattle.rules.specs.Valid.{ValidNodes}
 use Rattle.rules.specs.ReplyLaws.{listing-right}
 use Rattle.rules.specs.Lengths.{listing-length}
@@ -32,18 +34,18 @@ use Rattle.replies.specs.Judged.{reasonFor}
 use Rattle.outcomes.specs.Answered.{taken, answered}
 
 -- reasons are not 0, so 0 says that none holds
-abbrev Positive : Check → Type 0
+abbrev pub Positive : Check → Type 0
 Positive ch = ltb 0 (ch .0) ≡ true
 
 module _ (x : Move) where
-  stopped-by : (cs : List Check) → All Positive cs → (b : ℕ) → b ≡ decide (λ n. n) cs 0 → 0 < b
+  pub stopped-by : (cs : List Check) → All Positive cs → (b : ℕ) → b ≡ decide (λ n. n) cs 0 → 0 < b
       → decide halt cs x ≡ halt b
   unfolding decide pick
   stopped-by [] a b e h = absurd (omega arith)
   stopped-by ((n, true) ∷ cs) a b e h = ap halt (sym e)
   stopped-by ((n, false) ∷ cs) (both p a) b e h = stopped-by cs a b e h
 
-  passes : (cs : List Check) → All Positive cs → 0 ≡ decide (λ n. n) cs 0 → decide halt cs x ≡ x
+  pub passes : (cs : List Check) → All Positive cs → 0 ≡ decide (λ n. n) cs 0 → decide halt cs x ≡ x
   unfolding decide pick
   passes [] a e = refl
   passes ((n, true) ∷ cs) (both p a) e = absurd (omega (arith, ltb-true 0 n p))
@@ -59,32 +61,77 @@ positive t r (asked (removing k)) = both refl (both refl none)
 positive t r (asked (changing k m)) = both refl (both refl none)
 positive t r (asked (listing k)) = both refl none
 positive t r (asked (stating k)) = both refl (both refl none)
+positive t r (asked (mapping n)) = both refl none
+positive t r (asked (unmapping a)) = both refl (both refl none)
 positive t r (reading k o p n i) = both refl none
 positive t r (fetching k o q i) = both refl none
 positive t r (storing k o q i) = both refl (both refl none)
 positive t r (cutting k o q) = both refl (both refl none)
 
+-- a reply that changes no map has no reason of a map
+abbrev pub isRemap : Move → Bool
+isRemap (refuse n) = false
+isRemap (halt n) = false
+isRemap (send p q) = false
+isRemap (finish t n b) = false
+isRemap (add n) = false
+isRemap (delete k) = false
+isRemap (remap x) = true
+isRemap (readPage k o p n i r) = false
+isRemap (begin k o q) = false
+isRemap (fillPage k o q i r) = false
+isRemap (stored k o q i) = false
+isRemap (cutDone k o q) = false
+isRemap saving = false
+isRemap (loading i d) = false
+
+no-map-reason : (w : ℕ) (t : Tables) (ms : List Map) (r : List ℕ) (p : Pending) → isRemap (replyAction w t r p) ≡ false
+    → mapReasons ms r p ≡ []
+unfolding mapReasons replyAction
+no-map-reason w t ms r idle h = refl
+no-map-reason w t ms r (asked (creating p k m name)) h = refl
+no-map-reason w t ms r (asked (opening k rights)) h = refl
+no-map-reason w t ms r (asked (closing o)) h = refl
+no-map-reason w t ms r (asked (removing k)) h = refl
+no-map-reason w t ms r (asked (changing k m)) h = refl
+no-map-reason w t ms r (asked (listing k)) h = refl
+no-map-reason w t ms r (asked (stating k)) h = refl
+no-map-reason w t ms r (asked (mapping n)) h = absurd (true≢false h)
+no-map-reason w t ms r (asked (unmapping a)) h = refl
+no-map-reason w t ms r (reading k o p n i) h = refl
+no-map-reason w t ms r (fetching k o q i) h = refl
+no-map-reason w t ms r (storing k o q i) h = refl
+no-map-reason w t ms r (cutting k o q) h = refl
+
 -- the move, from the pending call and the reason that was found
 module _ (c : Config) (wide : c .width ≡ ID-BYTES) (s : State (digestStore c)) (r : List ℕ) (p : Pending)
     (waiting : s .skeleton .pending ≡ p) where
-  at-width : taken c s r ≡ decide halt (replyChecks ID-BYTES (s .skeleton .tables) r p)
-      (replyAction ID-BYTES (s .skeleton .tables) r p)
-  unfolding taken
-  at-width = ap (λ (x : ℕ). decide halt (replyChecks x (s .skeleton .tables) r (s .skeleton .pending))
-      (replyAction x (s .skeleton .tables) r (s .skeleton .pending))) wide
+  -- behind the reasons that the tables give, those of a map
+  pub at-width : taken c s r ≡ decide halt (replyChecks ID-BYTES (s .skeleton .tables) r p)
+      (decide halt (mapReasons (s .skeleton .maps) r p) (replyAction ID-BYTES (s .skeleton .tables) r p))
+  unfolding taken reasons
+  at-width =
+      decide-append halt (replyChecks (c .width) (s .skeleton .tables) r (s .skeleton .pending)) _ _
+      ∙ ap (λ (x : ℕ). decide halt (replyChecks x (s .skeleton .tables) r (s .skeleton .pending))
+      (decide halt (mapReasons (s .skeleton .maps) r (s .skeleton .pending)) (replyAction x (s .skeleton .tables) r (s .skeleton .pending)))) wide
       ∙ ap (λ (x : Pending). decide halt (replyChecks ID-BYTES (s .skeleton .tables) r x)
-      (replyAction ID-BYTES (s .skeleton .tables) r x)) waiting
+      (decide halt (mapReasons (s .skeleton .maps) r x) (replyAction ID-BYTES (s .skeleton .tables) r x))) waiting
 
   pub taken-stops : (b : ℕ) → b ≡ reasonFor (s .skeleton .tables) r p → 0 < b → taken c s r ≡ halt b
   unfolding reasonFor
-  taken-stops b e h = at-width ∙ stopped-by _ (replyChecks ID-BYTES (s .skeleton .tables) r p)
-      (positive (s .skeleton .tables) r p) b e h
+  taken-stops b e h = at-width ∙ stopped-by _ (replyChecks ID-BYTES (s .skeleton .tables) r p) (positive (s .skeleton .tables) r p) b e h
 
-  pub taken-passes : 0 ≡ reasonFor (s .skeleton .tables) r p → taken c s r ≡ replyAction ID-BYTES (s .skeleton .tables)
-      r p
+  pub taken-on : 0 ≡ reasonFor (s .skeleton .tables) r p
+      → taken c s r ≡ decide halt (mapReasons (s .skeleton .maps) r p) (replyAction ID-BYTES (s .skeleton .tables) r p)
   unfolding reasonFor
-  taken-passes e = at-width ∙ passes _ (replyChecks ID-BYTES (s .skeleton .tables) r p)
-      (positive (s .skeleton .tables) r p) e
+  taken-on e = at-width ∙ passes _ (replyChecks ID-BYTES (s .skeleton .tables) r p) (positive (s .skeleton .tables) r p) e
+
+  pub taken-passes : 0 ≡ reasonFor (s .skeleton .tables) r p → isRemap (replyAction ID-BYTES (s .skeleton .tables) r p) ≡ false
+      → taken c s r ≡ replyAction ID-BYTES (s .skeleton .tables) r p
+  unfolding decide
+  taken-passes e h =
+      taken-on e ∙ ap (λ (cs : List Check). decide halt cs (replyAction ID-BYTES (s .skeleton .tables) r p))
+      (no-map-reason ID-BYTES (s .skeleton .tables) (s .skeleton .maps) r p h)
 
 -- a reply without a reason has its length, or at most a listing's
 passed-all : (cs : List Check) → All Positive cs → 0 ≡ decide (λ n. n) cs 0 → Passed cs
@@ -142,14 +189,16 @@ module _ (c : Config) (wide : c .width ≡ ID-BYTES) (s : State (digestStore c))
       → stateOf c x ≡ ends c s u (s .contents)
       → Sends c (answered c s r) (Done n 0) x q q
   unfolding answered
-  answer-finishes u n x q e f g = finish-sends c s _ u n x q (taken-passes c wide s r p waiting e ∙ f) g
+  answer-finishes u n x q e f g = finish-sends c s _ u n x q
+      (taken-passes c wide s r p waiting e (ap isRemap f) ∙ f) g
 
   pub answer-deletes : (k : ℕ) (x q : List ℕ) → 0 ≡ reasonFor t r p → replyAction ID-BYTES t r p ≡ delete k
       → stateOf c x ≡ ends c s (record { nodes = without k (t .nodes); opens = t .opens }) (without k (s .contents))
       → Sends c (answered c s r) (Done 0 0) x q q
   unfolding answered apply
   answer-deletes k x q e f g = done-sends c s (taken c s r) (record { nodes = without k (t .nodes); opens = t .opens })
-      (without k (s .contents)) 0 x q (ap (apply c (digestStore c) s) (taken-passes c wide s r p waiting e ∙ f)) g
+      (without k (s .contents)) 0 x q (ap (apply c (digestStore c) s)
+      (taken-passes c wide s r p waiting e (ap isRemap f) ∙ f)) g
 
   pub answer-adds : (n : Node) (x q : List ℕ) → 0 ≡ reasonFor t r p → replyAction ID-BYTES t r p ≡ add n
       → stateOf c x ≡ ends c s (record { nodes = t .nodes ++ (n ∷ []); opens = t .opens }) (s .contents ++ ([] ∷ []))
@@ -158,7 +207,8 @@ module _ (c : Config) (wide : c .width ≡ ID-BYTES) (s : State (digestStore c))
   answer-adds n x q e f g =
       done-sends c s (taken c s r) (record { nodes = t .nodes ++ (n ∷ []); opens = t .opens }) (s .contents
       ++ ([] ∷ [])) (n .id) x q
-      (ap (apply c (digestStore c) s) (taken-passes c wide s r p waiting e ∙ f)) g
+      (ap (apply c (digestStore c) s)
+      (taken-passes c wide s r p waiting e (ap isRemap f) ∙ f)) g
 
   -- where the answer buffer is lent: a stop leaves it, and a call that is done puts its bytes at the front
   pub stop-fills : (b : ℕ) (x a : List ℕ) → b ≡ reasonFor t r p → 0 < b → stateOf c x ≡ s
@@ -178,7 +228,7 @@ module _ (c : Config) (wide : c .width ≡ ID-BYTES) (s : State (digestStore c))
       → a′ ≡ atFront y a → l ≡ length y → length y ≤ length a → Fills c (answered c s r) (Done n l) x a a′
   unfolding answered apply answerIn lengthOf bytesIn settled answerBytes ends
   answer-fills u n l y x a a′ e f g w h m =
-      let z : taken c s r ≡ finish u n y = taken-passes c wide s r p waiting e ∙ f in
+      let z : taken c s r ≡ finish u n y = taken-passes c wide s r p waiting e (ap isRemap f) ∙ f in
       record {
         state = g ∙ ap (λ (d : Move). apply c (digestStore c) s d .state) (sym z);
         answer = λ q.

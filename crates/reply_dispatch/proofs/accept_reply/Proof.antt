@@ -52,6 +52,16 @@ accept-page-change-requires c κs =
           arith,
     )
 
+accept-on-maps-requires : tie.Need-accept-on-maps-requires
+accept-on-maps-requires c κs =
+    let i = c .before in
+    let k = i .before .before .before .before in (
+      ap (λ (x : Guard). x .call) (k .before .load .ensures),
+      omega (arith, i .before .if3 .left),
+      omega (arith, i .if4 .taken),
+      omega arith,
+    )
+
 returns : tie.Need-returns
 returns c =
     let p = c .before .before .before .before in
@@ -101,22 +111,32 @@ returns-5 c =
 
 returns-6 : tie.Need-returns-6
 returns-6 c =
+    let p = c .before .before in
+    let l = p .before .before .before .before .before .before .before in
+    let a = l .before .before .before .before .before .before .args in (
+      λ d h w held low high wide. sends-leaves d _ _ _ _ _ (p .accept-on-maps .ensures .0 d h w held (a .request .now))
+          (a .answer .now),
+      omega arith,
+    )
+
+returns-7 : tie.Need-returns-7
+returns-7 c =
     let l = c .before .before in
     let e = ap (λ (x : Guard). x .call) (l .load .ensures) in
     (λ d h w held low high wide. absurd (omega (arith, e, low, c .if1 .taken)), refl)
 
-returns-7 : tie.Need-returns-7
-returns-7 c =
-    let l = c .before .before .before .before in
+returns-8 : tie.Need-returns-8
+returns-8 c =
+    let l = c .before .before .before .before .before in
     let e = ap (λ (x : Guard). x .call) (l .load .ensures) in
-    (λ d h w held low high wide. absurd (omega (arith, e, high, c .if3 .left)), refl)
+    (λ d h w held low high wide. absurd (omega (arith, e, high, c .if4 .left)), refl)
 
 pub accept-reply-spec : {M : Type 1} → statement M
 accept-reply-spec =
     tie.close (tie.spec (λ c κs. search needs) accept-listing-requires accept-stat-requires accept-page-requires
-    accept-change-requires accept-page-change-requires
+    accept-change-requires accept-page-change-requires accept-on-maps-requires
     (λ c. search needs) (λ c. search needs) returns (λ c. search needs) (λ c. search needs) returns-2
     (λ c. search needs) (λ c. search needs)
     (λ c. search needs) returns-3 (λ c. search needs) returns-4 (λ c. search needs) (λ c. search needs) returns-5
     (λ c. search needs) returns-6
-    (λ c. search needs) returns-7)
+    (λ c. search needs) returns-7 (λ c. search needs) returns-8)

@@ -13,14 +13,16 @@ use Rattle.lists.specs.Equal.{equal}
 use Rattle.digest.specs.Sha256.{sha256}
 use Rattle.filesystem.specs.Tables.{ID-BYTES, OpenFile, Tables, pageTotal}
 use Rattle.filesystem.specs.Image.{Image, divide, parse}
-use Rattle.memory.specs.Layout.{memOf}
+use Rattle.filesystem.specs.MemoryMaps.{Map}
+use Rattle.memory.specs.Layout.{Mem, memOf}
 use Rattle.tables.specs.View.{viewOf}
 use Rattle.tables.specs.laws.ContentLaws.{divide-same}
 use Rattle.rules.specs.Skeleton.{Config, done}
 use Rattle.rules.specs.Rules.{refuse, loading, isNone, imageOr}
 use Rattle.machine.specs.Machine.{State, ending, apply, guard as digestStore}
 use Rattle.guard_state.specs.declared.Guard.{Guard}
-use Rattle.guard_state.specs.State.{numbersOf, stateIn, stateOf}
+use Rattle.rules.specs.Requests.{idle}
+use Rattle.guard_state.specs.State.{numbersOf, stateWith, stateIn, stateOf, mapCount, mapsIn, gatheredNone}
 use Rattle.guard_state.specs.Waits.{ends, restingState}
 use Rattle.image_writer.specs.Width.{nodesIn, imageIn}
 use Rattle.image_reader.specs.Records.{isSome}
@@ -105,10 +107,15 @@ module _ (c : Config) (m : List ℕ) (g : Guard) (e : g ≡ numbersOf (memOf m .
     same-contents = let p = pageTotal (nodesIn n after) in divide-same (nodesIn n after) _ _
         (sym (take-take p p (memOf after .digests) (omega arith)))
 
+    same-maps : mapsIn (viewOf n 0 (memOf after)) ≡ here .skeleton .maps
+    unfolding stateOf stateIn viewOf
+    same-maps = ap (λ (z : Mem). take (mapCount (z .head)) (z .maps)) (l .rest)
+
     rests-loaded : restingState c (viewOf n 0 (memOf after)) ≡ ends c here tables contents
     unfolding restingState ends viewOf
     rests-loaded =
-        ap₂ (λ (o : List OpenFile) (x : List (List (List ℕ))). ends c here
+        ap (λ (ms : List Map). stateWith c (viewOf n 0 (memOf after)) ms idle false gatheredNone) same-maps
+        ∙ ap₂ (λ (o : List OpenFile) (x : List (List (List ℕ))). ends c here
         (record { nodes = nodesIn n after; opens = o }) x) (sym (no-opens closed)) same-contents
 
     pub load-done : (m′ : List ℕ) → loadMove c here i d ≡ loading (imageOr (parse ID-BYTES i)) d

@@ -14,5 +14,5 @@ long n = rw length-replicate (omega arith)
 pub replay-spec : {M : Type 1} → statement M
 replay-spec =
     tie.close
-    (tie.spec (λ c. sym (length-replicate {A = ℕ} 52672 0)) (λ c. sym (length-replicate {A = ℕ} 262144 0))
+    (tie.spec (λ c. sym (length-replicate {A = ℕ} 52864 0)) (λ c. sym (length-replicate {A = ℕ} 262144 0))
     (λ c. sym (length-replicate {A = ℕ} 131072 0)) (λ c κs. long 131072) (λ c. search needs))
