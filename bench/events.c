@@ -161,6 +161,30 @@ static void step_create(void)
     expect(reply("\0\0\0\0", 4), DONE, 0);
 }
 
+#define DISK_FULL "\xe4\xff\xff\xff"
+
+static void step_create_full(void)
+{
+    expect(call("\1\7/file-new0001", 15), ASK, 0);
+    expect(reply(DISK_FULL, 4), REFUSED, 28);
+}
+
+/* Whole pages: none is fetched, and all but the last find room. */
+static void step_write_full(void)
+{
+    outcome o = call(handle_call, 5 + count);
+    for (uint32_t at = PAGE; at < count; at += PAGE)
+        o = reply("\0\4\0\0", 4);
+    expect(o, ASK, 0);
+    expect(reply(DISK_FULL, 4), DONE, count - PAGE);
+}
+
+static void step_grow_full(void)
+{
+    expect(call(handle_call, POSITION_CALL), ASK, 0);
+    expect(reply(DISK_FULL, 4), REFUSED, 28);
+}
+
 static void step_open(void)
 {
     call("\3\3/file-0000247", 15);
@@ -277,6 +301,10 @@ static const struct row rows[] = {
     {"grow by 32 pages", full_open, restore, step_truncate, GUARD_TRUNCATE, 40 * PAGE, 0, {0, 0, 32 * DIGEST, 1}},
     {"grow by 64 pages, two nodes", empty, restore, step_truncate, GUARD_TRUNCATE, 64 * PAGE, 0,
         {0, 0, 64 * DIGEST, 1}},
+    {"create, disk full", one_less, NULL, step_create_full, GUARD_CREATE, 0, 0, {0, 0, 15, NODES}},
+    {"write 3 pages, third full", full_open, to_position, step_write_full, GUARD_WRITE, PAGE, 3 * PAGE,
+        {3, PAGE, 3 * PAGE, 1}},
+    {"grow by 32 pages, disk full", full_open, NULL, step_grow_full, GUARD_TRUNCATE, 40 * PAGE, 0, {0, 0, 0, 1}},
     {"readdir, 255 children", largest, NULL, step_readdir, GUARD_READDIR, 0, NODES - 1, {0, 0, ANSWER, NODES}},
     {"readdir, 255 shuffled", largest, NULL, step_readdir, GUARD_READDIR, 1, NODES - 1, {0, 0, ANSWER, NODES}},
     {"map 4,096", smallest, restore, step_map, GUARD_MAP, UNIT, UNIT, {0, 0, UNIT, 0}},

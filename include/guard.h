@@ -36,7 +36,7 @@
 extern "C" {
 #endif
 
-#define GUARD_VERSION "1.3"
+#define GUARD_VERSION "1.4"
 
 /* How the functions of these headers are compiled: inline, in each program that includes them. Whoever cannot use inline
  * functions takes libguard_client.so, which has each of them and the archive's entries as symbols (guard_exports.c,
@@ -87,7 +87,9 @@ typedef struct { int kind; uint64_t number; size_t length; } guard_outcome;
 enum {
     GUARD_DONE = 0,    /* `number` is the call's result */
     GUARD_ASK = 1,     /* a request for the host is pending; `number` is 0 */
-    GUARD_REFUSED = 2, /* nothing has changed, and a pending request still is; `number` says why, an errno value of Linux; guard_number_text speaks */
+    GUARD_REFUSED = 2, /* nothing has changed, and a pending request still is, but for GUARD_FULL as the answer to a
+                        * reply: that ends the call and its request. `number` says why, an errno value of Linux;
+                        * guard_number_text speaks */
     GUARD_STOPPED = 3  /* the host's reply is wrong; `number` is the reason. From now on everything is refused GUARD_STOPPED_FOR_GOOD */
 };
 
@@ -114,6 +116,12 @@ enum {
  * file. A position is at most the size. A truncation to more than the size makes the file longer by zeros, and asks for
  * one cut; the cursor stays. After one to less, a cursor that stood behind the new end is at that end, unlike POSIX.
  * A read or write of no bytes and a truncation to the same size ask for nothing.
+ *
+ * A host whose disk is full may say so to a create, a mkdir, a store of a write and the cut of a truncation that grows
+ * (below). That ends the call and its request, and the guard goes on:
+ * - A write whose host has taken some of its pages is done with fewer bytes than were asked for, those up to the end of
+ *   the last page that was taken; size and cursor follow them. The rest is the client's to write again.
+ * - Everything else, and a write of which no page was taken, is refused GUARD_FULL, and nothing has changed.
  *
  * A map is memory that the host lends, all zeros, at an address that the host chooses: GUARD_MAP_UNIT bytes or a
  * multiple, up to GUARD_MAP_LENGTH. It lives until it is unmapped by its first address; then its room is free again.
@@ -147,7 +155,8 @@ enum {
  *     store      7, descriptor (4), page (4), size (4), the page's 1,024 bytes: the file then has this size
  *     cut        8, descriptor (4), size (4): the file then has this size, and zeros where it is longer than before
  *
- *     create, mkdir                                      an id (4), not 0, that no node has; the root has 1
+ *     create, mkdir                                      an id (4), not 0, that no node has, and not GUARD_FULL_ID; the
+ *                                                        root has 1
  *     open                                               a descriptor (4), 0 to 1,023, that no open file has
  *     close, cut, remove, rmdir, chmod, unmap            a status (4), 0; a status is signed
  *     store                                              a status (4), 1,024
@@ -157,7 +166,17 @@ enum {
  *     stat                                               id (4), kind (1), mode (1), size (4; 0 for a directory)
  *     map                                                an address (8), not 0, a multiple of 4,096, then as many
  *                                                        bytes as were asked for, all 0; address and length together
- *                                                        are at most 2^64, and no live map is overlapped */
+ *                                                        are at most 2^64, and no live map is overlapped
+ *
+ * Where the disk is full, a create, a mkdir, a store of a write and a cut to more than the size may be answered by the
+ * status (4) GUARD_FULL_STATUS, -28: the host has done nothing for this request, or has undone what it had done. To all
+ * others, a store and a cut of a truncation to less among them, it is a wrong reply. */
+enum { GUARD_FULL_STATUS = -28 };
+
+/* The bytes of GUARD_FULL_STATUS, e4 ff ff ff, as an id: to a create or mkdir they never mean one. A node that has this
+ * id by an image of an older guard keeps it. */
+#define GUARD_FULL_ID 0xffffffe4u
+
 enum { GUARD_FETCH = 6, GUARD_STORE = 7, GUARD_CUT = 8 };
 
 enum { GUARD_FILE = 1, GUARD_DIRECTORY = 2 };
@@ -181,7 +200,8 @@ enum {
     GUARD_TOO_MANY_MAPS = 12,   /* ENOMEM        16 maps live */
     GUARD_BAD_HANDLE = 9,       /* EBADF         not open, or without the right */
     GUARD_TOO_BIG = 27,         /* EFBIG         a write or truncation beyond 65,536 bytes */
-    GUARD_FULL = 28,            /* ENOSPC        256 nodes; over 1,024 pages after a write or truncation */
+    GUARD_FULL = 28,            /* ENOSPC        256 nodes; over 1,024 pages after a write or truncation; the host's
+                                 *               disk is full. As the answer to a reply it ends the request */
     GUARD_WRONG_DIGEST = 74,    /* EBADMSG       a load: the image has another digest, or the digest has not 32 bytes */
     GUARD_UNSOUND_IMAGE = 84    /* EILSEQ        a load: no guard saves such an image */
 };
@@ -234,7 +254,9 @@ GUARD_FUNCTION guard_outcome guard_call(guard *g, const uint8_t *call, size_t le
     return guard_entry_call(g->memory, sizeof g->memory, call, length, answer, answer_length, request, request_length);
 }
 
-/* The host's reply to the pending request. */
+/* The host's reply to the pending request. Refused GUARD_FULL, since the host's disk is full, the call is over and no
+ * request is pending: another reply is refused GUARD_NOT_PENDING. Refused in any other way, the request still is. A
+ * write that is done may have fewer bytes than were asked for. */
 GUARD_FUNCTION guard_outcome guard_reply(guard *g, const uint8_t *reply, size_t length, uint8_t *answer, size_t answer_length,
                                          uint8_t *request, size_t request_length)
 {

@@ -312,7 +312,8 @@ GUARD_FUNCTION int guard_get_request(const uint8_t *bytes, size_t length, guard_
 
 /* ---- replies, for a host (5.5)
  *
- * A host that cannot obey replies what is wrong: a negative status or descriptor, the id 0. So values are not judged here. */
+ * A host that cannot obey replies what is wrong: a negative status or descriptor, the id 0. So values are not judged
+ * here. One that lacks room has guard_full_reply, where a call may end by it. */
 
 GUARD_FUNCTION size_t guard_status_reply(uint8_t *to, size_t room, int32_t status)
 {
@@ -330,6 +331,16 @@ GUARD_FUNCTION size_t guard_id_reply(uint8_t *to, size_t room, uint32_t id)
         return 0;
     guard_put_number(to, id, 4);
     return 4;
+}
+
+/* Whether a host may give a new node this id, as far as the number alone says. */
+GUARD_FUNCTION int guard_is_new_id(uint32_t id) { return id != 0 && id != GUARD_ROOT && id != GUARD_FULL_ID; }
+
+/* The disk is full, and nothing is done for this request: to a create, a mkdir, a store of a write and a cut that
+ * grows. To anything else it is wrong, and so it is for a host that has kept a part of what it was asked for. */
+GUARD_FUNCTION size_t guard_full_reply(uint8_t *to, size_t room)
+{
+    return guard_status_reply(to, room, GUARD_FULL_STATUS);
 }
 
 /* As many bytes of the page as the file has, and zeros behind them. */
@@ -400,7 +411,7 @@ GUARD_FUNCTION const char *guard_number_text(uint64_t number)
     case GUARD_TOO_MANY_MAPS: return "maps: 16 maps live";
     case GUARD_BAD_HANDLE: return "handle: not open, or without the right";
     case GUARD_TOO_BIG: return "too big: a file has at most 65,536 bytes";
-    case GUARD_FULL: return "full: at most 256 nodes and 1,024 pages";
+    case GUARD_FULL: return "full: at most 256 nodes and 1,024 pages, or the host's disk is";
     case GUARD_WRONG_DIGEST: return "seal: the image has another digest";
     case GUARD_UNSOUND_IMAGE: return "image: no guard saves such an image";
     default: return "no number of the guard";
@@ -505,6 +516,12 @@ GUARD_FUNCTION size_t guard_client_room(const uint8_t *request, size_t room)
     return request ? guard_smaller(room, GUARD_REQUEST_LENGTH) : (size_t)GUARD_REQUEST_LENGTH;
 }
 
+/* Whether no request is pending any more: the call is done, or a full disk has ended it. */
+GUARD_FUNCTION int guard_client_is_over(guard_outcome o)
+{
+    return o.kind == GUARD_DONE || (o.kind == GUARD_REFUSED && o.number == GUARD_FULL);
+}
+
 /* Keeps what an outcome says, and copies a request out. */
 GUARD_FUNCTION guard_outcome guard_client_keep(guard_client *c, guard_outcome o, uint8_t *request)
 {
@@ -512,7 +529,7 @@ GUARD_FUNCTION guard_outcome guard_client_keep(guard_client *c, guard_outcome o,
         memcpy(request, c->request, o.length);
     if (o.kind == GUARD_STOPPED)
         c->reason = o.number;
-    if (o.kind == GUARD_ASK || o.kind == GUARD_DONE)
+    if (o.kind == GUARD_ASK || guard_client_is_over(o))
         c->request_length = o.kind == GUARD_ASK ? o.length : 0;
     return o;
 }
@@ -525,8 +542,9 @@ GUARD_FUNCTION guard_outcome guard_client_call(guard_client *c, const uint8_t *c
     return guard_client_keep(c, o, request);
 }
 
-/* The host's reply, in memory that the host may write. Of a reply that is claimed to be longer than GUARD_REPLY_LENGTH, as many bytes are read, and
- * the guard is told that it is too long. */
+/* The host's reply, in memory that the host may write. Refused GUARD_FULL, the call is over: c->request_length is 0.
+ * Of a reply that is claimed to be longer than GUARD_REPLY_LENGTH, as many bytes are read, and the guard is told that
+ * it is too long. */
 GUARD_FUNCTION guard_outcome guard_client_reply(guard_client *c, const uint8_t *reply, size_t length, uint8_t *request, size_t room)
 {
     size_t n = guard_client_copy(c, reply, length, GUARD_REPLY_LENGTH);

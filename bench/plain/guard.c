@@ -9,6 +9,8 @@ void HASH(const uint8_t *message, size_t length, uint8_t out[DIGEST]);
 enum { CREATE = 1, MKDIR, OPEN, CLOSE, SEEK, READ, WRITE, TRUNCATE, REMOVE, RMDIR, CHMOD, READDIR, STAT, MAP, UNMAP };
 enum { IS_FILE = 1, IS_DIRECTORY = 2, MODE_READ = 4, MODE_WRITE = 2, MODE_SEARCH = 1, RIGHT_READ = 1, RIGHT_WRITE = 2 };
 
+enum { NO_SPACE = -28 }; /* the status of a full disk */
+
 /* What is waited for, where the call's own kind does not say it. */
 enum { IDLE, WRITE_FETCH = 20, WRITE_STORE, CUT_FETCH, CUT_STORE, CUT };
 
@@ -497,6 +499,15 @@ static outcome finish(struct plain_guard *g, uint64_t number, size_t length)
     return done(number, length);
 }
 
+/* A call that a full disk ends, where nothing of it is finished. */
+static outcome end_full(struct plain_guard *g)
+{
+    g->pending.call = IDLE;
+    return refused(28);
+}
+
+static bool is_full(const uint8_t *reply, size_t n) { return n == 4 && (int32_t)get4(reply) == NO_SPACE; }
+
 static unsigned status_fault(const uint8_t *reply, size_t n, int32_t expected)
 {
     if (n != 4)
@@ -522,6 +533,8 @@ static outcome created(struct plain_guard *g, const uint8_t *reply, size_t n)
 {
     const struct pending *p = &g->pending;
     struct node *new = g->node + g->nodes;
+    if (is_full(reply, n))
+        return end_full(g);
     if (n != 4)
         return stop(g, 1);
     uint32_t id = get4(reply);
@@ -681,19 +694,28 @@ static outcome fetched_write(struct plain_guard *g, const uint8_t *reply, size_t
     return fault ? stop(g, fault) : store_written(g, reply, request);
 }
 
-static outcome stored_write(struct plain_guard *g, const uint8_t *reply, size_t n, uint8_t *request)
+/* A write is done up to `end`: all of it, or the pages that are finished. */
+static outcome end_write(struct plain_guard *g, uint32_t end, uint32_t digests)
 {
     const struct pending *p = &g->pending;
     struct node *k = g->node + p->node;
+    resize(g, p->node, larger(k->size, end));
+    memcpy(g->digest[k->first + p->position / PAGE], g->staged, (size_t)DIGEST * digests);
+    g->open[p->opened].cursor = end;
+    return finish(g, end - p->position, 0);
+}
+
+static outcome stored_write(struct plain_guard *g, const uint8_t *reply, size_t n, uint8_t *request)
+{
+    const struct pending *p = &g->pending;
+    if (is_full(reply, n)) /* the last digest staged is that of the page that found no room */
+        return p->digests == 1 ? end_full(g) : end_write(g, p->page * PAGE, p->digests - 1u);
     unsigned fault = status_fault(reply, n, PAGE);
     if (fault)
         return stop(g, fault);
     if ((p->page + 1) * PAGE < p->end)
         return write_page(g, p->page + 1, request);
-    resize(g, p->node, larger(k->size, p->end));
-    memcpy(g->digest[k->first + p->position / PAGE], g->staged, (size_t)DIGEST * p->digests);
-    g->open[p->opened].cursor = p->end;
-    return finish(g, p->end - p->position, 0);
+    return end_write(g, p->end, p->digests);
 }
 
 static const uint8_t zeros[PAGE];
@@ -722,7 +744,9 @@ static outcome cut(struct plain_guard *g, const uint8_t *reply, size_t n)
 {
     const struct pending *p = &g->pending;
     struct open_file *o = g->open + p->opened;
-    uint32_t first = g->node[p->node].first, before = pages_for(g->node[p->node].size);
+    uint32_t size = g->node[p->node].size, first = g->node[p->node].first, before = pages_for(size);
+    if (p->end > size && is_full(reply, n))
+        return end_full(g);
     unsigned fault = status_fault(reply, n, 0);
     if (fault)
         return stop(g, fault);

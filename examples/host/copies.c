@@ -43,16 +43,21 @@ void copies_end(copies *c)
 
 int copies_start(copies *c, const uint8_t *digest)
 {
-    path_text now, copy;
+    path_text now, copy, fresh;
     copies_end(c);
     put_digits(c->last, digest);
     within(c, "now", now);
     within(c, c->last, copy);
     if (digest && access(copy, F_OK)) /* before anything is cleared */
         return -1;
-    if (snapshot_clear(now) || (digest ? snapshot_copy(copy, now) : mkdir(now, 0700)))
+    /* a sync that found the disk full has left a part of a copy, and what is copied now needs that room */
+    if (snapshot_clear(now) || snapshot_clear(within(c, "new", fresh)))
+        return -1;
+    if (digest ? snapshot_copy(copy, now) : mkdir(now, 0700))
         return -1;
     c->host = host_open(c->tree, c->table);
+    if (c->host)
+        host_limit(c->host, c->budget);
     return c->host ? 0 : -1;
 }
 

@@ -15,6 +15,7 @@ enum { COPIES_PATH = 4096, COPIES_DIGITS = 2 * GUARD_DIGEST_LENGTH };
 typedef struct {
     const char *place;                /* the directory, which is there */
     host *host;                       /* null before the first start */
+    uint64_t budget;                  /* of the host (host_limit), from the next start on; 0: none */
     char last[COPIES_DIGITS + 1];     /* the save that was last synced or started from; no digits where there is none */
     char tree[COPIES_PATH], table[COPIES_PATH];
 } copies;

@@ -1,5 +1,9 @@
-/* A client, the guard and a host over a directory of this machine; then someone tampers with the disk, and the guard stops. Ends with status 1 where anything comes
- * back that is not what is told here. */
+/* A client, the guard and a host over a directory of this machine; the disk fills up, and the client goes on; then
+ * someone tampers with the disk, and the guard stops. Ends with status 1 where anything comes back that is not what is
+ * told here.
+ *
+ *     demo [--budget BYTES]       how many bytes the disk has that fills up; with another than BUDGET, what comes is
+ *                                 shown, and nothing but a stop is wrong */
 #define _XOPEN_SOURCE 700 /* mkdtemp */
 #include <signal.h>
 #include <stdio.h>
@@ -18,6 +22,11 @@
 #define NOTE "host/tree/cellar/note"
 #define OLD_IMAGE "host/image.0" /* of the first save; the second writes the other */
 #define DIGEST "client/digest"
+
+/* Nodes and files take 7,085 bytes of it before the file is written that fills the disk: two pages have room. */
+enum { BUDGET = 9300, LINE = 25 };
+
+static uint64_t budget = BUDGET;
 
 typedef struct {
     client client;
@@ -152,12 +161,18 @@ static void load(stage *s, const char *file, int kind, uint64_t number)
 
 /* ---- the client's work */
 
+/* Lines of LINE bytes each, and a 0 behind them. */
+static void put_days(char *text, int days)
+{
+    for (int day = 0; day < days; day++)
+        sprintf(text + LINE * day, "day %03d  cask %02d  11.%d C\n", day + 1, day % 12 + 1, day * 7 % 10);
+}
+
 static void make_files(stage *s)
 {
     static const char edge[] = "<<over the edge>>";
-    char text[25 * 100 + 1];
-    for (int day = 0; day < 100; day++)
-        sprintf(text + 25 * day, "day %03d  cask %02d  11.%d C\n", day + 1, day % 12 + 1, day * 7 % 10);
+    char text[LINE * 100 + 1];
+    put_days(text, 100);
     client *c = &s->client;
     row(s, client_mkdir(c, "/cellar", 7), GUARD_DONE, 2, "mkdir /cellar, mode 7");
     row(s, client_create(c, "/cellar/log", 6), GUARD_DONE, 3, "create /cellar/log, mode 6");
@@ -206,6 +221,61 @@ static void second_life(stage *s)
     row(s, client_write(c, 4, "No: it is gone.\n", 16), GUARD_DONE, 16, "write on at the end");
     row(s, client_close(c, 4), GUARD_DONE, 0, "close");
     save(s);
+}
+
+/* ---- a disk that fills up */
+
+/* With another budget, anything but a stop is as told. */
+static void full_row(stage *s, guard_outcome o, int kind, uint64_t number, const char *words)
+{
+    int is_told = budget == BUDGET || o.kind == GUARD_STOPPED;
+    row(s, o, is_told ? kind : o.kind, is_told ? number : o.number, words);
+}
+
+/* A file of 3,000 bytes, and one that is to be longer than there is room for. */
+static void make_two(stage *s, const char *text)
+{
+    client *c = &s->client;
+    full_row(s, client_create(c, "/cellar/old", 6), GUARD_DONE, 5, "create /cellar/old, mode 6");
+    full_row(s, client_open(c, "/cellar/old", 2), GUARD_DONE, 5, "open /cellar/old, write");
+    full_row(s, client_write(c, 5, text, 3000), GUARD_DONE, 3000, "write 3,000 bytes");
+    full_row(s, client_close(c, 5), GUARD_DONE, 0, "close");
+    full_row(s, client_create(c, "/cellar/new", 6), GUARD_DONE, 6, "create /cellar/new, mode 6");
+    full_row(s, client_open(c, "/cellar/new", 3), GUARD_DONE, 6, "open /cellar/new, read and write");
+}
+
+/* What a client does with a write that was done in part: it writes the rest, once there is room. */
+static void fill_disk(stage *s, const char *text)
+{
+    client *c = &s->client;
+    guard_outcome o = client_write(c, 6, text, GUARD_TRANSFER_LENGTH);
+    size_t done = o.kind == GUARD_DONE ? (size_t)o.number : 0, rest = GUARD_TRANSFER_LENGTH - done;
+    full_row(s, o, GUARD_DONE, 2048, "write 4,096 bytes: two pages fit");
+    disk_show("wc -c host/tree/cellar/*");
+    full_row(s, client_write(c, 6, text + done, rest), GUARD_REFUSED, GUARD_FULL, "write the rest");
+    full_row(s, client_truncate(c, 6, 65536), GUARD_REFUSED, GUARD_FULL, "truncate to 65,536");
+    full_row(s, client_create(c, "/cellar/more", 6), GUARD_REFUSED, GUARD_FULL, "create /cellar/more, mode 6");
+    full_row(s, client_remove(c, "/cellar/old"), GUARD_DONE, 0, "remove /cellar/old: room is made");
+    full_row(s, client_write(c, 6, text + done, rest), GUARD_DONE, 2048, "write the rest");
+}
+
+static void disk_fills_up(stage *s)
+{
+    char text[LINE * 164 + 1];
+    client *c = &s->client;
+    put_days(text, 164);
+    start(s);
+    host_limit(s->host, budget);
+    make_two(s, text);
+    fill_disk(s, text);
+    full_row(s, client_seek(c, 6, 0), GUARD_DONE, 0, "seek to 0");
+    guard_outcome o = client_read(c, 6, GUARD_TRANSFER_LENGTH);
+    full_row(s, o, GUARD_DONE, GUARD_TRANSFER_LENGTH, "read 4,096 bytes: as written");
+    s->wrong |= memcmp(c->layer.answer, text, o.length) != 0;
+    full_row(s, client_close(c, 6), GUARD_DONE, 0, "close");
+    full_row(s, client_remove(c, "/cellar/new"), GUARD_DONE, 0, "remove /cellar/new");
+    if (budget != BUDGET) /* the others find the tree of the save */
+        client_remove(c, "/cellar/old"), client_remove(c, "/cellar/more");
 }
 
 /* ---- tampering */
@@ -304,6 +374,8 @@ static const struct { const char *title; void (*act)(stage *); } lives[] = {
     {"The client makes files; the guard keeps names, sizes, modes and digests, and asks the host to keep the pages.",
         first_life},
     {"The client is switched off and on: a new process, a fresh guard, and the image with the digest that the client kept.", second_life},
+    {"The host's disk is full: a call ends, with what there was room for or with nothing, and the guard goes on.",
+        disk_fills_up},
     {"Someone changes byte 1,500 of the log on the disk.", byte_changed},
     {"Someone puts an old page back, after the client has written a newer one.", old_page},
     {"Someone takes the note out of the directory.", file_hidden},
@@ -338,11 +410,23 @@ static int live(int number)
     return child < 0 || waitpid(child, &status, 0) < 0 || status != 0;
 }
 
-int main(void)
+/* The budget that the command line names, if it does; 0 where it is none. */
+static uint64_t named_budget(int count, char **words)
+{
+    char *end = "";
+    uint64_t named = count == 3 && !strcmp(words[1], "--budget") ? strtoull(words[2], &end, 10) : 0;
+    return count == 1 ? BUDGET : *end ? 0 : named;
+}
+
+int main(int count, char **words)
 {
     const char *base = getenv("TMPDIR");
     char place[4096];
     int wrong = 0;
+    if ((budget = named_budget(count, words)) == 0) {
+        fputs("demo [--budget BYTES]\n", stderr);
+        return 2;
+    }
     signal(SIGPIPE, SIG_IGN); /* the directory goes away even if only the beginning is read */
     snprintf(place, sizeof place, "%s/guard-demo.XXXXXX", base ? base : "/tmp");
     if (!mkdtemp(place) || chdir(place) || mkdir("host", 0700) || mkdir("client", 0700)) {
@@ -357,6 +441,7 @@ int main(void)
     if (chdir("/"))
         perror("/");
     disk_clear(place);
-    puts(wrong ? "\nNot everything came back as told." : "\nEach of the eight was caught; what nobody touched is served.");
+    puts(wrong ? "\nNot everything came back as told."
+               : "\nA full disk cost a call, each of the eight was caught; what nobody touched is served.");
     return wrong;
 }

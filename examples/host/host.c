@@ -20,6 +20,7 @@ struct host {
     int tree;                     /* the directory */
     int files[GUARD_DESCRIPTORS]; /* this machine's file descriptor behind each of ours, or -1 */
     map maps[GUARD_MAPS];
+    uint64_t budget; /* how many bytes nodes and files may take; 0: as many as the disk has */
     table table;
 };
 
@@ -36,6 +37,20 @@ static size_t failed(uint8_t *reply) { return status_reply(reply, errno > 0 ? -e
 
 /* The same for create and mkdir, where every number but 0 might be an id. */
 static size_t no_id(uint8_t *reply) { return guard_id_reply(reply, HOST_REPLY_LENGTH, 0); }
+
+/* Whether there is no room: the disk's end, or that of what this user may have. */
+static int is_full(void) { return errno == ENOSPC || errno == EDQUOT; }
+
+/* The end of a request that a full disk may end: it is told where nothing is left done. Where that could not be undone,
+ * no reply is right. */
+static size_t ended(uint8_t *reply, int is_undone)
+{
+    if (is_full() && is_undone)
+        return guard_full_reply(reply, HOST_REPLY_LENGTH);
+    if (is_full())
+        errno = EIO;
+    return failed(reply);
+}
 
 /* ---- nodes by path */
 
@@ -79,43 +94,88 @@ static table_row *row_of(host *h, const char *path)
     return row ? row : table_add(&h->table, path, 0);
 }
 
+/* ---- room */
+
+/* What the nodes take: HOST_NODE_ROOM each, and the bytes of files. */
+static uint64_t taken(const host *h)
+{
+    struct stat s;
+    uint64_t sum = 0;
+    for (size_t i = 0; i < h->table.count; i++)
+        if (!look(h, h->table.rows[i].path, &s))
+            sum += HOST_NODE_ROOM + (S_ISREG(s.st_mode) ? (uint64_t)s.st_size : 0);
+    return sum;
+}
+
+/* Whether so many bytes more are within the budget: 0, or -1 and errno, as a full disk has it. */
+static int has_room(const host *h, uint64_t more)
+{
+    if (h->budget == 0 || more == 0 || taken(h) + more <= h->budget)
+        return 0;
+    errno = ENOSPC;
+    return -1;
+}
+
+/* ---- nodes that come and go */
+
 static uint8_t kind_of(const struct stat *s)
 {
     return S_ISREG(s->st_mode) ? GUARD_FILE : S_ISDIR(s->st_mode) ? GUARD_DIRECTORY : 0;
 }
 
+static int unlink_node(host *h, const char *path, int flag)
+{
+    const char *name;
+    int at = reach(h, path, &name), status = at < 0 ? -1 : unlinkat(at, name, flag);
+    whole_leave(at);
+    return status;
+}
+
+/* A new node could not be told: a full disk is told where the node can be taken back, and anything else by no id. A row
+ * that has come to the disk without its node may stay there: the next start forgets it. */
+static size_t take_back(host *h, const request *r, int flag, uint8_t *reply)
+{
+    int full = is_full();
+    table_remove(&h->table, r->path);
+    return full && !unlink_node(h, r->path, flag) ? guard_full_reply(reply, HOST_REPLY_LENGTH) : no_id(reply);
+}
+
 /* The disk has a new node: its id. */
-static size_t added(host *h, const request *r, uint8_t *reply)
+static size_t added(host *h, const request *r, int flag, uint8_t *reply)
 {
     table_remove(&h->table, r->path);
     const table_row *row = table_add(&h->table, r->path, r->mode);
-    return row && !table_write(&h->table) ? guard_id_reply(reply, HOST_REPLY_LENGTH, row->id) : no_id(reply);
+    if (!row || table_write(&h->table))
+        return take_back(h, r, flag, reply);
+    return guard_id_reply(reply, HOST_REPLY_LENGTH, row->id);
 }
+
+/* Nothing was made. */
+static size_t not_made(uint8_t *reply) { return is_full() ? guard_full_reply(reply, HOST_REPLY_LENGTH) : no_id(reply); }
 
 static size_t create(host *h, const request *r, uint8_t *reply)
 {
-    int file = open_node(h, r->path, O_RDWR | O_CREAT | O_EXCL);
+    int file = has_room(h, HOST_NODE_ROOM) ? -1 : open_node(h, r->path, O_RDWR | O_CREAT | O_EXCL);
     whole_leave(file);
-    return file < 0 ? no_id(reply) : added(h, r, reply);
+    return file < 0 ? not_made(reply) : added(h, r, 0, reply);
 }
 
 static size_t make_directory(host *h, const request *r, uint8_t *reply)
 {
     const char *name;
-    int at = reach(h, r->path, &name), status = at < 0 ? -1 : mkdirat(at, name, 0700);
+    int at = has_room(h, HOST_NODE_ROOM) ? -1 : reach(h, r->path, &name);
+    int status = at < 0 ? -1 : mkdirat(at, name, 0700);
     whole_leave(at);
-    return status ? no_id(reply) : added(h, r, reply);
+    return status ? not_made(reply) : added(h, r, AT_REMOVEDIR, reply);
 }
 
+/* On a full disk the table stays as it is there: to remove is to make room, and a row without its node does no harm. */
 static size_t removed(host *h, const request *r, int flag, uint8_t *reply)
 {
-    const char *name;
-    int at = reach(h, r->path, &name), status = at < 0 ? -1 : unlinkat(at, name, flag);
-    whole_leave(at);
-    if (status)
+    if (unlink_node(h, r->path, flag))
         return failed(reply);
     table_remove(&h->table, r->path);
-    return table_write(&h->table) ? failed(reply) : status_reply(reply, 0);
+    return table_write(&h->table) && !is_full() ? failed(reply) : status_reply(reply, 0);
 }
 
 static size_t change_mode(host *h, const request *r, uint8_t *reply)
@@ -221,19 +281,77 @@ static size_t fetch(host *h, const request *r, uint8_t *reply)
     return n < 0 ? failed(reply) : GUARD_PAGE_LENGTH;
 }
 
+/* What a request may change of a file, as it was: its size, and of one page the bytes that it had. */
+typedef struct { off_t size, at; size_t length; uint8_t page[GUARD_PAGE_LENGTH]; } before;
+
+static int remember_size(int file, before *b)
+{
+    struct stat s;
+    int status = fstat(file, &s);
+    b->size = status ? 0 : s.st_size;
+    b->at = 0;
+    b->length = 0;
+    return status;
+}
+
+static int remember_page(int file, uint32_t page, before *b)
+{
+    off_t at = (off_t)page * GUARD_PAGE_LENGTH;
+    ssize_t n = remember_size(file, b) ? -1 : whole_read(file, b->page, sizeof b->page, at);
+    b->at = at;
+    b->length = n < 0 ? 0 : (size_t)n;
+    return n < 0 ? -1 : 0;
+}
+
+/* Whether all is as before; errno stays. What is written over stands where the disk has room for it already. */
+static int put_back(int file, const before *b)
+{
+    int kept = errno, status = whole_write(file, b->page, b->length, b->at) || whole_cut(file, b->size);
+    errno = kept;
+    return !status;
+}
+
+static uint64_t growth(off_t from, off_t to) { return to > from ? (uint64_t)(to - from) : 0; }
+
 /* A page is written as far as the file then reaches, so that the disk has no zeros behind its end. */
+static int put_page(int file, const request *r, const before *b)
+{
+    off_t end = b->at + GUARD_PAGE_LENGTH < r->size ? b->at + GUARD_PAGE_LENGTH : r->size;
+    if (end > b->at && whole_write(file, r->bytes, (size_t)(end - b->at), b->at))
+        return -1;
+    return whole_cut(file, r->size);
+}
+
+/* One of a truncation looks the same, but it writes over what the disk has and needs no room. */
 static size_t store(host *h, const request *r, uint8_t *reply)
 {
-    off_t at = (off_t)r->page * GUARD_PAGE_LENGTH;
-    off_t end = at + GUARD_PAGE_LENGTH < r->size ? at + GUARD_PAGE_LENGTH : r->size;
-    if (end > at && whole_write(file_of(h, r), r->bytes, (size_t)(end - at), at))
+    int file = file_of(h, r);
+    before b;
+    if (remember_page(file, r->page, &b))
         return failed(reply);
-    return whole_cut(file_of(h, r), r->size) ? failed(reply) : status_reply(reply, GUARD_PAGE_LENGTH);
+    if (has_room(h, growth(b.size, r->size)))
+        return ended(reply, 1);
+    return put_page(file, r, &b) ? ended(reply, put_back(file, &b)) : status_reply(reply, GUARD_PAGE_LENGTH);
+}
+
+/* What a cut adds is taken from the disk at once: a page that is only promised might lack its room when a truncation
+ * stores it, which no full disk may end. */
+static int change_size(int file, off_t from, off_t to)
+{
+    return whole_cut(file, to) || (to > from && whole_reserve(file, from, to - from)) ? -1 : 0;
 }
 
 static size_t cut(host *h, const request *r, uint8_t *reply)
 {
-    return whole_cut(file_of(h, r), r->size) ? failed(reply) : status_reply(reply, 0);
+    int file = file_of(h, r);
+    before b;
+    if (remember_size(file, &b))
+        return failed(reply);
+    if (has_room(h, growth(b.size, r->size)))
+        return ended(reply, 1);
+    if (!change_size(file, b.size, r->size))
+        return status_reply(reply, 0);
+    return ended(reply, b.size < r->size && put_back(file, &b));
 }
 
 /* ---- maps: memory of this process, which the machine hands out in zeros */
@@ -368,6 +486,7 @@ host *host_open(const char *tree, const char *table_file)
     for (int d = 0; d < GUARD_DESCRIPTORS; d++)
         h->files[d] = -1;
     memset(h->maps, 0, sizeof h->maps);
+    h->budget = 0;
     h->tree = mkdir(tree, 0700) && errno != EEXIST ? -1 : whole_open(AT_FDCWD, tree, O_RDONLY | O_DIRECTORY);
     if (h->tree < 0 || take_table(h, table_file)) {
         whole_leave(h->tree);
@@ -376,6 +495,8 @@ host *host_open(const char *tree, const char *table_file)
     }
     return h;
 }
+
+void host_limit(host *h, uint64_t budget) { h->budget = budget; }
 
 void host_close(host *h)
 {

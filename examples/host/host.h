@@ -4,8 +4,12 @@
  * The disk holds names, kinds, sizes and bytes, as ordinary files that anyone may read. Ids and modes stand in a
  * table of the host's own (table.h), in a file beside the directory: files are opened for reading and writing
  * whatever their mode, since the guard is the one who judges rights. Maps are memory of the host's process and end
- * with it. A host that was killed and is started again replies what the disk says. What an honest host never meets, a
- * full disk or a file that is gone, is replied as what it is: the guard stops. */
+ * with it. A host that was killed and is started again replies what the disk says.
+ *
+ * A full disk (ENOSPC, EDQUOT) is told as GUARD_FULL_STATUS where the guard takes it, after the host has undone its
+ * part: a new node is removed, a file has its size and its page's bytes again. What cannot be undone, a disk that is
+ * full elsewhere, and what an honest host never meets, a file that is gone, are replied as failures: the guard
+ * stops. */
 #ifndef HOST_H
 #define HOST_H
 
@@ -14,7 +18,7 @@
 
 #include "guard_client.h"
 
-enum { HOST_REPLY_LENGTH = GUARD_REPLY_LENGTH };
+enum { HOST_REPLY_LENGTH = GUARD_REPLY_LENGTH, HOST_NODE_ROOM = 256 };
 
 typedef struct host host;
 
@@ -22,6 +26,10 @@ typedef struct host host;
  * stay where it is. Null and errno where it cannot be; EBADMSG: the table is damaged, or the tree has nodes and no
  * table. */
 host *host_open(const char *tree, const char *table_file);
+
+/* A disk of so many bytes, whatever the machine's has: each node takes HOST_NODE_ROOM, each file its size besides. What
+ * would go beyond is answered as by a full disk. 0: no bound of its own, as after host_open. */
+void host_limit(host *h, uint64_t budget);
 
 void host_close(host *h);
 

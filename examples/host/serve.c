@@ -1,6 +1,8 @@
-/* The host as a program of its own, which speaks the wire form of docs/INTEGRATION.md, 9: serve DIRECTORY */
+/* The host as a program of its own, which speaks the wire form of docs/INTEGRATION.md, 9: serve [--budget BYTES]
+ * DIRECTORY. With a budget its disk is full when nodes and files take so many bytes (host_limit). */
 #include <stdio.h>
 #include <stdlib.h>
+#include <string.h>
 
 #include "copies.h"
 
@@ -47,14 +49,23 @@ static size_t obey(size_t length)
     return 0;
 }
 
+/* The budget of a command line, 0 where it names none; exits where that is not to be understood. */
+static uint64_t budget_of(int count, char **words)
+{
+    char *end = "";
+    uint64_t budget = count == 4 && !strcmp(words[1], "--budget") ? strtoull(words[2], &end, 10) : 0;
+    if ((count == 4 && budget > 0 && !*end) || count == 2)
+        return budget;
+    fputs("serve [--budget BYTES] DIRECTORY\n", stderr);
+    exit(2);
+}
+
 int main(int count, char **words)
 {
     uint8_t head[4];
-    if (count != 2) {
-        fputs("serve DIRECTORY\n", stderr);
-        return 2;
-    }
-    copies_begin(&kept, words[1]);
+    uint64_t budget = budget_of(count, words);
+    copies_begin(&kept, words[count - 1]);
+    kept.budget = budget;
     while (get(head, sizeof head)) {
         size_t length = guard_get_number(head);
         need(length > 0 && length <= sizeof frame && get(frame, length), "a frame of another length");

@@ -106,7 +106,7 @@ table_row *table_add(table *t, const char *path, uint8_t mode)
         errno = t->count == TABLE_ROWS ? ENOSPC : ENAMETOOLONG;
         return NULL;
     }
-    while (t->next == 0 || has_id(t, t->next))
+    while (!guard_is_new_id(t->next) || has_id(t, t->next))
         t->next++;
     table_row *row = &t->rows[t->count++];
     row->id = t->next++;

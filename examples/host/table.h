@@ -27,7 +27,7 @@ int table_write(const table *t);
 table_row *table_find(table *t, const char *path);
 
 /* A row with an id that no node had before, or null and errno where there is no room. An id that comes back might be
- * one that an older image still has. */
+ * one that an older image still has, and GUARD_FULL_ID would say that nothing was made. */
 table_row *table_add(table *t, const char *path, uint8_t mode);
 
 /* Takes a row out, if it is there. */

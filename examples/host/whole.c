@@ -1,4 +1,4 @@
-#define _XOPEN_SOURCE 700 /* openat, nanosleep */
+#define _GNU_SOURCE /* openat, nanosleep, fallocate */
 #include "whole.h"
 
 #include <errno.h>
@@ -75,6 +75,15 @@ int whole_cut(int file, off_t size)
     return status;
 }
 
+int whole_reserve(int file, off_t at, off_t length)
+{
+    int status, tries = 0;
+    do
+        status = fallocate(file, 0, at, length);
+    while (status && whole_again(&tries));
+    return status && errno != EOPNOTSUPP && errno != ENOSYS ? -1 : 0;
+}
+
 int whole_sync(int file)
 {
     int status, tries = 0;
@@ -125,7 +134,11 @@ int whole_replace(const char *path, const void *bytes, size_t length)
         errno = ENAMETOOLONG;
         return -1;
     }
-    if (whole_put(fresh, bytes, length) || rename(fresh, path))
+    if (whole_put(fresh, bytes, length) || rename(fresh, path)) {
+        int kept = errno;
+        unlink(fresh);
+        errno = kept;
         return -1;
+    }
     return whole_sync_names(directory_of(path, directory));
 }

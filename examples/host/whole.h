@@ -23,6 +23,10 @@ int whole_write(int file, const void *bytes, size_t length, off_t at);
 
 int whole_cut(int file, off_t size);
 
+/* Takes room on the disk for bytes that a file has by its size alone, so that a write of them does not lack it. Where
+ * the file system knows no such thing, nothing is done. */
+int whole_reserve(int file, off_t at, off_t length);
+
 /* Waits until a file, or the names in a directory, are on the disk. */
 int whole_sync(int file);
 int whole_sync_names(const char *directory);
@@ -34,7 +38,7 @@ ssize_t whole_get(const char *path, void *bytes, size_t length);
 int whole_put(const char *path, const void *bytes, size_t length);
 
 /* Puts a file in the place of the old one in one step: whenever power is lost, one of the two is there, whole, and
- * after it the new one. */
+ * after it the new one. Where it fails, what was written of the new one takes no room. */
 int whole_replace(const char *path, const void *bytes, size_t length);
 
 #endif

@@ -6,7 +6,7 @@
     files.write(handle, b"bytes")
     image, digest = files.guard.save()          # the digest stays where the host cannot write
 
-A refusal is an OSError with the guard's number, a wrong reply of the host a Stopped.
+A refusal is an OSError with its number, a wrong reply a Stopped; a full disk is 28, or a write of fewer bytes.
 """
 
 import ctypes

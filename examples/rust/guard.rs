@@ -35,7 +35,7 @@ extern "C" {
 /// Why nothing was done.
 #[derive(Debug, Clone, PartialEq)]
 pub enum Failure {
-    /// The guard's number; nothing has changed.
+    /// The guard's number; nothing has changed. 28 may be the host's disk: the call is over.
     Refused(u64),
     /// The host's reply is wrong: the reason, and the request. From now on everything is refused 5.
     Stopped(u64, Vec<u8>),
@@ -132,6 +132,7 @@ impl<A: FnMut(&[u8]) -> Vec<u8>> Files<A> {
     pub fn close(&mut self, handle: u32) -> Or<()> { self.by_handle(4, handle, &[]).map(|_| ()) }
     pub fn seek(&mut self, handle: u32, at: u64) -> Or<u64> { Ok(self.by_handle(5, handle, &at.to_le_bytes())?.0) }
     pub fn read(&mut self, handle: u32, n: u32) -> Or<Vec<u8>> { Ok(self.by_handle(6, handle, &n.to_le_bytes())?.1) }
+    /// How many bytes: on a full disk fewer than were given.
     pub fn write(&mut self, handle: u32, bytes: &[u8]) -> Or<u64> { Ok(self.by_handle(7, handle, bytes)?.0) }
     pub fn truncate(&mut self, handle: u32, size: u64) -> Or<()> {
         self.by_handle(8, handle, &size.to_le_bytes()).map(|_| ())

@@ -187,6 +187,29 @@ def silent():
     return f"{'pending' if kind == ASK else 'gone'}; every other call is refused {number}"
 
 
+def again_after_full():
+    """A full disk has ended the call: another reply is to nothing, and the name is free."""
+    guard = Guard()
+    guard.call(calls.create(7, b"/a"))
+    _, full, _ = guard.reply(status(-28))
+    _, number, _ = guard.reply(put(2, 4))
+    kind = guard.call(calls.create(7, b"/a"))[0]
+    return f"refused {full}, then refused {number}; the same call {'asks' if kind == ASK else 'does not ask'} again"
+
+
+def always_full():
+    """Nothing is written, and nothing is lost."""
+    run = at_rest()
+    saved = run.guard.save()
+    run.host.deviation, run.host.is_repeated = lambda host, name, fields: (
+        status(-28) if name in ("create", "mkdir", "store") else None), True
+    outcomes = run.calls([calls.create(7, b"/n"), calls.mkdir(7, b"/m"), *READ_A[:1], calls.write(A, b"new"),
+                          calls.close(A)]).outcomes
+    refused = [number for _, kind, number, _ in outcomes if kind == REFUSED]
+    same = "the save is the same" if run.guard.save() == saved else "another save"
+    return f"refused {refused[0]}, {len(refused)} times; {same}, {told(run, READ_A)}"
+
+
 KEEP = "The client keeps the digest of its last save where the host can neither write nor put an older one back"
 
 ROWS = [  # source, what the host does, the run, what must come, what a builder does where nothing is caught
@@ -224,6 +247,11 @@ ROWS = [  # source, what the host does, the run, what must come, what a builder 
     ("003 (COIN: order)", "replies before anything is asked", unasked, "refused 61", ""),
     ("003 (COIN: nested calls)", "has another call made before it replies", nested,
      "refused 114; the first call is done", ""),
+    ("own: a full disk", "says that its disk is full, and replies to the same request again", again_after_full,
+     "refused 28, then refused 61; the same call asks again", ""),
+    ("001, 6; 002, III; 004, 5.2 (denial of service)", "says each time that its disk is full", always_full,
+     "refused 28, 3 times; the save is the same, done 2500 at read /a, 2,500 bytes",
+     "Nothing wrong is served, and nothing is kept: a client that is refused 28 tells its user."),
     ("001, 6; 002, III; 004, 5.2 (denial of service)", "never replies", silent,
      "pending; every other call is refused 114",
      "Nothing wrong is served, nor anything: a client that waits sets itself a time, and starts from its last save."),

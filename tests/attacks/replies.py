@@ -6,6 +6,7 @@ from model.rules import ADDRESS, MAX_MAP, MAX_MAPS, PAGE, SPACE, UNIT, put, unsi
 from .host import FAILED, status
 from .trial import A, B, C, NEW, Row
 
+FULL = status(-28)  # where a call may end by it: the disk is full, and nothing was done for the request
 NUMBERS = {"ENOENT": -2, "EINTR": -4, "EIO": -5, "EEXIST": -17, "EINVAL": -22, "ENOSPC": -28, "ENOMEM": -12}
 
 
@@ -128,6 +129,24 @@ def grows(added):
     return on("cut", act)
 
 
+def full_at(page, keep=False):
+    """A store of this page finds the disk full; the page is put in nevertheless, or not."""
+    def act(host, fields):
+        if unsigned(fields[4:8]) != page:
+            return None
+        if keep:
+            host.store(fields)
+        return FULL
+    return on("store", act)
+
+
+def half_and_full(host, fields):
+    """A half of the page is left on the full disk."""
+    descriptor, page, size = (unsigned(fields[at : at + 4]) for at in (0, 4, 8))
+    half(host, host.open_files[descriptor], page, size, fields[12:])
+    return FULL
+
+
 def listed(make):
     return on("readdir", lambda host, fields: make(host.readdir(fields)))
 
@@ -181,6 +200,7 @@ def unmaps_other(host, fields):
 
 READ_A = [calls.seek(A, 0), calls.read(A, 2500)]
 WRITE_A = [calls.seek(A, 1024), calls.write(A, b"n" * 1024)]  # one whole page: no fetch
+WRITE_PAGES = [calls.seek(A, 0), calls.write(A, b"n" * 2500)]
 READ_B = [calls.seek(B, 0), calls.read(B, 2048)]
 STAT_D = [calls.stat(b"/d")]
 REOPEN = [calls.close(A), calls.open_(3, b"/a")]
@@ -190,6 +210,7 @@ MAPS, DIRTY = "000, 2.3 (mmap, glibc), TP14", "000, 2.3 (mmap, glibc), TP15"
 MAP, MAP_TWICE = [calls.map_(2 * UNIT)], [calls.map_(2 * UNIT), calls.map_(2 * UNIT)]
 PATH, DESCRIPTOR = "000, 3.3 (A2a, SP1)", "000, 3.3 (A2b, SP2, SP3)"
 SIZE, ERRORS = "000, 3.3 (A3)", "000, 2.3 and 3.3 (A4)"
+FULL_DISK = f"{ERRORS}; 002, V.B (false failure): a full disk"
 
 ROWS = [
     # content
@@ -324,7 +345,7 @@ ROWS = [
           ("close", "EINTR", ("close", [calls.close(A)]), "now 2"),
           ("remove", "EIO", ("remove", [calls.remove(b"/d/c")]), "now 2"),
           ("chmod", "EINVAL", ("chmod", [calls.chmod(0, b"/a")]), "now 2"),
-          ("store", "ENOSPC", ("write", WRITE_A), "now 2"),
+          ("store", "EIO", ("write", WRITE_A), "now 2"),
           ("cut", "EIO", ("truncate", [calls.truncate(A, 0)]), "now 2"),
           ("fetch", "EINTR", ("read", READ_A), "now 1"),
           ("stat", "ENOENT", ("stat", [calls.stat(b"/a")]), "now 1"),
@@ -335,6 +356,47 @@ ROWS = [
     Row(ERRORS, "replies to a create with an error number: as good an id as any other, and the host is bound to it",
         [calls.create(7, b"/n"), calls.stat(b"/n")], says("create", status(NUMBERS["EEXIST"])), "later 6",
             is_free=True),
+    # a full disk
+    Row("own: a full disk", "has no room for a new file, says so, and makes none", [calls.create(7, b"/n")],
+        only_says("create", FULL), "refused 28"),
+    Row("own: a full disk", "has no room for a write's first page, says so, and stores nothing", WRITE_A,
+        only_says("store", FULL), "refused 28"),
+    Row("own: a full disk", "has no room for what a truncation adds, says so, and adds nothing",
+        [calls.truncate(A, 4000)], only_says("cut", FULL), "refused 28"),
+    Row("own: a full disk", "has no room for a write's third page, says so, and has stored two", WRITE_PAGES,
+        full_at(2), "done 2048"),
+    Row(FULL_DISK, "makes a file, and says that there is no room for it: with these bytes for its id, too",
+        [calls.create(7, b"/n"), calls.readdir(b"/")], says("create", FULL), "later 7"),
+    Row(FULL_DISK, "makes a directory, and says that there is no room for it",
+        [calls.mkdir(7, b"/n"), calls.readdir(b"/")], says("mkdir", FULL), "later 7"),
+    Row(FULL_DISK, "stores a page, and says that there is no room for it", [*WRITE_A, *READ_A], says("store", FULL),
+        "later 5"),
+    Row(FULL_DISK, "stores half a page, and says that there is no room for it", [*WRITE_A, *READ_A],
+        on("store", half_and_full), "later 5"),
+    Row(FULL_DISK, "stores a write's third page, and says that there was room for two", [*WRITE_PAGES, *READ_A],
+        full_at(2, keep=True), "later 5"),
+    Row(FULL_DISK, "makes a file longer, and says that there is no room; the client asks for the size",
+        [calls.truncate(A, 4000), calls.stat(b"/a")], says("cut", FULL), "later 6"),
+    *(Row(FULL_DISK, f"says so in eight bytes: {call[0]}", call[1], only_says(name, FULL + b"\xff" * 4), "now 1")
+      for name, call in (
+          ("create", ("create", [calls.create(7, b"/n")])), ("mkdir", ("mkdir", [calls.mkdir(7, b"/n")])),
+          ("store", ("write", WRITE_A)), ("cut", ("truncate", [calls.truncate(A, 4000)])),
+      )),
+    *(Row(FULL_DISK, f"says so where no call ends by it: {call[0]}", call[1], only_says(name, FULL), expected)
+      for name, call, expected in (
+          ("store", ("the store of a truncation to less", [calls.truncate(A, 1000)]), "now 2"),
+          ("cut", ("the cut of a truncation to less", [calls.truncate(A, 1024)]), "now 2"),
+          ("close", ("close", [calls.close(A)]), "now 2"),
+          ("remove", ("remove", [calls.remove(b"/d/c")]), "now 2"),
+          ("chmod", ("chmod", [calls.chmod(0, b"/a")]), "now 2"),
+          ("unmap", ("unmap", [*MAP, calls.unmap(UNIT)]), "now 2"),
+          ("open", ("open", [calls.open_(3, b"/d/c")]), "now 4"),
+          ("fetch", ("a fetch of a read", READ_A), "now 1"),
+          ("fetch", ("a fetch of a write", [calls.seek(A, 10), calls.write(A, b"x")]), "now 1"),
+          ("stat", ("stat", [calls.stat(b"/a")]), "now 1"),
+          ("map", ("map", MAP), "now 1"),
+          ("readdir", ("readdir", [calls.readdir(b"/d")]), "now 7"),
+      )),
     # maps
     Row(MAPS, "lends memory at address 0", MAP, lends(lambda host, length: 0), "now 8"),
     Row(MAPS, "lends memory that begins within a page of the machine", MAP,

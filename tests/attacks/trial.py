@@ -28,7 +28,7 @@ class Row:
     does: str  # what the host does
     calls: list
     deviation: object
-    expected: str  # "now 5", "later 5", "harmless", "not caught", "refused 61"
+    expected: str  # "now 5", "later 5", "harmless", "not caught", "refused 61", "done 2048"
     is_repeated: bool = False
     is_free: bool = False  # the host has made a choice of its own: numbers may differ
     came: str = field(default="", init=False)
@@ -104,7 +104,10 @@ def judged(row, run, right):
         where = f"at once, at the {at}" if is_now else f"later, at the {at}, when the client comes to {words_of(call)}"
         return f"{'now' if is_now else 'later'} {number}", f"stop {number} {where}"
     if kind == REFUSED and row.expected.startswith("refused"):
-        return f"refused {number}", f"refused {number}: {text('number', number).split(':')[0]}; the host is not asked"
+        asked = "the host is not asked" if run.host.first is None else "nothing has changed, and the guard goes on"
+        return f"refused {number}", f"refused {number}: {text('number', number).split(':')[0]}; {asked}"
+    if kind == DONE and row.expected.startswith("done"):
+        return f"done {number}", f"done {number}: the bytes of the pages that were stored, and the guard goes on"
     same = row.is_free or run.outcomes == right.outcomes
     if same and all(kind == DONE for _, kind, _, _ in run.outcomes):
         return "harmless", "harmless: every answer is as with an honest host"

@@ -7,14 +7,19 @@ from conform.host import Host
 from guard import READ, WRITE, Files, Stopped, text, version
 
 
+FULL = (-28).to_bytes(4, "little", signed=True)
+
+
 class Lying:
-    """A host whose replies may be changed."""
+    """A host whose replies may be changed, and whose disk may be full."""
 
     def __init__(self):
-        self.host, self.lies = Host(tempfile.gettempdir()), False
+        self.host, self.lies, self.is_full = Host(tempfile.gettempdir()), False, False
         self.host.start(b"")
 
     def __call__(self, request):
+        if self.is_full and (request[0] in (2, 8) or (request[0] == 7 and request[5] > 0)):
+            return FULL
         reply = self.host.request(request)
         return reply[:-1] + bytes([reply[-1] ^ 1]) if self.lies and request[0] in (6, 14) else reply
 
@@ -89,11 +94,29 @@ def third_life(files):
     show("map", lambda: files.map(8192))
 
 
+def full_life(files, lying):
+    """The host is honest again, and says that its disk is full where a second page is stored, a file is made or grows."""
+    lying.lies, lying.is_full = False, True
+    lying.host.start(b"")
+    show("mkdir", lambda: files.mkdir("/e", 7))
+    lying.is_full = False
+    show("create", lambda: files.create("/e", 7))
+    show("open", lambda: files.open("/e", READ | WRITE))
+    lying.is_full = True
+    show("write", lambda: files.write(2, bytes(i % 251 for i in range(3000))))
+    show("write", lambda: files.write(2, b"on"))
+    show("truncate", lambda: files.truncate(2, 5000))
+    show("seek", lambda: files.seek(2, 0))
+    show("read", lambda: files.read(2, 4096), sums)
+    show("close", lambda: files.close(2))
+
+
 def main():
     lying = Lying()
     image, digest = first_life(Files(lying))
     second_life(Files(lying), lying, image, digest)
     third_life(Files(lying))
+    full_life(Files(lying), lying)
     if (version(), text("stop", 5).split(":")[0]) != (sys.argv[1], "page"):
         print("another version, or other words")
 

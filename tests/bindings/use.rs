@@ -67,6 +67,22 @@ fn second_life<A: FnMut(&[u8]) -> Vec<u8>>(f: &mut Files<A>, lies: &Cell<bool>, 
     show("stat", f.stat("/"), stat);
 }
 
+/// The host is honest again, and says that its disk is full where a second page is stored, a file is made or grows.
+fn full_life<A: FnMut(&[u8]) -> Vec<u8>>(f: &mut Files<A>, full: &Cell<bool>) {
+    full.set(true);
+    show("mkdir", f.mkdir("/e", 7), number);
+    full.set(false);
+    show("create", f.create("/e", 7), number);
+    show("open", f.open("/e", READ | WRITE), number);
+    full.set(true);
+    show("write", f.write(2, &(0..3000).map(|i| (i % 251) as u8).collect::<Vec<u8>>()), number);
+    show("write", f.write(2, b"on"), number);
+    show("truncate", f.truncate(2, 5000), nothing);
+    show("seek", f.seek(2, 0), number);
+    show("read", f.read(2, 4096), sums);
+    show("close", f.close(2), nothing);
+}
+
 fn main() {
     let words: Vec<String> = std::env::args().collect();
     let mut command = Command::new(&words[1]);
@@ -81,8 +97,13 @@ fn main() {
         reply
     };
     frame(&[3]);
-    let lies = Cell::new(false);
+    let (lies, full) = (Cell::new(false), Cell::new(false));
+    let mut restarted = false;
     let ask = |request: &[u8]| {
+        if full.get() && !restarted { restarted = true; frame(&[3]); }
+        if full.get() && (request[0] == 2 || request[0] == 8 || (request[0] == 7 && request[5] > 0)) {
+            return (-28i32).to_le_bytes().to_vec();
+        }
         let mut reply = frame(&[&[1], request].concat());
         if lies.get() && (request[0] == 6 || request[0] == 14) { *reply.last_mut().unwrap() ^= 1; }
         reply
@@ -93,6 +114,9 @@ fn main() {
     second_life(&mut files, &lies, &image, &digest);
     files.guard = Guard::fresh();
     show("map", files.map(8192), number); // the host lies on
+    files.guard = Guard::fresh();
+    lies.set(false);
+    full_life(&mut files, &full);
     drop(files);
     drop(frame);
     drop(to);

@@ -139,11 +139,20 @@ guard_outcome __wrap_guard_entry_call(uint8_t *memory, size_t n, const uint8_t *
 guard_outcome __wrap_guard_entry_reply(uint8_t *memory, size_t n, const uint8_t *reply, size_t l, uint8_t *answer,
     size_t a, uint8_t *request, size_t q)
 {
+    static uint8_t before[GUARD_MEMORY_LENGTH];
     if (refuses_longer(a, q))
         return short_buffer;
+    if (n == sizeof before)
+        memcpy(before, memory, n);
     guard_outcome o = __real_guard_entry_reply(memory, n, reply, l, answer, a, request, q);
     if (o.kind == GUARD_DONE && !o.length && change_is("a stop at a right reply"))
         o = (guard_outcome){GUARD_STOPPED, GUARD_STOP_STATUS, 0};
+    if (o.kind == GUARD_REFUSED && o.number == GUARD_FULL) {
+        if (change_is("a full disk that leaves the request"))
+            memcpy(memory, before, n);
+        if (change_is("a full disk that stops"))
+            o = (guard_outcome){GUARD_STOPPED, GUARD_STOP_STATUS, 0};
+    }
     to_memory(memory, n);
     to_input(reply, l);
     to_buffers(o, answer, a, request, q);

@@ -26,7 +26,7 @@ ENDS = "low", "high"
 EVENTS = Call, Reply, Save, Load
 NUMBERS = {
     Call: [5, 114, 34, 22, 36, 20, 13, 2, 17, 21, 16, 39, 24, 9, 27, 28, 12],
-    Reply: [5, 61, 34],
+    Reply: [5, 61, 34, 28],
     Save: [5, 114, 16, 34],
     Load: [5, 114, 16, 74, 84],
 }

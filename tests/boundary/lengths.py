@@ -2,7 +2,7 @@
 names.
 
 What is handed in is of one byte, mostly 0 or 0xff, behind the first few. A list keeps a guard (`k`) in some state, and
-goes back to it (`a`) wherever the guard did not refuse.
+goes back to it (`a`) wherever the guard did not refuse, or refused a reply for a full disk, which ends the call.
 """
 
 from functools import partial
@@ -10,7 +10,7 @@ from functools import partial
 from model import calls
 from model.dishonest import QUESTIONS, asked
 from model.events import Call, Load, Refused, Reply
-from model.rules import ADDRESS, ANSWER, CREATE, MAP, MAX_COUNT, MAX_MAP, PAGE, REPLY, UNIT, UNMAP, WRITE, put
+from model.rules import ADDRESS, ANSWER, CREATE, MAP, MAX_COUNT, MAX_MAP, NO_SPACE, PAGE, REPLY, UNIT, UNMAP, WRITE, put
 from model.transcripts import write_list
 from model.tree import digest
 
@@ -20,6 +20,7 @@ LARGE = [edge + near for edge in EDGES for near in (-1, 0, 1)]
 LARGEST = [(1 << 20) + near for near in (-1, 0, 1)]
 KINDS = [*range(UNMAP + 3), 255]
 FILLS = [b"\0", b"\xff"]
+ENDED = [Refused(28)]  # what ends a call, where it answers a reply
 
 
 def filled(head, fill, length):
@@ -85,11 +86,12 @@ def few_call_events():
 # replies
 
 def reply_events(truth):
-    """Replies of every length; each first byte of one that has the right length; that one."""
+    """Replies of every length; each first byte of one that has the right length; a full disk in many; that one."""
     near = {*range(65), *range(len(truth) - 20, len(truth) + 20), *LARGE, *LARGEST}
     for n in [*MANY, *LARGE, *LARGEST]:
         yield from (Reply(filled(b"", fill, n)) for fill in fills(n, near))
     yield from (Reply(bytes([first]) + truth[1:]) for first in range(256))
+    yield from (Reply(put(NO_SPACE, width)) for width in range(1, 13))
     yield Reply(truth)
 
 
@@ -142,7 +144,7 @@ def lines_of(name, state, events):
         outcome = s.guard.step(event)
         yield packed_line(event)
         yield f"= {outcome}"
-        if not isinstance(outcome, Refused):
+        if not isinstance(outcome, Refused) or outcome in ENDED:
             s = asked(state)
             yield "a"
 

@@ -7,7 +7,7 @@ from random import Random
 
 from model import calls
 from model.events import Call, Reply, Save
-from model.generate import generate, generate_growing, generate_mapping
+from model.generate import generate, generate_filling, generate_growing, generate_mapping
 from model.image import LONGEST
 from model.longer import longer
 from model.rules import ANSWER, REQUEST
@@ -15,7 +15,7 @@ from model.transcripts import event_line
 from model.tree import guard
 
 
-MAKERS = {0: generate_growing, 3: generate_mapping}
+MAKERS = {0: generate_growing, 1: generate_filling, 3: generate_mapping}
 
 
 def pair(seed):
@@ -29,8 +29,8 @@ def pair(seed):
 
 
 def generated(seed):
-    """A list from a seed, with its outcomes, one of five of growing files, one of maps; now and then buffers are
-    longer.
+    """A list from a seed, with its outcomes, one of five of growing files, one of maps, one of a full disk; now and
+    then buffers are longer.
     """
     recording = MAKERS.get(seed % 5, generate)(seed)
     if not recording.guard.stopped:

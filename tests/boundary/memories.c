@@ -243,6 +243,27 @@ static void unmap(uint64_t address)
     expect(record(CALL, bytes, n, NULL), GUARD_REFUSED);
 }
 
+/* A call whose first request finds the disk full: the host has done nothing, and nothing is pending. */
+static void full(const uint8_t *bytes, size_t n)
+{
+    static const uint8_t disk_full[] = {0xe4, 0xff, 0xff, 0xff};
+    expect(record(CALL, bytes, n, NULL), GUARD_ASK);
+    expect(record(REPLY, disk_full, sizeof disk_full, NULL), GUARD_REFUSED);
+}
+
+static void full_path(int kind, int number, const char *path)
+{
+    uint8_t bytes[2 + GUARD_PATH_LENGTH];
+    full(bytes, path_call(bytes, kind, number, path));
+}
+
+static void full_growth(uint64_t handle, uint8_t pages)
+{
+    const uint8_t bytes[13] = {GUARD_TRUNCATE, (uint8_t)handle, (uint8_t)(handle >> 8), (uint8_t)(handle >> 16),
+        (uint8_t)(handle >> 24), 0, (uint8_t)(pages * 4)};
+    full(bytes, sizeof bytes);
+}
+
 static void run_session(void)
 {
     host_begin();
@@ -262,6 +283,9 @@ static void run_session(void)
     at_handle(GUARD_READ, a, GUARD_TRANSFER_LENGTH, 4);
     at_handle(GUARD_TRUNCATE, a, 1030, 8);
     at_handle(GUARD_TRUNCATE, a, 3100, 8);
+    full_path(GUARD_CREATE, 7, "/d/new");
+    full_path(GUARD_MKDIR, 7, "/new");
+    full_growth(a, 40);
     at_path(GUARD_STAT, -1, "/d/a");
     at_path(GUARD_READDIR, -1, "/d");
     at_path(GUARD_CHMOD, 4, "/d/a");

@@ -184,6 +184,10 @@ static void replies(void)
     BUILDS("\0\0\0\0", guard_status_reply(to, room, 0));
     BUILDS("\0\4\0\0", guard_status_reply(to, room, GUARD_PAGE_LENGTH));
     BUILDS("\373\377\377\377", guard_status_reply(to, room, -5));
+    BUILDS("\344\377\377\377", guard_full_reply(to, room));
+    BUILDS("\344\377\377\377", guard_id_reply(to, room, GUARD_FULL_ID));
+    check(guard_is_new_id(2) && guard_is_new_id(UINT32_MAX) && guard_is_new_id(GUARD_FULL_ID + 1), "ids of new nodes");
+    check(!guard_is_new_id(0) && !guard_is_new_id(GUARD_ROOT) && !guard_is_new_id(GUARD_FULL_ID), "no new node's id");
     memcpy(page, "hello", 5);
     BUILDS_N(page, GUARD_PAGE_LENGTH, guard_page_reply(to, room, "hello", 5));
     memset(page, 'p', sizeof page);

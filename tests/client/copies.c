@@ -352,6 +352,45 @@ static void stops(void)
     check(c.reason == 0 && c.request_length == 0, "a fresh client");
 }
 
+/* ---- a full disk, which ends a request */
+
+static guard_outcome says_full(uint8_t *to, size_t room)
+{
+    return guard_client_reply(&c, reply, guard_full_reply(reply, GUARD_REPLY_LENGTH), to, room);
+}
+
+static guard_outcome begin(size_t n) { return guard_client_call(&c, call, n, NULL, 0); }
+
+static void full_creates(void)
+{
+    start();
+    recorded = 0;
+    expect(begin(guard_create_call(call, sizeof call, "/a", 7)), GUARD_ASK, 0, "create");
+    expect(says_full(request, 4), GUARD_REFUSED, GUARD_SHORT_BUFFER, "with a short buffer");
+    check(c.request_length == 4, "a refusal that is not 28 leaves it pending");
+    expect(says_full(NULL, 0), GUARD_REFUSED, GUARD_FULL, "create on a full disk");
+    check(c.request_length == 0 && c.reason == 0, "a full disk has ended the request");
+    expect(says_full(NULL, 0), GUARD_REFUSED, GUARD_NOT_PENDING, "another reply");
+    expect(carry(guard_create_call(call, sizeof call, "/a", 7)), GUARD_DONE, 2, "create with room");
+}
+
+/* One page of three has room, then none. */
+static void full_writes(void)
+{
+    static uint8_t bytes[3000];
+    expect(carry(guard_open_call(call, sizeof call, "/a", 3)), GUARD_DONE, 2, "open");
+    expect(begin(guard_write_call(call, sizeof call, 2, bytes, sizeof bytes)), GUARD_ASK, 0, "write");
+    expect(guard_client_reply(&c, reply, guard_status_reply(reply, 4, 1024), NULL, 0), GUARD_ASK, 0, "the first page");
+    expect(says_full(NULL, 0), GUARD_DONE, 1024, "a write that is done in part");
+    check(c.request_length == 0, "which is over");
+    expect(begin(guard_write_call(call, sizeof call, 2, bytes, 1)), GUARD_ASK, 0, "write on");
+    check(c.request[5] == 1, "from the second page on");
+    expect(says_full(NULL, 0), GUARD_REFUSED, GUARD_FULL, "no page has room");
+    expect(begin(guard_truncate_call(call, sizeof call, 2, 4096)), GUARD_ASK, 0, "a growth");
+    expect(says_full(NULL, 0), GUARD_REFUSED, GUARD_FULL, "has no room");
+    check(c.request_length == 0 && c.reason == 0, "nothing has stopped");
+}
+
 /* ---- lengths */
 
 static void short_request(void)
@@ -487,6 +526,8 @@ int main(int words, char **word)
     if (words < 2 || strcmp(word[1], "torn")) {
         meddled();
         stops();
+        full_creates();
+        full_writes();
         lengths();
     }
     tears();

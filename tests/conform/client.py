@@ -14,7 +14,7 @@ from model.generate import BY_HANDLE, Generator
 from model.host import Entry, Host
 from model.image import LONGEST
 from model.recording import Recording
-from model.rules import ADDRESS, CREATE, DIRECTORY, ID, MAP, MKDIR, OPEN, UNMAP, put, unsigned
+from model.rules import ADDRESS, CREATE, DIRECTORY, ID, MAP, MKDIR, OPEN, UNMAP, put, signed, unsigned
 from model.script import Unrandom
 from model.tree import tree
 
@@ -22,6 +22,7 @@ from . import wire
 from .covered import Covered
 
 POWER_LOSS, WITHIN_REQUEST = "power loss", "killed within a request"
+FULL = -28  # the status of a full disk
 
 
 @dataclass(frozen=True)
@@ -138,6 +139,8 @@ class Client(Recording):
             return outcome
         while isinstance(outcome, Ask):
             outcome = self.judged(outcome.data, self.program.request(outcome.data))
+        if isinstance(outcome, Refused):  # by a full disk
+            return outcome
         if do.call[0] == MAP:
             self.addresses[do.map] = outcome.number
         self.covered.call(self.guard, call, before)
@@ -157,6 +160,9 @@ class Client(Recording):
             self.host.chosen = None
             right = self.host.reply(request)
             raise Wrong(request, reply, right, outcome.reason, self.guard.nodes, open_files, maps)
+        if is_full(reply):
+            self.covered.full_disk(request, outcome)
+            return outcome
         self.host.chosen = unsigned(reply[:ADDRESS]) if request[0] in (CREATE, MKDIR, OPEN, MAP) else None
         self.host.reply(request)
         self.covered.request(request)
@@ -237,6 +243,11 @@ class Client(Recording):
             self.program.send(wire.REQUEST, outcome.data)
             self.covered.met("restarts", thing.how)
         self.again(self.saved, thing.delay)
+
+
+def is_full(reply):
+    """Of a reply that was taken: the disk is full, and the host has done nothing for the request."""
+    return len(reply) == 4 and signed(reply) == FULL
 
 
 RESTARTS = {

@@ -1,10 +1,11 @@
-"""What a run has met: calls, requests, page edges, maps, restarts, limits. A run that passes says so, and says what it
-has not met.
+"""What a run has met: calls, requests, page edges, maps, restarts, limits; full disks, where the host has met one. A
+run that passes says so, and says what it has not met.
 """
 
 from collections import Counter
 
 from model import rules
+from model.events import Done
 from model.generate import BY_HANDLE
 from model.rules import (
     CHMOD, CREATE, ID, MAP, MAX_COUNT, MAX_MAP, MAX_MAPS, MAX_NAME, MAX_NODES, MAX_OPEN, MAX_PAGES, MAX_PATH, MAX_SIZE,
@@ -42,6 +43,10 @@ WANTED = {
 }
 
 
+# what a host with room for everything never meets
+FULL_DISKS = ["a create", "a mkdir", "a write's first store", "a write with pages that were stored", "a growing cut"]
+
+
 class Covered:
     def __init__(self):
         self.counts = Counter()
@@ -53,6 +58,12 @@ class Covered:
 
     def request(self, request):
         self.met("requests", REQUESTS[request[0]])
+
+    def full_disk(self, request, outcome):
+        """A request that was answered so, and what the call has come to."""
+        write = "a write with pages that were stored" if isinstance(outcome, Done) else "a write's first store"
+        names = {CREATE: "a create", MKDIR: "a mkdir", WRITE: write, TRUNCATE: "a growing cut"}
+        self.met("full disks", names[request[0]])
 
     def look(self, tree, call):
         """Size and cursor of the call's file, before it; of an unmap, its place among the maps, and how many there are.
@@ -154,10 +165,17 @@ class Covered:
         for group, names in WANTED.items():
             counts = [f"{name} {self.counts[group, name]:,}" for name in names if self.counts[group, name]]
             lines.append(f"{group}: {', '.join(counts)}")
-        return lines + [f"not met: {', '.join(self.missing()) or 'nothing'}"]
+        return lines + self.full_text() + [f"not met: {', '.join(self.missing()) or 'nothing'}"]
+
+    def full_text(self):
+        """Only a host that has met a full disk is to meet it everywhere."""
+        group = "full disks"
+        counts = [f"{name} {self.counts[group, name]:,}" for name in FULL_DISKS if self.counts[group, name]]
+        return [f"{group}: {', '.join(counts)}"] if counts else []
 
     def missing(self):
-        return [name for group, names in WANTED.items() for name in names if not self.counts[group, name]]
+        wanted = {**WANTED, **({"full disks": FULL_DISKS} if self.full_text() else {})}
+        return [name for group, names in wanted.items() for name in names if not self.counts[group, name]]
 
 
 def file_size(tree, handle):

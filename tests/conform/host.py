@@ -1,7 +1,8 @@
 #!/usr/bin/env python3
-"""A small host: its tree is in memory, its saves are in one file. python3 host.py DIRECTORY
+"""A small host: its tree is in memory, its saves are in one file. python3 host.py [--budget BYTES] DIRECTORY
 
-It speaks the wire form of docs/INTEGRATION.md, 9, and is written apart from the model and from examples/host.
+It speaks the wire form of docs/INTEGRATION.md, 9, and is written apart from the model and from examples/host. With a
+budget its disk is full when its nodes, of ROOM bytes each, and the bytes of files would take more.
 """
 
 import os
@@ -13,6 +14,7 @@ UNIT, SPACE = 4096, 1 << 64
 FILE, DIRECTORY = 1, 2
 CREATE, MKDIR, OPEN, CLOSE, _, FETCH, STORE, CUT, REMOVE, RMDIR, CHMOD, READDIR, STAT, MAP, UNMAP = range(1, 16)
 REQUEST, SYNC, START = 1, 2, 3
+ROOM, FULL = 200, 0xFFFF_FFE4
 
 
 def number(data):
@@ -29,7 +31,13 @@ class Node:
         self.data = bytearray()
 
 
+class Full(Exception):
+    """There is no room; nothing has been done."""
+
+
 class Host:
+    budget = 0  # no bound
+
     def __init__(self, place):
         self.file = os.path.join(place, "saves")
         self.saves = {}
@@ -65,12 +73,21 @@ class Host:
         """
         try:
             return REQUESTS[request[0]](self, request[1:])
+        except Full:
+            return four(FULL)
         except KeyError:
             return four(0xFFFF_FFFE)
+
+    def take(self, more):
+        """Room for so many bytes more, before anything is done with them."""
+        taken = sum(ROOM + len(node.data) for node in self.nodes.values())
+        if self.budget and more > 0 and taken + more > self.budget:
+            raise Full
 
     # requests by path
 
     def make(self, path, kind, mode):
+        self.take(ROOM)
         node = self.nodes[path] = Node(self.next, kind, mode)
         self.next += 1
         return four(node.id)
@@ -115,12 +132,14 @@ class Host:
 
     def store(self, fields):
         node, page, size = self.files[number(fields[:4])], number(fields[4:8]), number(fields[8:12])
+        self.take(size - len(node.data))
         node.data[page * PAGE : (page + 1) * PAGE] = fields[12:]
         del node.data[size:]
         return four(PAGE)
 
     def cut(self, fields):
         node, size = self.files[number(fields[:4])], number(fields[4:])
+        self.take(size - len(node.data))
         node.data = node.data[:size].ljust(size, b"\0")
         return four(0)
 
@@ -153,7 +172,9 @@ FRAMES = {REQUEST: Host.request, SYNC: Host.sync, START: Host.start}
 
 
 def main():
-    host = Host(sys.argv[1])
+    host = Host(sys.argv[-1])
+    if sys.argv[1] == "--budget":
+        host.budget = int(sys.argv[2])
     while length := number(sys.stdin.buffer.read(4)):
         frame = sys.stdin.buffer.read(length)
         reply = FRAMES[frame[0]](host, frame[1:])

@@ -10,8 +10,10 @@ from conform.words import (
 )
 from model.events import Call, Load, Reply, Save
 from model.generate import BY_HANDLE
+from model.recording import FULL_DISK
 from model.rules import (
-    ADDRESS, CREATE, MAP, MKDIR, OPEN, PAGE, READ, READDIR, SEEK, STAT, UNMAP, WRITE, signed, split_listing, unsigned,
+    ADDRESS, CREATE, MAP, MKDIR, NO_SPACE, OPEN, PAGE, READ, READDIR, SEEK, STAT, TRUNCATE, UNMAP, WRITE, signed,
+    split_listing, unsigned,
 )
 from model.tree import guard
 
@@ -28,6 +30,7 @@ def texts(function):
 
 
 MAP_CALLS = {MAP: 5, UNMAP: 1 + ADDRESS}  # how long each is
+MAY_BE_FULL = (CREATE, MKDIR, WRITE, TRUNCATE)  # the requests that may find the disk full
 NUMBERS, REASONS = texts("guard_number_text"), texts("guard_stop_text")
 
 
@@ -89,6 +92,8 @@ class Teller:
 
     def reply_words(self, data):
         kind = self.request[0] if self.guard.pending and self.request else 0
+        if data == FULL_DISK and kind in MAY_BE_FULL:
+            return f"{NO_SPACE}, the disk is full"
         if kind in (CREATE, MKDIR) and len(data) == 4:
             return f"id {unsigned(data)}"
         if kind == READDIR:
@@ -112,6 +117,8 @@ class Teller:
             self.request = bytes.fromhex("".join(rest))
             return f"asks the host: {self.requested()}"
         number = int(rest[0]) if rest and rest[0].isdigit() else 0
+        if word == "refused" and isinstance(event, Reply) and number == -NO_SPACE:
+            return f"refused {number}: full: the host's disk; nothing of the call is done"
         if word == "refused":
             return f"refused {number}: {NUMBERS.get(number, 'no number of the guard')}"
         if word == "stopped":

@@ -28,6 +28,8 @@ static struct {
     int stopped, pending, loaded, saved;
     size_t open_files, saved_length, maps;
     struct { uint64_t address, last; } map[GUARD_MAPS]; /* those that live, each up to its last byte */
+    struct { uint64_t handle, cursor; } file[GUARD_OPEN_FILES]; /* those that are open */
+    size_t stores; /* of the pending call, that were taken */
     uint8_t call[GUARD_TRANSFER_LENGTH + 5]; /* the pending call */
     size_t call_length;
     uint8_t asked[GUARD_REQUEST_LENGTH]; /* the pending request */
@@ -176,6 +178,87 @@ static void check_request(guard_outcome o)
     known.pending = 1;
 }
 
+/* ---- open files and their cursors */
+
+/* Where the file of a call by handle stands among those that are open. */
+static size_t file_of(const uint8_t *call)
+{
+    size_t i = 0;
+    while (i < known.open_files && known.file[i].handle != field(call + 1, 4))
+        i++;
+    MUST(i < known.open_files);
+    return i;
+}
+
+static uint64_t *cursor(void) { return &known.file[file_of(known.call)].cursor; }
+
+static void open_done(guard_outcome o)
+{
+    MUST(o.number > 1 && o.length == 0 && known.open_files < GUARD_OPEN_FILES);
+    known.file[known.open_files].handle = o.number;
+    known.file[known.open_files++].cursor = 0;
+}
+
+static void close_done(guard_outcome o)
+{
+    size_t i = file_of(known.call);
+    MUST(o.number == 0 && o.length == 0);
+    known.file[i] = known.file[--known.open_files];
+}
+
+static void truncate_done(guard_outcome o)
+{
+    uint64_t size = field(known.call + 5, 8);
+    MUST(o.number == 0 && o.length == 0 && size <= GUARD_FILE_LENGTH);
+    if (*cursor() > size)
+        *cursor() = size;
+}
+
+/* ---- a full disk, by the words of the rules */
+
+enum { FULL_ID = 0xffffffe4 };
+
+static int says_full(void) { return input.length == 4 && field(input.at, 4) == (uint32_t)FULL_ID; }
+
+/* Whether a full disk ends the call whose request is pending. */
+static int ends_full(void)
+{
+    switch (known.asked[0]) {
+    case GUARD_CREATE: case GUARD_MKDIR: return 1;
+    case GUARD_STORE: return known.call[0] == GUARD_WRITE;
+    case GUARD_CUT: return host_grows(known.asked);
+    default: return 0;
+    }
+}
+
+/* The reason to stop where it ends no call. */
+static unsigned full_reason(void)
+{
+    switch (known.asked[0]) {
+    case GUARD_OPEN: return GUARD_STOP_DESCRIPTOR;
+    case GUARD_FETCH: case GUARD_STAT: case GUARD_MAP: return GUARD_STOP_LENGTH;
+    case GUARD_READDIR: return GUARD_STOP_LISTING;
+    default: return GUARD_STOP_STATUS;
+    }
+}
+
+/* A write is done as far as its stores were taken, everything else is refused; the host has done nothing, and no
+ * request is pending. */
+static void check_full(guard_outcome o)
+{
+    if (!ends_full()) {
+        MUST(o.kind == GUARD_STOPPED && o.number == full_reason());
+        known.stopped = 1;
+    } else if (known.stores == 0) {
+        MUST(o.kind == GUARD_REFUSED && o.number == GUARD_FULL && o.length == 0);
+    } else {
+        uint64_t end = field(known.asked + 5, 4) * GUARD_PAGE_LENGTH;
+        MUST(o.kind == GUARD_DONE && o.number == end - *cursor() && o.length == 0);
+        MUST(o.number > 0 && o.number < known.call_length - 5);
+        *cursor() = end;
+    }
+}
+
 /* ---- maps, by the words of the rules */
 
 /* The map that begins there, or as many as there are. */
@@ -237,10 +320,12 @@ static void check_done(guard_outcome o)
 {
     switch (known.call[0]) {
     case GUARD_CREATE: case GUARD_MKDIR: MUST(o.number == field(input.at, 4) && o.number > 1 && o.length == 0); break;
-    case GUARD_OPEN: MUST(o.number > 1 && o.length == 0 && ++known.open_files <= GUARD_OPEN_FILES); break;
-    case GUARD_CLOSE: MUST(o.number == 0 && o.length == 0 && known.open_files-- > 0); break;
-    case GUARD_READ: MUST(o.number == o.length && o.length > 0 && o.length <= field(known.call + 5, 4)); break;
-    case GUARD_WRITE: MUST(o.number == known.call_length - 5 && o.length == 0); break;
+    case GUARD_OPEN: open_done(o); break;
+    case GUARD_CLOSE: close_done(o); break;
+    case GUARD_READ: MUST(o.number == o.length && o.length > 0 && o.length <= field(known.call + 5, 4));
+        *cursor() += o.number; break;
+    case GUARD_WRITE: MUST(o.number == known.call_length - 5 && o.length == 0); *cursor() += o.number; break;
+    case GUARD_TRUNCATE: truncate_done(o); break;
     case GUARD_READDIR: MUST(o.number < GUARD_NODES && o.length == input.length &&
         same(answer.at, input.at, o.length)); break;
     case GUARD_STAT: MUST(o.number == field(input.at + 6, 4) && o.length == 10 && same(answer.at, input.at, 10)); break;
@@ -265,11 +350,16 @@ static void on_call(void)
     MUST(input.length > 1 && input.length <= sizeof known.call);
     memcpy(known.call, input.at, input.length);
     known.call_length = input.length;
+    known.stores = 0;
     if (o.kind == GUARD_ASK)
         check_request(o);
     else /* seek, or nothing to read, write or cut */
         MUST(known.call[0] >= GUARD_SEEK && known.call[0] <= GUARD_TRUNCATE && o.length == 0 &&
             o.number <= GUARD_FILE_LENGTH);
+    if (o.kind == GUARD_DONE && known.call[0] == GUARD_SEEK)
+        *cursor() = o.number;
+    if (o.kind == GUARD_ASK && (known.call[0] == GUARD_READ || known.call[0] == GUARD_WRITE))
+        MUST(field(known.asked + 5, 4) == *cursor() / GUARD_PAGE_LENGTH);
 }
 
 /* A reply that was taken is the host's own but for what a host may choose. */
@@ -292,10 +382,15 @@ static void on_reply(int is_true)
     static uint8_t own[GUARD_REPLY_LENGTH];
     unsigned first = first_number(REPLY);
     guard_outcome o = hand_in(REPLY);
-    MUST(first ? o.kind == GUARD_REFUSED && o.number == first : o.kind != GUARD_REFUSED);
+    MUST(!first || (o.kind == GUARD_REFUSED && o.number == first));
     if (first)
         return;
     known.pending = 0;
+    if (says_full()) {
+        check_full(o);
+        return;
+    }
+    MUST(o.kind != GUARD_REFUSED);
     if (known.asked[0] == GUARD_MAP)
         MUST(map_reason() ? o.kind == GUARD_STOPPED && o.number == map_reason() : o.kind == GUARD_DONE);
     if (o.kind == GUARD_STOPPED) {
@@ -306,6 +401,7 @@ static void on_reply(int is_true)
     }
     check_taken(own, host_reply(known.asked, known.asked_length, own));
     host_obey(known.asked, known.asked_length, input.at);
+    known.stores += known.asked[0] == GUARD_STORE;
     if (o.kind == GUARD_ASK)
         check_request(o);
     else
@@ -402,6 +498,14 @@ static void true_reply(void)
     on_reply(1);
 }
 
+/* The host's disk is full. */
+static void full_reply(void)
+{
+    static const uint8_t reply[4] = {0xe4, 0xff, 0xff, 0xff};
+    place_input(&input, reply, sizeof reply);
+    on_reply(0);
+}
+
 /* The host's reply with the record's bytes over its front or its end. */
 static void changed_reply(struct record r)
 {
@@ -421,6 +525,7 @@ static void do_record(struct record r)
     case CALL: place_input(&input, r.bytes, r.length); on_call(); break;
     case REPLY: place_input(&input, r.bytes, r.length); on_reply(0); break;
     case TRUE_REPLY: true_reply(); break;
+    case FULL_REPLY: full_reply(); break;
     case SAVE: on_save(); break;
     case LOAD_SAVED: load(known.image, known.saved_length, known.digest, known.saved ? GUARD_DIGEST_LENGTH : 0); break;
     case MOVE: move_guard(); break;

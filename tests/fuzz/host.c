@@ -257,6 +257,12 @@ static void create(const uint8_t *request, size_t length, uint32_t id)
     keep(id, 0, NULL); /* another file may have had the id */
 }
 
+int host_grows(const uint8_t *cut)
+{
+    const struct node *n = by_descriptor(field(cut + 1));
+    return n && field(cut + 5) > n->size;
+}
+
 void host_obey(const uint8_t *request, size_t length, const uint8_t *reply)
 {
     struct node *opened = by_descriptor(field(request + 1));

@@ -14,6 +14,9 @@ size_t host_reply(const uint8_t *request, size_t length, uint8_t *reply);
 /* The guard took a reply, the host's or another: the request is obeyed. */
 void host_obey(const uint8_t *request, size_t length, const uint8_t *reply);
 
+/* Whether a cut makes its file longer. */
+int host_grows(const uint8_t *cut);
+
 /* A save, and a load of it: maps stay as they are. */
 void host_saved(void);
 void host_loaded(void);

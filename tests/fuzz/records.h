@@ -16,10 +16,11 @@ enum what {
     LOAD_SAVED,   /* what was saved last */
     MOVE,         /* the guard goes to another address */
     REPLY_OVER,   /* the host's reply with the bytes over its front: a map's is too long for a record */
-    REPLY_UNDER   /* with the bytes over its end */
+    REPLY_UNDER,  /* with the bytes over its end */
+    FULL_REPLY    /* the host's disk is full */
 };
 
-enum { WHATS = REPLY_UNDER + 1 };
+enum { WHATS = FULL_REPLY + 1 };
 
 struct record {
     enum what what;

@@ -1,19 +1,24 @@
 """The fuzzer's first inputs, from the model's lists: python3 -m fuzz.seeds DIRECTORY
 
-Each list twice: with its own replies, and with those that the fuzzer's host works out. A map's address is the list's
-own in both, since later calls name it. The guard moves now and then. The form is that of records.h.
+Each list three times: with its own replies, with those that the fuzzer's host works out, and with these where each
+third store, cut and new node finds the disk full. A map's address is the list's own in all, since later calls name it.
+The guard moves now and then. Beside them a few inputs by hand, of what is read after a full disk and of replies that
+nearly say so. The form is that of records.h.
 """
 
 import sys
 from itertools import islice
 from pathlib import Path
 
+from model import calls
 from model.events import Ask, Call, Load, Reply, Save
-from model.rules import ADDRESS, ANSWER, MAP, REQUEST, put, unsigned
+from model.rules import ADDRESS, ANSWER, CREATE, MAP, MKDIR, REQUEST, TRUNCATE, WRITE, put, unsigned
 from model.transcripts import recordings
 from model.tree import digest
 
-CALL, REPLY, TRUE_REPLY, SAVE, LOAD, LOAD_BADLY, LOAD_SAVED, MOVE, REPLY_OVER, REPLY_UNDER = range(10)
+CALL, REPLY, TRUE_REPLY, SAVE, LOAD, LOAD_BADLY, LOAD_SAVED, MOVE, REPLY_OVER, REPLY_UNDER, FULL_REPLY = range(11)
+OWN, TRUE, FULL = range(3)  # whose replies
+FILLED = [bytes([kind]) for kind in (CREATE, MKDIR, WRITE, TRUNCATE)]  # requests that a full disk may end
 MOST = 16_384  # bytes of an input
 LONGEST = 0xFFFF  # bytes of a record
 
@@ -33,18 +38,20 @@ def reply_to_map(data, length):
     return (REPLY_OVER, data[:ADDRESS] + front) if len(front) <= len(back) or not back else (REPLY_UNDER, back)
 
 
-def reply(data, asked, true_replies):
+def reply(data, asked, whose, is_third):
     if asked[:1] == bytes([MAP]):
         return reply_to_map(data, unsigned(asked[1:]))
-    return (TRUE_REPLY, b"") if true_replies else (REPLY, data[:LONGEST])
+    if whose == FULL and is_third and asked[:1] in FILLED:
+        return FULL_REPLY, b""
+    return (REPLY, data[:LONGEST]) if whose == OWN else (TRUE_REPLY, b"")
 
 
-def records(event, asked, true_replies):
+def records(event, asked, whose, is_third):
     """An event, and the request that was pending before it."""
     match event:
         case Call() | Reply():
             is_call = isinstance(event, Call)
-            what, data = (CALL, event.data) if is_call else reply(event.data, asked, true_replies)
+            what, data = (CALL, event.data) if is_call else reply(event.data, asked, whose, is_third)
             return record(what, data, event.answer_len < ANSWER, event.request_len < REQUEST)
         case Save():
             return record(SAVE, put(event.buffer_len, 2))
@@ -64,17 +71,55 @@ def with_requests(steps):
         asked = outcome.data if isinstance(outcome, Ask) else asked
 
 
+# ---- a full disk, by hand; the fuzzer's host gives the first file the id 2
+
+THREE = bytes(range(256)) * 12  # pages
+WRITE_THREE = [calls.seek(2, 0), calls.write(2, THREE), TRUE_REPLY, TRUE_REPLY, TRUE_REPLY]
+READ_THREE = [calls.seek(2, 0), calls.read(2, 4096), TRUE_REPLY, TRUE_REPLY, TRUE_REPLY]
+FILE = [calls.create(7, b"/a"), TRUE_REPLY, calls.open_(3, b"/a"), TRUE_REPLY, *WRITE_THREE]
+AGAIN = [calls.seek(2, 0), calls.write(2, THREE[::-1])]  # three whole pages: no fetch
+LOOK = [*READ_THREE, calls.stat(b"/a"), TRUE_REPLY, calls.readdir(b"/"), TRUE_REPLY]
+NEARLY = [*(put(-28, width) for width in (3, 5, 8)), *(put(status, 4) for status in (-27, -29, 28, -5))]
+ENDED = {  # calls up to the request that finds the disk full
+    "create": [calls.create(7, b"/b")], "mkdir": [calls.mkdir(7, b"/b")],
+    "grow": [calls.truncate(2, 5000)], "cut": [calls.truncate(2, 1024)],
+    "cut store": [calls.truncate(2, 100), TRUE_REPLY],
+    "first": AGAIN, "second": [*AGAIN, TRUE_REPLY], "third": [*AGAIN, TRUE_REPLY, TRUE_REPLY],
+    "fetched": [calls.seek(2, 10), calls.write(2, b"x" * 1500), TRUE_REPLY],
+    "fetched second": [calls.seek(2, 10), calls.write(2, b"x" * 1500), TRUE_REPLY, TRUE_REPLY, TRUE_REPLY],
+    "longer": [calls.seek(2, 3000), calls.write(2, b"x" * 2000), TRUE_REPLY, TRUE_REPLY],
+}
+
+
+def by_hand():
+    """Each of them with the full disk, twice, and what is read then; and with what is nearly the same."""
+    for name, before in ENDED.items():
+        on = [calls.write(2, b"on" * 600), *[TRUE_REPLY] * 4]
+        yield name, [*FILE, *before, FULL_REPLY, FULL_REPLY, *LOOK, *on, *LOOK]
+        for number, nearly in enumerate(NEARLY):
+            yield f"{name}-{number}", [*FILE, *before, (REPLY, nearly), *LOOK]
+
+
+def record_of(thing):
+    """A call's bytes, what stands for a reply, or that with its bytes."""
+    if isinstance(thing, bytes):
+        return record(CALL, thing)
+    return record(*thing) if isinstance(thing, tuple) else record(thing)
+
+
 def main():
     directory = Path(sys.argv[1])
+    for name, things in by_hand():
+        (directory / f"full-{name}").write_bytes(b"\0" + b"".join(map(record_of, things)))
     for i, (_, recording) in enumerate(recordings()):
-        for true_replies in False, True:
+        for whose in OWN, TRUE, FULL:
             parts = (
-                records(event, asked, true_replies) + moves(n)
+                records(event, asked, whose, (n + i) % 3 == 0) + moves(n)
                 for n, (event, asked) in enumerate(with_requests(recording.steps))
             )
-            data = bytes([i % 2]) + record(LOAD_SAVED) * true_replies + b"".join(islice(parts, 250))
+            data = bytes([i % 2]) + record(LOAD_SAVED) * (whose != OWN) + b"".join(islice(parts, 250))
             if len(data) <= MOST:
-                (directory / f"{i}-{true_replies:d}").write_bytes(data)
+                (directory / f"{i}-{whose}").write_bytes(data)
 
 
 if __name__ == "__main__":

@@ -76,6 +76,28 @@ static void unmap(guard *g)
     expect(call(g, "\17\0\0\377\377\377\377\377\377", 9), GUARD_REFUSED, GUARD_MALFORMED, 0);
 }
 
+/* A full disk ends a call and its request: a new node, a growth, and a write at its second page, which leaves one; it
+ * stops a cut. */
+static void full(guard *g)
+{
+    static const char disk_full[] = "\344\377\377\377";
+    static uint8_t write[5 + GUARD_PAGE_LENGTH + 1] = {GUARD_WRITE, 2};
+    guard_fresh(g);
+    expect(call(g, "\1\7/a", 4), GUARD_ASK, 0, 4);
+    expect(reply(g, disk_full, 4), GUARD_REFUSED, GUARD_FULL, 0);
+    expect(reply(g, disk_full, 4), GUARD_REFUSED, GUARD_NOT_PENDING, 0);
+    make_file(g);
+    expect(call(g, "\10\2\0\0\0\0\1\0\0\0\0\0\0", 13), GUARD_ASK, 0, 9);
+    expect(reply(g, disk_full, 4), GUARD_REFUSED, GUARD_FULL, 0);
+    expect(call(g, "\5\2\0\0\0\0\0\0\0\0\0\0\0", 13), GUARD_DONE, 0, 0);
+    expect(guard_call(g, write, sizeof write, answer, sizeof answer, request, sizeof request), GUARD_ASK, 0,
+        GUARD_REQUEST_LENGTH);
+    expect(reply(g, "\0\4\0\0", 4), GUARD_ASK, 0, GUARD_REQUEST_LENGTH);
+    expect(reply(g, disk_full, 4), GUARD_DONE, GUARD_PAGE_LENGTH, 0);
+    expect(call(g, "\10\2\0\0\0\0\0\0\0\0\0\0\0", 13), GUARD_ASK, 0, 9);
+    expect(reply(g, disk_full, 4), GUARD_STOPPED, GUARD_STOP_STATUS, 0);
+}
+
 /* The version, and the cursor after a truncation: behind the new end it stands at that end, else it stays. */
 static void notes(guard *g)
 {
@@ -114,5 +136,6 @@ int main(void)
     expect(call(second, "\15/", 2), GUARD_REFUSED, GUARD_STOPPED_FOR_GOOD, 0);
     if (memcmp(answer, "hello", 5))
         step = -1000;
+    full(second);
     return step < 0;
 }

@@ -1,7 +1,7 @@
 """The model beside the archive and the real host: each call goes through both, and the outcomes must be the same.
 
 What a host may choose is the real one's: a new id and a map's address are taken over into the model, a listing may
-stand in any order.
+stand in any order. Where a full disk has ended a call, the model's host says so to the same request, and does nothing.
 """
 
 import os
@@ -11,7 +11,7 @@ from model.events import Ask, Call, Done, Load, Reply, Save
 from model.host import Host
 from model.image import LONGEST
 from model.recording import Recording
-from model.rules import CREATE, DIRECTORY, MAP, MKDIR, READDIR, split_listing
+from model.rules import CREATE, DIRECTORY, ID, MAP, MKDIR, PAGE, READDIR, TRUNCATE, WRITE, put, split_listing, unsigned
 from model.script import Unrandom
 
 
@@ -70,8 +70,21 @@ def durable(place):
     return place.with_name(place.name + ".durable")
 
 
+FULL = put(-28, 4)  # the status of a full disk, and bytes that are no new id
+REFUSED_FULL = ["refused", "28"]
+
+
 class Alike(Host):
-    """The model's host with the ids and addresses of another."""
+    """The model's host with the ids, the addresses and the full disk of another. What it then says of a full disk, the
+    recording has it undo.
+    """
+
+    chosen = 0
+    is_full = staticmethod(lambda request: False)
+
+    def reply(self, request):
+        truth = super().reply(request)
+        return FULL if self.is_full(request) else truth
 
     def new_id(self):
         return self.chosen
@@ -94,14 +107,30 @@ class Beside(Recording):
         theirs = self.driver.send(f"c {event.data.hex()}")
         if theirs[0] == "stopped":
             raise Caught(theirs[1])
-        if theirs[0] == "done" and event.data[0] in (CREATE, MKDIR, MAP):
-            self.host.chosen = int(theirs[1])
+        gives = theirs[0] == "done" and event.data[0] in (CREATE, MKDIR, MAP)
+        self.host.chosen = int(theirs[1]) if gives else 0
+        self.host.is_full = self.full_disk(event.data, theirs)
         ours = super().send(event)
         while isinstance(ours, Ask):
             ours = super().send(Reply(self.truth))
         if comparable(event.data, theirs) != comparable(event.data, str(ours).split(" ")):
             raise Different(f"{event.data.hex()} gives {' '.join(theirs)}, not {ours}")
         return ours
+
+    def full_disk(self, call, theirs):
+        """Whether a request finds the disk full, by what has come of its call: one that was refused, at the first that
+        may be answered so; a write that was done in part, at the first page that it does not reach.
+        """
+        file = self.guard.open_files.get(unsigned(call[1 : 1 + ID])) if call[:1] == bytes([WRITE]) else None
+        if theirs == REFUSED_FULL:
+            end = 0
+        elif file and theirs[0] == "done" and int(theirs[1]) < len(call) - 1 - ID:
+            end = file.cursor + int(theirs[1])
+        else:
+            return lambda request: False
+        return lambda request: request[0] in (CREATE, MKDIR, TRUNCATE) or (
+            request[0] == WRITE and unsigned(request[5:9]) * PAGE >= end
+        )
 
     def close_all(self):
         for handle in list(self.guard.open_files):
@@ -153,8 +182,10 @@ def in_model(host):
     return nodes
 
 
-def on_disk(place):
-    """The same of the directory and the table of the real host."""
+def on_disk(place, stale_rows=False):
+    """The same of the directory and the table of the real host. After a full disk the table may still have rows of
+    nodes that are not there, which the next start forgets.
+    """
     rows = {}
     table = place / "table"
     for row in table.read_bytes().split(b"\0")[1:-1] if table.exists() else [b"1 7 /"]:
@@ -162,17 +193,22 @@ def on_disk(place):
         rows[path] = int(id), int(mode)
     nodes = {}
 
+    def row(path):
+        if path not in rows:
+            raise Different(f"{path} is on the disk and has no row in the table")
+        return rows.pop(path)
+
     def walk(path, directory):
-        nodes[path or b"/"] = *rows.pop(path or b"/"), None
+        nodes[path or b"/"] = *row(path or b"/"), None
         for below in directory.iterdir():
             name = path + b"/" + bytes_of(below)
             if below.is_dir():
                 walk(name, below)
             else:
-                nodes[name] = *rows.pop(name), below.read_bytes()
+                nodes[name] = *row(name), below.read_bytes()
 
     walk(b"", place / "tree")
-    if rows:
+    if rows and not stale_rows:
         raise Different(f"the table has rows of nodes that are not there: {rows}")
     return nodes
 

@@ -5,7 +5,11 @@
  *     f                 the host is closed and opened again, the guard is a fresh one; prints fresh
  *     l IMAGE DIGEST    a load
  *     k COUNT           the program kills itself at the disk's change number COUNT from now (points.c); prints armed
- *     e COUNT           from now on each COUNT-th system call fails for a moment; prints armed */
+ *     e COUNT           from now on each COUNT-th system call fails for a moment; prints armed
+ *     n FROM CALLS ERROR
+ *                       of the system calls that may need room, so many from number FROM on fail (points.h); prints
+ *                       how many of those armed before were still to come
+ *     b BYTES           the host's disk has so many bytes from now on (host_limit); prints armed */
 #include <stdio.h>
 #include <stdlib.h>
 #include <string.h>
@@ -20,6 +24,7 @@ static client c;
 static char line[LINE];
 static uint8_t bytes[LINE / 2], digest[GUARD_DIGEST_LENGTH];
 static const char *tree, *table;
+static uint64_t budget;
 
 static void start(void)
 {
@@ -30,6 +35,7 @@ static void start(void)
         perror(tree);
         exit(2);
     }
+    host_limit(h, budget);
     client_begin(&c, client_ask_host, h, NULL);
 }
 
@@ -77,6 +83,13 @@ static void load(const char *at)
     print_outcome(guard_client_load(&c.layer, bytes, n, bytes + n, m), NULL);
 }
 
+static void fill(const char *words)
+{
+    printf("%lu", full_disk.calls);
+    if (sscanf(words, "%lu %lu %d", &full_disk.from, &full_disk.calls, &full_disk.error) != 3)
+        full_disk.calls = 0;
+}
+
 static void obey(char letter, const char *rest)
 {
     switch (letter) {
@@ -86,6 +99,8 @@ static void obey(char letter, const char *rest)
     case 'l': load(rest); break;
     case 'k': points_left = strtoul(rest, NULL, 10); fputs("armed", stdout); break;
     case 'e': faults_every = (unsigned)strtoul(rest, NULL, 10); fputs("armed", stdout); break;
+    case 'n': fill(rest); break;
+    case 'b': host_limit(c.host, budget = strtoull(rest, NULL, 10)); fputs("armed", stdout); break;
     default: fputs("bad line", stdout);
     }
 }

@@ -3,10 +3,12 @@ on both sides.
 """
 
 import ctypes
+import errno
 import os
+from itertools import count
 
 from model import calls
-from model.rules import UNIT
+from model.rules import MAX_SIZE, UNIT
 
 from .beside import Different
 
@@ -14,6 +16,8 @@ READ, WRITE, BOTH = 1, 2, 3
 LIBRARY = ctypes.CDLL(None, use_errno=True)
 LIBRARY.mmap.restype = ctypes.c_void_p
 PRIVATE, ANONYMOUS = 2, 0x20  # of Linux, as mmap takes them
+NEW_NAMESPACE, ALL_PRIVATE = 0x20000, 0x44000  # as unshare and mount do
+SMALL_DISK = b"size=1m,nr_inodes=400"
 
 
 class Guarded:
@@ -75,6 +79,10 @@ class Guarded:
     def unmap(self, address):
         self.do(calls.unmap(address))
 
+    def fill(self):
+        """From now on the host has no room."""
+        self.driver.send("b 1")
+
 
 class Planned(Guarded):
     """Calls that are sent together, since none can fail."""
@@ -135,6 +143,39 @@ class Plain:
     def unmap(self, address):
         """One unit of it: the guard's call has no length."""
         passed(LIBRARY.munmap(ctypes.c_void_p(address), ctypes.c_size_t(UNIT)), -1)
+
+
+    def fill(self):
+        """No room on the small disk, for bytes nor for nodes."""
+        until_full(lambda number: self.fill_file(f"/filler {number}"))
+        until_full(lambda number: self.create(f"/empty filler {number}"))
+
+    def fill_file(self, path):
+        """Up to the longest that a file may be, or to the end of the disk."""
+        handle = os.open(path, os.O_WRONLY | os.O_CREAT)
+        try:
+            for _ in range(MAX_SIZE // UNIT):
+                os.write(handle, bytes(UNIT))
+        finally:
+            os.close(handle)
+
+
+def until_full(act):
+    """An act again and again, each time with another number, until it finds no room."""
+    for number in count():
+        try:
+            act(number)
+        except OSError as error:
+            if error.errno != errno.ENOSPC:
+                raise
+            return
+
+
+def mount_small(place):
+    """A small disk over a directory, which this process and its children alone see."""
+    passed(LIBRARY.unshare(NEW_NAMESPACE), -1)
+    passed(LIBRARY.mount(b"none", b"/", None, ALL_PRIVATE, None), -1)
+    passed(LIBRARY.mount(b"none", bytes(place), b"tmpfs", 0, SMALL_DISK), -1)
 
 
 def passed(given, failure):

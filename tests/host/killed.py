@@ -7,13 +7,15 @@ before or after a change of the disk, in the middle of a page. A new process loa
 every node is looked at and read, and the list goes on: each outcome is what the tree of the save gives, or a stop.
 After a stop the next look begins with a new load.
 
-In a third of the lists the machine loses power: what was not synced is there or not, of the tree and of the host's
-table (lost.py). In a third a file is damaged. Unless one is, a node that no call has named since the save is served:
-no stop.
+In every other three lists a system call finds the disk full now and then, so that the host is killed as it undoes its
+part too. In a third of the lists the machine loses power: what was not synced is there or not, of the tree and of the
+host's table (lost.py). In a third a file is damaged. Unless one is, a node that no call has named since the save is
+served: no stop.
 
 Before the lists, what docs/INTEGRATION.md, 6, tells of a growing cut that was obeyed; and that maps end with the host.
 """
 
+import errno
 import shutil
 import sys
 from pathlib import Path
@@ -29,6 +31,8 @@ from .lost import Disk
 
 BEFORE, AFTER = 25, 40  # calls before the save, and after the restart
 POINTS = 80  # the kill comes at one of so many moments
+FULL = 0.4  # of the calls, where the disk fills up; one of so many system calls from then on finds it full:
+CALLS = 6
 
 
 KILLED, POWER_LOST, DAMAGED = range(3)
@@ -71,7 +75,8 @@ class List:
         self.loss = seed % 3
         self.beside = Noted(Driver(program, place, record=self.loss == POWER_LOST))
         self.generator = HonestGenerator(self.random, self.beside)
-        self.stops = self.looks = 0
+        self.stops = self.looks = self.full = 0
+        self.is_filled = seed // 3 % 2 == 1
         self.within = False
 
     def run(self):
@@ -98,10 +103,19 @@ class List:
         """Killed at one of the host's changes of the disk; where the list has too few, between two requests."""
         self.beside.driver.send(f"k {self.random.randrange(1, POINTS)}")
         try:
-            self.work(self.random.randrange(10, 60))
+            for _ in range(self.random.randrange(10, 60)):
+                self.fill()
+                self.work(1)
         except Killed:
             self.within = True
+        except Caught:  # the disk was full where no call may end by that
+            self.full += 1
         self.beside.driver.kill()
+
+    def fill(self):
+        """The disk is full at one of the next system calls, in some of the lists."""
+        if self.is_filled and self.random.random() < FULL:
+            self.full += self.beside.driver.send(f"n {self.random.randrange(1, CALLS)} 1 {errno.ENOSPC}") == ["0"]
 
     def damage(self):
         """A file of the disk loses its last bytes, or some in the middle."""
@@ -214,7 +228,7 @@ def main():
         grown(program, place, size, more)
     emptied(place)
     mapped(program, place)
-    looks = stops = caught = within = 0
+    looks = stops = caught = within = full = 0
     for seed in range(lists):
         emptied(place)
         trial = List(program, place, seed)
@@ -224,15 +238,15 @@ def main():
             print(f"killed: seed {seed}")
             raise
         looks, stops = looks + trial.looks, stops + trial.stops
-        caught, within = caught + (trial.stops > 0), within + trial.within
-    if not (0 < caught < lists and 0 < within < lists):
-        seen = f"{caught} of {lists} lists saw a stop, {within} were killed within a request"
+        caught, within, full = caught + (trial.stops > 0), within + trial.within, full + trial.full
+    if not (0 < caught < lists and 0 < within < lists and full):
+        seen = f"{caught} of {lists} lists saw a stop, {within} were killed within a request, {full} full disks met"
         raise Different(f"{seen}: nothing is shown by this")
     print(f"host: killed after {len(GROWTHS)} growing cuts, the size caught, each page served, the truncation done again")
     print(f"host: {MAX_MAPS} maps after a save, a load and a kill, and no more")
     print(
-        f"host: killed in {lists} lists, within a request in {within}; each load done, {looks} nodes looked at, "
-        f"{stops} stops in {caught} lists, nothing wrong served"
+        f"host: killed in {lists} lists, within a request in {within}, after {full} full disks; each load done, "
+        f"{looks} nodes looked at, {stops} stops in {caught} lists, nothing wrong served"
     )
 
 

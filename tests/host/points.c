@@ -17,6 +17,7 @@
 
 unsigned long points_left;
 unsigned faults_every;
+struct full_disk full_disk;
 static unsigned calls;
 
 static void point(void)
@@ -42,6 +43,16 @@ static int fails(const char *call)
     return name && !strcmp(name, call);
 }
 
+/* Whether this call, which may need room, finds none. */
+static int full(void)
+{
+    if (full_disk.calls == 0 || (full_disk.from > 1 && full_disk.from--))
+        return 0;
+    full_disk.calls--;
+    errno = full_disk.error;
+    return 1;
+}
+
 /* As much as one call moves: where faults come, every third one stops short. */
 static size_t part(size_t length) { return faults_every && length > 1 && ++calls % 3 == 0 ? length / 2 : length; }
 
@@ -50,6 +61,7 @@ int __real_openat(int directory, const char *path, int flags, ...);
 int __real_mkdirat(int directory, const char *path, mode_t mode);
 int __real_unlinkat(int directory, const char *path, int flags);
 int __real_ftruncate(int file, off_t size);
+int __real_fallocate(int file, int how, off_t at, off_t length);
 int __real_rename(const char *from, const char *to);
 int __real_mkdir(const char *path, mode_t mode);
 int __real_remove(const char *path);
@@ -79,20 +91,54 @@ int __wrap_openat(int directory, const char *path, int flags, ...)
         return -1;
     if (!(flags & O_CREAT)) /* changes nothing */
         return __real_openat(directory, path, flags);
+    if (full())
+        return -1;
     BETWEEN_POINTS(__real_openat(directory, path, flags, mode));
 }
 
-int __wrap_mkdirat(int at, const char *path, mode_t mode) { BETWEEN_POINTS(__real_mkdirat(at, path, mode)); }
-int __wrap_unlinkat(int at, const char *path, int flags) { BETWEEN_POINTS(__real_unlinkat(at, path, flags)); }
-int __wrap_rename(const char *from, const char *to) { BETWEEN_POINTS(__real_rename(from, to)); }
+int __wrap_mkdirat(int at, const char *path, mode_t mode)
+{
+    if (full())
+        return -1;
+    BETWEEN_POINTS(__real_mkdirat(at, path, mode));
+}
+
+/* Some file systems need room even to remove. */
+int __wrap_unlinkat(int at, const char *path, int flags)
+{
+    if (full())
+        return -1;
+    BETWEEN_POINTS(__real_unlinkat(at, path, flags));
+}
+
+int __wrap_rename(const char *from, const char *to)
+{
+    if (full())
+        return -1;
+    BETWEEN_POINTS(__real_rename(from, to));
+}
+
 int __wrap_mkdir(const char *path, mode_t mode) { BETWEEN_POINTS(__real_mkdir(path, mode)); }
 int __wrap_remove(const char *path) { BETWEEN_POINTS(__real_remove(path)); }
 
 int __wrap_ftruncate(int file, off_t size)
 {
-    if (fault())
+    if (fault() || full())
         return -1;
     BETWEEN_POINTS(__real_ftruncate(file, size));
+}
+
+int __wrap_fallocate(int file, int how, off_t at, off_t length)
+{
+    if (fault())
+        return -1;
+    if (full()) {
+        int kept = errno;
+        __real_fallocate(file, how, at, length / 2); /* some of it was still to be had */
+        errno = kept;
+        return -1;
+    }
+    BETWEEN_POINTS(__real_fallocate(file, how, at, length));
 }
 
 int __wrap_fstatat(int directory, const char *path, struct stat *s, int flags)
@@ -110,7 +156,7 @@ void *__wrap_mmap(void *at, size_t length, int protection, int flags, int file, 
 /* What is synced is certain from then on. */
 int __wrap_fsync(int file)
 {
-    if (fails("fsync") || fault())
+    if (fails("fsync") || fault() || full())
         return -1;
     point();
     int status = __real_fsync(file);
@@ -140,6 +186,12 @@ ssize_t __wrap_pwrite(int file, const void *bytes, size_t length, off_t at)
     if (fault())
         return -1;
     length = part(length);
+    if (full()) {
+        int kept = errno;
+        __real_pwrite(file, bytes, length / 2, at); /* what there was room for is on the disk */
+        errno = kept;
+        return -1;
+    }
     point();
     if (points_left == 1)
         __real_pwrite(file, bytes, length / 2, at); /* the next point is the last: half a page is on the disk */

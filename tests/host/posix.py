@@ -3,8 +3,9 @@ directory holds the same tree.
 
     python3 -m host.posix PROGRAM PLACE      from tests/, as root; PROGRAM is drive.c's, PLACE a directory to fill
 
-Each call is tried on each kind of path, and a list of trials on open files. The errors must be the same but for the
-rows of the two tables below, each with the rule that makes it; and what stands there must differ just so.
+Each call is tried on each kind of path, and a list of trials on open files; where the machine lets root mount a small
+file system, others on a full disk. The errors must be the same but for the rows of the two tables below, each with the
+rule that makes it; and what stands there must differ just so.
 """
 
 import os
@@ -17,7 +18,7 @@ from pathlib import Path
 from model.rules import MAX_COUNT as TRANSFER, MAX_OPEN as OPEN_FILES, MAX_SIZE as FILE_SIZE, UNIT
 
 from .beside import Different, Driver
-from .files import BOTH, READ, WRITE, Guarded, Plain, Planned
+from .files import BOTH, READ, WRITE, Guarded, Plain, Planned, mount_small
 from .house import PATHS, build
 
 NOBODY = 65534
@@ -168,6 +169,50 @@ TRIALS = {
     "rmdir of a directory with an open file": lambda files: (files.open("/full/x", READ), files.rmdir("/full")),
 }
 
+# ---- trials on a disk without room: what is written stands before the filling
+
+
+def filled(files, size=TRANSFER, at=None):
+    """/file with so many bytes, open, its cursor somewhere, and no room for more."""
+    handle = written(files, size=size)
+    files.seek(handle, size if at is None else at)
+    files.fill()
+    return handle
+
+
+def with_full_disk(act):
+    return lambda files: (files.fill(), act(files))
+
+
+FULL_TRIALS = {
+    "create, full disk": with_full_disk(lambda files: files.create("/new")),
+    "mkdir, full disk": with_full_disk(lambda files: files.mkdir("/new")),
+    "create of a file that is there, full disk": with_full_disk(lambda files: files.create("/file")),
+    "open, full disk": with_full_disk(lambda files: files.open("/file", BOTH)),
+    "remove, full disk": with_full_disk(lambda files: files.remove("/file")),
+    "rmdir, full disk": with_full_disk(lambda files: files.rmdir("/empty")),
+    "chmod, full disk": with_full_disk(lambda files: files.chmod("/file", 4)),
+    "readdir, full disk": with_full_disk(lambda files: files.readdir("/full")),
+    "stat, full disk": with_full_disk(lambda files: files.stat("/file")),
+    "read, full disk": lambda files: files.read(filled(files, at=0), 10),
+    "close, full disk": lambda files: files.close(filled(files)),
+    "write within the file, full disk": lambda files: files.write(filled(files, at=5), b"x" * 100),
+    "write over the end, full disk": lambda files: files.write(filled(files, at=TRANSFER - 10), b"x" * 20),
+    "write over the end twice, full disk": lambda files: over_the_end_twice(files),
+    "write at the end, full disk": lambda files: files.write(filled(files), b"x"),
+    "write of no bytes, full disk": lambda files: files.write(filled(files), b""),
+    "truncate to less, full disk": lambda files: files.truncate(filled(files), 10),
+    "truncate beyond the size, full disk": lambda files: files.truncate(filled(files), TRANSFER + 1),
+}
+
+
+def over_the_end_twice(files):
+    """A write that is done in part, and then the rest of it."""
+    handle = filled(files, at=TRANSFER - 10)
+    files.write(handle, b"x" * 20)
+    files.write(handle, b"x" * 10)
+
+
 BY_HANDLE = """
 trial                    | guard | machine | rule
 truncate, open to read   | 9     | 22      | a truncation needs right 2
@@ -184,6 +229,11 @@ map, 17 of them          | 12    | 0       | 16 maps live at most
 unmap, twice             | 22    | 0       | an unmap is of a map that lives
 unmap, within a map      | 22    | 0       | an unmap is of a whole map, by its first address
 unmap, address 0         | 22    | 0       | an unmap is of a map that lives
+"""
+
+ON_A_FULL_DISK = """
+trial                               | guard | machine | rule
+truncate beyond the size, full disk | 28    | 0       | a growing cut may be answered -28: the host takes the room at once
 """
 
 
@@ -215,6 +265,7 @@ def behind_the_guard(program, place, acts):
     driver.send("f")
 
     def renew():
+        driver.send("b 0")
         shutil.rmtree(place / "tree")
         (place / "table").unlink(missing_ok=True)
         build(planned := Planned())
@@ -225,15 +276,15 @@ def behind_the_guard(program, place, acts):
     return found
 
 
-def on_the_machine(place, acts):
-    """In a process whose root is the tree, that is nobody and has the guard's limits."""
+def on_the_machine(place, acts, is_small):
+    """In a process whose root is the tree, that is nobody and has the guard's limits; on a small disk, or on any."""
     place.mkdir()
     os.chown(place, NOBODY, NOBODY)
     reader, writer = os.pipe()
     child = os.fork()
     if child == 0:
         try:
-            become_nobody(place, writer)
+            become_nobody(place, writer, is_small)
             os.write(WRITER, bytes(errors(acts, renew_machine, Plain())))
         finally:
             os._exit(0)
@@ -247,7 +298,23 @@ def on_the_machine(place, acts):
 WRITER = 3
 
 
-def become_nobody(root, writer):
+def can_mount(place):
+    """Whether a small disk is to be had; tried in a process of its own, whose mounts nobody else sees."""
+    place.mkdir()
+    child = os.fork()
+    if child == 0:
+        try:
+            mount_small(place)
+        except OSError:
+            os._exit(1)
+        os._exit(0)
+    return os.waitpid(child, 0)[1] == 0
+
+
+def become_nobody(root, writer, is_small):
+    if is_small:
+        mount_small(root)
+        os.chown(root, NOBODY, NOBODY)
     os.dup2(writer, WRITER)
     os.closerange(WRITER + 1, 1024)
     resource.setrlimit(resource.RLIMIT_NOFILE, (WRITER + 1 + OPEN_FILES,) * 2)
@@ -294,16 +361,17 @@ def known_by_path():
     return known
 
 
-def known_by_handle():
-    return {trial: [int(guard), int(machine)] for trial, guard, machine, _ in rows(BY_HANDLE)[1:]}
+def known_by_handle(is_small):
+    known = rows(BY_HANDLE)[1:] + (rows(ON_A_FULL_DISK)[1:] if is_small else [])
+    return {trial: [int(guard), int(machine)] for trial, guard, machine, _ in known}
 
 
-def acts():
+def acts(is_small):
     """The name of each trial, what is done, and whether it may change the tree even where it ends in an error."""
     for call, act in CALLS.items():
         for kind, path in PATHS.items():
             yield (call, kind), partial(act, path=path), False
-    for trial, act in TRIALS.items():
+    for trial, act in {**TRIALS, **(FULL_TRIALS if is_small else {})}.items():
         yield trial, act, True
 
 
@@ -311,16 +379,19 @@ def main():
     program, place = sys.argv[1], Path(sys.argv[2])
     shutil.rmtree(place, ignore_errors=True)
     place.mkdir(parents=True)
-    all_acts = list(acts())
-    ours, theirs = behind_the_guard(program, place / "guarded", all_acts), on_the_machine(place / "plain", all_acts)
+    is_small = can_mount(place / "mounted")
+    all_acts = list(acts(is_small))
+    ours = behind_the_guard(program, place / "guarded", all_acts)
+    theirs = on_the_machine(place / "plain", all_acts, is_small)
     if len(theirs) != len(ours):
         raise Different("the machine's side is not to be had")
-    known = {**known_by_path(), **known_by_handle()}
+    known = {**known_by_path(), **known_by_handle(is_small)}
     differences = {name: numbers for (name, _, _), *numbers in zip(all_acts, ours, theirs) if numbers[0] != numbers[1]}
     for name in {**known, **differences}:
         if differences.get(name) != known.get(name):
             raise Different(f"{name}: guard and machine give {differences.get(name)}; the table has {known.get(name)}")
-    print(f"posix: {len(all_acts)} trials, {len(known)} differences, each by a rule of the guard")
+    full = f"{len(FULL_TRIALS)} of them on a full disk" if is_small else "none on a full disk, which only a mount gives"
+    print(f"posix: {len(all_acts)} trials, {full}, {len(known)} differences, each by a rule of the guard")
 
 
 if __name__ == "__main__":

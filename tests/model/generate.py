@@ -15,11 +15,11 @@ from .events import Call, Done, Load, Reply, Save
 from .image import LONGEST, write_image
 from .lies import OVER, WRONG
 from .longer import longer_steps
-from .recording import Recording
+from .recording import FULL_DISK, Recording
 from .rules import (
     ADDRESS, ANSWER, CHMOD, CLOSE, CREATE, DIRECTORY, FILE, MAP, MAX_COUNT, MAX_MAP, MAX_MAPS, MAX_MODE, MAX_NAME,
-    MAX_NODES, MAX_OPEN, MAX_PATH, MAX_SIZE, MKDIR, OPEN, PAGE, READ, READDIR, READ_RIGHT, REMOVE, REQUEST, RMDIR,
-    SEEK, SPACE, STAT, TRUNCATE, UNIT, UNMAP, WRITE, WRITE_RIGHT, unsigned,
+    MAX_NODES, MAX_OPEN, MAX_PATH, MAX_SIZE, MKDIR, NO_SPACE, OPEN, PAGE, READ, READDIR, READ_RIGHT, REMOVE, REQUEST,
+    RMDIR, SEEK, SPACE, STAT, TRUNCATE, UNIT, UNMAP, WRITE, WRITE_RIGHT, Node, put, unsigned,
 )
 from .tree import digest
 
@@ -58,9 +58,16 @@ def generate_mapping(seed, length=50):
     return MappingGenerator(Random(seed)).run(length)
 
 
+def generate_filling(seed, length=50):
+    """A list with a disk that is often full."""
+    return FillingGenerator(Random(seed)).run(length)
+
+
 def generate_for_desk(seed, length=50):
-    """The same with calls and replies alone, and buffers that are long enough; every fourth is of maps."""
-    return (MappingGenerator if seed % 4 == 3 else Generator)(Random(seed), desk=True).run(length)
+    """The same with calls and replies alone, and buffers that are long enough; of four, one is of maps and one of a
+    full disk.
+    """
+    return DESK_GENERATORS.get(seed % 4, Generator)(Random(seed), desk=True).run(length)
 
 
 class Generator:
@@ -413,6 +420,78 @@ class MappingGenerator(Generator):
         return self.pick(*self.ended, *others) % SPACE
 
 
+class FillingGenerator(Generator):
+    """The disk is full now and then, for a new node, a write's page or a growth. A host that lies has done what was
+    asked, or says it where no call may end so, or at another width.
+    """
+
+    def __init__(self, random, desk=False):
+        super().__init__(random, desk)
+        self.full = self.pick(0.1, 0.3, 0.6)
+        self.lean([CREATE, MKDIR, *[WRITE] * 5, TRUNCATE, TRUNCATE, READ, READ, SEEK, STAT])
+        self.lies_about = self.pick(*(kind for kind in WRONG if kind in self.makers), *[CREATE, WRITE, TRUNCATE] * 3)
+        self.is_patient = self.lies_about in (WRITE, TRUNCATE) and self.chance(0.5)  # no lie where a call may end so
+        self.weights[self.lies_about] += 20 * self.lie
+        self.weights[TRUNCATE] += 10 * self.is_patient
+        self.images /= 2
+        self.recording.host.strange_ids = [0xFFFF_FFE5, 0xFFFF_FFE3, 0x7FFF_FFE4, 0xE4FF_FFFF, 0xE4]
+
+    def all_makers(self):
+        return {**MAKERS, **FILLING_MAKERS}
+
+    def start(self):
+        self.pick(*[self.make_files] * 5, self.stay_fresh, self.enter_world, self.enter_taken)()
+
+    def enter_taken(self):
+        """A tree with a node whose id has the bytes of a full disk."""
+        kind, size = self.pick((FILE, 0), (FILE, PAGE + 5), (DIRECTORY, 0))
+        nodes = [*files(3, PAGE), Node(unsigned(FULL_DISK), 1, kind, 7, size, b"a")]
+        self.enter(nodes, 1 if kind == FILE else 0, [STAT, READDIR, CLOSE, REMOVE, RMDIR])
+
+    def reply(self):
+        if not self.guard.pending and self.chance(0.5):
+            self.recording.send(Reply(FULL_DISK, *self.buffers()))
+        elif self.guard.pending and self.recording.may_be_full() and self.chance(self.full):
+            self.recording.has_obeyed = self.has_obeyed()
+            self.recording.send(Reply(FULL_DISK, *self.buffers()))
+        elif self.guard.pending and self.recording.may_be_full() and self.is_patient:
+            self.recording.send(Reply(self.recording.truth, *self.buffers()))
+        else:
+            super().reply()
+
+    def has_obeyed(self):
+        return self.chance(self.lie / 2)
+
+    def wrong_reply(self):
+        """Mostly a full disk: where that stops the guard, at a width that no reply has, by a number beside it."""
+        if self.chance(0.2):
+            return super().wrong_reply()
+        widths = [put(NO_SPACE, width) for width in (1, 2, 3, 5, 8)]
+        others = [FULL_DISK + bytes(4), *(put(status, 4) for status in (NO_SPACE + 1, NO_SPACE - 1, -NO_SPACE))]
+        wrong = widths if self.lies_about in (CREATE, MKDIR) else [*widths, *others]
+        return self.pick(*wrong) if self.recording.may_be_full() or self.chance(0.2) else FULL_DISK
+
+    def longer_write_call(self, kind):
+        """Mostly over several pages, some of them there already."""
+        if self.chance(0.3):
+            return self.write_call(kind)
+        handle = self.handle()
+        if self.chance(0.4):
+            self.recording.call(calls.seek(handle, self.place(handle)))
+        longest = min(MAX_COUNT, MAX_SIZE - self.cursor(handle))
+        length = self.pick(2 * PAGE, 3 * PAGE, 3 * PAGE + 7, MAX_COUNT, self.random.randrange(PAGE, MAX_COUNT))
+        return calls.write(handle, self.random.randbytes(min(length, longest)))
+
+    def growth_call(self, kind):
+        """Growths mostly, and cuts within a page, which store."""
+        handle = self.handle()
+        return calls.truncate(handle, self.longer_size(handle) if self.chance(0.6) else self.place(handle))
+
+    def small_map_call(self, kind):
+        return calls.map_(UNIT)
+
+
+DESK_GENERATORS = {1: FillingGenerator, 3: MappingGenerator}
 MAKERS = {
     CREATE: Generator.mode_call, MKDIR: Generator.mode_call, OPEN: Generator.open_call, CLOSE: Generator.close_call,
     SEEK: Generator.seek_call, READ: Generator.read_call, WRITE: Generator.write_call,
@@ -420,6 +499,10 @@ MAKERS = {
     CHMOD: Generator.mode_call, READDIR: Generator.path_call, STAT: Generator.path_call,
 }
 MAP_MAKERS = {MAP: MappingGenerator.map_call, UNMAP: MappingGenerator.unmap_call}
+FILLING_MAKERS = {
+    WRITE: FillingGenerator.longer_write_call, TRUNCATE: FillingGenerator.growth_call,
+    MAP: FillingGenerator.small_map_call,
+}
 BY_HANDLE = (CLOSE, SEEK, READ, WRITE, TRUNCATE)
 
 

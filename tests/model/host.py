@@ -1,4 +1,5 @@
-"""An honest host: it holds the reference tree itself, obeys every request, never fails and replies truly.
+"""An honest host: it holds the reference tree itself, obeys every request and replies truly. Its disk may be full for
+a new node, a write's page or a growth: that is its reply then, and `undo` leaves everything as it was.
 
 It is written apart from the machine, over directories of named entries and the bytes of files. What the requirements
 leave to a host, it chooses by the random numbers it is given: a new id, a descriptor, the order of a listing, a map's
@@ -9,7 +10,7 @@ from copy import deepcopy
 from dataclasses import dataclass, field
 
 from . import rules
-from .rules import ADDRESS, DIRECTORY, FILE, ID, MAX_DESCRIPTOR, PAGE, SPACE, UNIT, put, unsigned
+from .rules import ADDRESS, DIRECTORY, FILE, ID, MAX_DESCRIPTOR, NO_SPACE, PAGE, SPACE, UNIT, put, unsigned
 
 
 @dataclass
@@ -38,13 +39,22 @@ def zero_tree(nodes):
     return entries[nodes[0].id]
 
 
+def going_back(file):
+    """What gives a file its bytes of now again."""
+    data = bytearray(file.data)
+    return lambda: setattr(file, "data", data)
+
+
 class Host:
+    strange_ids = [0xFFFF_FFFF, 0xFFFF_FFE5, 0x0100_0000]
+
     def __init__(self, random):
         self.random = random
         self.root = Entry(id=1, kind=DIRECTORY, mode=7)
         self.open_files = {}
         self.maps = {}
         self.saves = {}
+        self.undo = None  # takes back a request that may find the disk full
 
     def reply(self, request):
         """Obeys a request and gives the true reply."""
@@ -76,9 +86,9 @@ class Host:
     def new_id(self):
         held = {entry.id for entry in self.root.everything()}
         usual = next(id for id in range(2, len(held) + 2) if id not in held)
-        unusual = [0xFFFF_FFFF, 0xFFFF_FFE4, 0x0100_0000, self.random.randrange(1, 1 << 8 * ID)]
+        unusual = [*self.strange_ids, self.random.randrange(1, 1 << 8 * ID)]
         id = self.random.choice(unusual) if self.random.random() < 0.2 else usual
-        return usual if id in held else id
+        return usual if id in held or put(id, ID) == put(NO_SPACE, ID) else id
 
     def new_descriptor(self):
         free = [descriptor for descriptor in range(MAX_DESCRIPTOR + 1) if descriptor not in self.open_files]
@@ -106,6 +116,7 @@ class Host:
         directory, name = self.split(fields[1:])
         entry = Entry(self.new_id(), kind, mode=fields[0])
         directory.entries[name] = entry
+        self.undo = lambda: directory.entries.pop(name)
         return put(entry.id, ID)
 
     def create(self, fields):
@@ -129,12 +140,14 @@ class Host:
     def store(self, fields):
         descriptor, page, size = (unsigned(fields[at : at + 4]) for at in (0, 4, 8))
         file = self.open_files[descriptor]
+        self.undo = going_back(file)
         file.data[page * PAGE : (page + 1) * PAGE] = fields[12:]
         file.data = file.data[:size]
         return put(PAGE, 4)
 
     def cut(self, fields):
         file, size = self.open_files[unsigned(fields[:4])], unsigned(fields[4:])
+        self.undo = going_back(file)
         file.data = file.data[:size].ljust(size, b"\0")
         return put(0, 4)
 

@@ -7,7 +7,7 @@ wrong for certain: a guard must stop.
 
 from . import rules
 from .host import Host
-from .rules import ADDRESS, DIRECTORY, FILE, ID, MAX_DESCRIPTOR, PAGE, SPACE, UNIT, put, unsigned
+from .rules import ADDRESS, DIRECTORY, FILE, ID, MAX_DESCRIPTOR, NO_SPACE, PAGE, SPACE, UNIT, put, unsigned
 
 OVER = "over the map"  # so begin the names of lies about a map that lives
 
@@ -18,8 +18,10 @@ class LyingHost(Host):
         self.old_pages = []
         self.old_sizes = {}
         self.old_replies = []
+        self.may_be_full = False  # whether the request may find the disk full; who knows the call knows it better
 
     def reply(self, request):
+        self.may_be_full = False
         truth = super().reply(request)
         self.old_replies = [truth, *self.old_replies[:2]]
         return truth
@@ -27,12 +29,14 @@ class LyingHost(Host):
     def store(self, fields):
         descriptor, page = unsigned(fields[:4]), unsigned(fields[4:8])
         self.remember(self.open_files[descriptor], [page])
+        self.may_be_full = True
         return super().store(fields)
 
     def cut(self, fields):
         file, size = self.open_files[unsigned(fields[:4])], unsigned(fields[4:])
         self.remember(file, range(rules.pages_of(size), rules.pages_of(len(file.data))))
         self.old_sizes[file.id] = len(file.data)
+        self.may_be_full = size > len(file.data)
         return super().cut(fields)
 
     def remember(self, file, pages):
@@ -84,7 +88,9 @@ def wrong_descriptors(host, request, truth):
 
 
 def wrong_statuses(host, request, truth):
-    for status in (0, 1, -1, -2, -28, PAGE, PAGE - 1, 2 * PAGE, -PAGE, 2**31 - 1, -(2**31), 256, 1 << 16, 1 << 24):
+    """That the disk is full is wrong only where no call may end so; else the number below."""
+    full = NO_SPACE - 1 if host.may_be_full else NO_SPACE
+    for status in (0, 1, -1, -2, full, PAGE, PAGE - 1, 2 * PAGE, -PAGE, 2**31 - 1, -(2**31), 256, 1 << 16, 1 << 24):
         yield f"status {status}", put(status, 4)
 
 

@@ -14,11 +14,12 @@ import tempfile
 from pathlib import Path
 
 from . import events
-from .generate import generate, generate_growing, generate_longer, generate_mapping
+from .generate import generate, generate_filling, generate_growing, generate_longer, generate_mapping
 
 PACKAGE = Path(__file__).parent
 COPIED = ["__init__", "events", "rules", "image", "tree", "desk"]
 SEEDS = range(1400)
+FILLING_SEEDS = range(1400, 2200)
 
 
 def replaced(place, text, instead):
@@ -79,9 +80,39 @@ def looked_at(condition):
     return replaced("tree.ask_map", "reply[ADDRESS:] != bytes(length)", condition)
 
 
+IS_FULL = "rules.signed(reply) == NO_SPACE"
+SAID_FULL = "reply == rules.put(NO_SPACE, 4)"
+SO_FAR = "end if end == start + len(call.data) else"
+
+
+def full_elsewhere(call, request):
+    """A call ends with a full disk where it must stop."""
+    asked = f"self.ask_status({request})"
+    return replaced(f"tree.{call}", f"yield from {asked}", f"refuse(28, (yield from {asked[:-1]}, may_be_full=True)))")
+
+
+def full_in(place, width):
+    """A full disk is also said in another number of bytes."""
+    right = {"tree.ask_id": "len(reply) != ID", "tree.ask_status": "len(reply) != 4"}[place]
+    where = {"tree.ask_id": "", "tree.ask_status": "may_be_full and "}[place]
+    return replaced(place, right, f"{right} and not ({where}reply == rules.put(NO_SPACE, {width}))")
+
+
+def taken_as_full(place, condition):
+    """What is taken for a full disk."""
+    return replaced(place, IS_FULL, condition)
+
+
+def ended_by_full(change):
+    """What else a full disk does that refuses a call."""
+    lines = f"except Refusal:\n            {change}\n            raise"
+    return added("tree.advance", "except Stop as wrong", lines)
+
+
 IF_GROWN = "if call.size > node.size"
-GROWN_WITHOUT = """reply = yield rules.cut_request(file.descriptor, call.size)
-            if call.size > node.size:
+GROWN_ASKED = "refuse(28, (yield from self.ask_status(request, may_be_full=grows)))"
+GROWN_WITHOUT = """reply = yield request
+            if grows:
                 {}
             else:
                 stop(1, len(reply) != 4)
@@ -304,16 +335,16 @@ MUTATIONS = {
         "refuse(9, not file.rights & READ_RIGHT)\n                data = yield from",
     ),
     "a write leaves the cursor": dropped("tree.write", "file.cursor = end"),
-    "a write is done with the new size": replaced("tree.write", "return Done(len(call.data))", "return Done(size)"),
+    "a write is done with the new size": replaced("tree.write", "return Done(end - start)", "return Done(node.size)"),
     "a write may pass 65,536": replaced("tree.write", "end > MAX_SIZE", "end > MAX_SIZE + 1"),
     "a write may not reach 65,536": replaced("tree.write", "end > MAX_SIZE", "end >= MAX_SIZE"),
-    "27 and 28 exchanged": delayed("tree.write", "refuse(27", "refuse(28"),
+    "27 and 28 exchanged": delayed("tree.write", "refuse(27", "refuse(28, self.pages"),
     "1,025 pages": replaced("tree.write", "> MAX_PAGES", "> MAX_PAGES + 1"),
     "1,023 pages": replaced("tree.write", "> MAX_PAGES", ">= MAX_PAGES"),
     "28 counts the file's pages twice": replaced("tree.pages_with", " - pages_of(node.size)", ""),
     "28 counts each page written as new": replaced(
         "tree.write",
-        "self.pages_with(node, size)",
+        "self.pages_with(node, max(node.size, end))",
         "self.page_total() + len(pages_between(start, end))",
     ),
     "a write fetches every page": replaced(
@@ -328,7 +359,7 @@ MUTATIONS = {
         "(page + 1) * PAGE <= end",
     ),
     "a write forgets what it fetched": replaced("tree.write", "rules.overlay(data,", "rules.overlay(bytes(PAGE),"),
-    "a store sends the size at the end": replaced("tree.write", "max(node.size, written_so_far)", "size"),
+    "a store sends the size at the end": replaced("tree.write", "node.size, written_so_far", "node.size, end"),
     "a store sends the end of the bytes": replaced("tree.write", "max(node.size, written_so_far)", "written_so_far"),
     "a store sends the old size": replaced("tree.write", "max(node.size, written_so_far)", "node.size"),
     "a store sends a size of at most 65,535": replaced(
@@ -355,7 +386,11 @@ MUTATIONS = {
         "stored.append",
         "node.pages[page : page + 1] = [self.store.keep(data)]",
     ),
-    "a write cuts the file": replaced("tree.write", "max(node.size, end)", "end if call.data else node.size"),
+    "a write cuts the file": replaced(
+        "tree.write",
+        "node.size = max(node.size, end)",
+        "node.size = end if call.data else node.size",
+    ),
     "truncate through a read-only handle": replaced("tree.truncate", ", WRITE_RIGHT", ""),
     "truncation's store with the new size": replaced("tree.truncate", "page, node.size, data", "page, call.size, data"),
     "truncation stores no zeros": replaced("tree.truncate", "bytes(PAGE - inside)", "data[inside:]"),
@@ -381,8 +416,8 @@ MUTATIONS = {
         "call = replace(call, size=call.size % 2**32)",
     ),
     "27 before 9": added("tree.truncate", "self.opened", "refuse(27, call.size > MAX_SIZE)"),
-    "28 before 27 at truncate": delayed("tree.truncate", "refuse(27", "refuse(28"),
-    "truncation never refused 28": dropped("tree.truncate", "refuse(28"),
+    "28 before 27 at truncate": delayed("tree.truncate", "refuse(27", "refuse(28, self.pages"),
+    "truncation never refused 28": dropped("tree.truncate", "refuse(28, self.pages"),
     "28 by the size of before a truncation": replaced("tree.truncate", "(node, call.size)", "(node, node.size)"),
     "truncation to 1,025 pages": replaced("tree.truncate", "> MAX_PAGES", "> MAX_PAGES + 1"),
     "no truncation to 1,024 pages": replaced("tree.truncate", "> MAX_PAGES", ">= MAX_PAGES"),
@@ -435,12 +470,12 @@ MUTATIONS = {
     "a cut sends two bytes of the size": replaced("rules.cut_request", "put(size, 4)", "put(size % 2**16, 4)"),
     "a growth takes any status": replaced(
         "tree.truncate",
-        "yield from self.ask_status(rules.cut_request(file.descriptor, call.size))",
+        GROWN_ASKED,
         GROWN_WITHOUT.format("stop(1, len(reply) != 4)"),
     ),
     "a growth takes a status of any length": replaced(
         "tree.truncate",
-        "yield from self.ask_status(rules.cut_request(file.descriptor, call.size))",
+        GROWN_ASKED,
         GROWN_WITHOUT.format("stop(2, rules.signed(reply[:4]) != 0)"),
     ),
     "a growth changes the tables before its reply": added(
@@ -599,12 +634,234 @@ MUTATIONS = {
     "a load ends every map": added("tree.on_load", "return Done", "self.maps.clear()"),
     "an image with maps": replaced("tree.on_save", "= write_image", "= bytes(len(self.maps)) + write_image"),
     "a stop ends every map": added("tree.advance", "self.stopped = True", "self.maps.clear()"),
+    # a full disk
+    "a full disk is an id": dropped("tree.ask_id", "refuse(28"),
+    "a full disk behind the id's rules": delayed("tree.ask_id", "refuse(28", "stop(3"),
+    "a full disk before an id's length": delayed("tree.ask_id", "stop(1", "refuse(28"),
+    "a full disk stops a create": replaced("tree.ask_id", "refuse(28", "stop(2"),
+    "a full disk is a wrong id": replaced("tree.ask_id", "refuse(28", "stop(3"),
+    "a create is refused 12": replaced("tree.ask_id", "refuse(28", "refuse(12"),
+    "no mkdir ends with a full disk": taken_as_full("tree.ask_id", f"request[0] == rules.CREATE and {IS_FULL}"),
+    "no create ends with a full disk": taken_as_full("tree.ask_id", f"request[0] == rules.MKDIR and {IS_FULL}"),
+    "each negative id is a full disk": taken_as_full("tree.ask_id", "rules.signed(reply) < 0"),
+    "an id of -27 is a full disk": taken_as_full("tree.ask_id", "rules.signed(reply) in (NO_SPACE, NO_SPACE + 1)"),
+    "a full disk is read from an id's low half": taken_as_full("tree.ask_id", "rules.signed(reply[:2]) == NO_SPACE"),
+    "a full disk makes the node": replaced(
+        "tree.ask_id",
+        f"refuse(28, {IS_FULL})",
+        f"if {IS_FULL}: return 0xFFFF_FFE4",
+    ),
+    "a create is refused with its node made": replaced(
+        "tree.create",
+        "id = yield from self.ask_id(call.raw)",
+        """try:
+            id = yield from self.ask_id(call.raw)
+        except Refusal:
+            self.nodes.append(Node(9999, parent.id, FILE, call.mode, size=0, name=call.names[-1]))
+            raise""",
+    ),
+    **{f"an id's full disk in {width} bytes": full_in("tree.ask_id", width) for width in (1, 2, 3, 5, 8)},
+    "a load brings no such id": added(
+        "tree.on_load",
+        "self.nodes =",
+        "refuse(84, any(node.id == 0xFFFF_FFE4 for node in nodes))",
+    ),
+    "such an id is no handle": added("tree.opened", "refuse(9", "refuse(9, handle == 0xFFFF_FFE4)"),
+    "such an id is never removed": replaced(
+        "tree.remove",
+        "self.nodes.remove(node)",
+        "self.nodes = [other for other in self.nodes if other is not node or node.id == 0xFFFF_FFE4]",
+    ),
+    "a full disk leaves the request": ended_by_full("self.pending = call if reply is not None else None"),
+    "a full disk stops behind its refusal": ended_by_full("self.stopped = reply is not None"),
+    "a full disk closes the files": ended_by_full("self.open_files = self.open_files if reply is None else {}"),
+    "a write done in part leaves the request": replaced(
+        "tree.advance",
+        "return end.value",
+        f"self.pending = call if {SAID_FULL} else None\n            return end.value",
+    ),
+    "a write done in part stops": replaced(
+        "tree.advance",
+        "return end.value",
+        f"self.stopped = {SAID_FULL}\n            return end.value",
+    ),
+    "a write done in part names all bytes": replaced("tree.write", "Done(end - start)", "Done(len(call.data))"),
+    "a write done in part names its pages' bytes": replaced(
+        "tree.write",
+        "Done(end - start)",
+        "Done(end - start if end == start + len(call.data) else len(stored) * PAGE)",
+    ),
+    "a write done in part names the end": replaced(
+        "tree.write",
+        "Done(end - start)",
+        "Done(end - start if end == start + len(call.data) else end)",
+    ),
+    "a write done in part puts the cursor at its end": replaced(
+        "tree.write",
+        "file.cursor = end",
+        "file.cursor = start + len(call.data)",
+    ),
+    "a write done in part leaves the cursor": replaced(
+        "tree.write",
+        "file.cursor = end",
+        f"file.cursor = {SO_FAR} start",
+    ),
+    "a write done in part leaves the size": replaced(
+        "tree.write",
+        "node.size = max(node.size, end)",
+        f"node.size = max(node.size, {SO_FAR} 0)",
+    ),
+    "a write done in part has its whole size": replaced(
+        "tree.write",
+        "node.size = max(node.size, end)",
+        "node.size = max(node.size, start + len(call.data))",
+    ),
+    "a write done in part cuts the file": replaced(
+        "tree.write",
+        "node.size = max(node.size, end)",
+        "node.size = max(node.size, end) if end == start + len(call.data) else end",
+    ),
+    "a write done in part keeps the page that found no room": replaced(
+        "tree.write",
+        "end = page * PAGE ",
+        "stored.append(self.store.keep(data))\n                end = page * PAGE ",
+    ),
+    "a write done in part keeps no page": replaced(
+        "tree.write",
+        "end = page * PAGE ",
+        "stored = []\n                end = page * PAGE ",
+    ),
+    "a write done in part keeps its first page alone": replaced(
+        "tree.write",
+        "end = page * PAGE ",
+        "stored = stored[:1]\n                end = page * PAGE ",
+    ),
+    "a write done in part counts the page that found no room": replaced(
+        "tree.write",
+        "end = page * PAGE ",
+        "stored.append(self.store.keep(data))\n                end = written_so_far ",
+    ),
+    "a write with pages finished is refused": replaced("tree.write", "refuse(28, not stored)", "refuse(28, True)"),
+    "a write with one page finished is refused": replaced("tree.write", "not stored", "len(stored) < 2"),
+    "a write with no page finished is done": replaced(
+        "tree.write",
+        "refuse(28, not stored)",
+        "if not stored: return Done(0)",
+    ),
+    "a page that was fetched is finished": replaced(
+        "tree.write",
+        "refuse(28, not stored)",
+        "refuse(28, not stored and rules.is_overwritten(page, node.size, start, end))",
+    ),
+    "a write with no page finished is 27": replaced("tree.write", "refuse(28, not stored)", "refuse(27, not stored)"),
+    "a refused write keeps its page": replaced(
+        "tree.write",
+        "refuse(28, not stored)",
+        "node.pages[page : page + 1] = [self.store.keep(data)] if page < len(node.pages) else []\n"
+        "                refuse(28, not stored)",
+    ),
+    "a refused write moves the cursor": replaced(
+        "tree.write",
+        "refuse(28, not stored)",
+        "file.cursor = file.cursor if stored else 0\n                refuse(28, not stored)",
+    ),
+    "a full disk stops each write": replaced("tree.write", "may_be_full=True", "may_be_full=False"),
+    "a full disk stops at the first page": replaced("tree.write", "may_be_full=True", "may_be_full=bool(stored)"),
+    "a full disk stops behind the first page": replaced("tree.write", "may_be_full=True", "may_be_full=not stored"),
+    "a full disk stops where the file does not grow": replaced(
+        "tree.write",
+        "may_be_full=True",
+        "may_be_full=size > node.size",
+    ),
+    "a full disk stops at a page that is there": replaced(
+        "tree.write",
+        "may_be_full=True",
+        "may_be_full=page >= len(node.pages)",
+    ),
+    "a full disk stops behind a fetch": replaced(
+        "tree.write",
+        "may_be_full=True",
+        "may_be_full=rules.is_overwritten(page, node.size, start, end)",
+    ),
+    "a full disk stops a growth": replaced("tree.truncate", "may_be_full=grows", "may_be_full=False"),
+    "a full disk stops a growth within a page": replaced(
+        "tree.truncate",
+        "may_be_full=grows",
+        "may_be_full=pages_of(call.size) > len(node.pages)",
+    ),
+    "a full disk stops a growth by pages": replaced(
+        "tree.truncate",
+        "may_be_full=grows",
+        "may_be_full=grows and pages_of(call.size) == len(node.pages)",
+    ),
+    "a full disk ends a shrinking cut": replaced("tree.truncate", "may_be_full=grows", "may_be_full=True"),
+    "a full disk ends a truncation's store": replaced(
+        "tree.truncate",
+        "yield from self.store_page(file, page, node.size, data)",
+        "refuse(28, (yield from self.store_page(file, page, node.size, data, may_be_full=True)))",
+    ),
+    "a growth that finds no room goes on": replaced("tree.truncate", GROWN_ASKED, GROWN_ASKED[len("refuse(28, ") : -1]),
+    "a growth that finds no room is done": replaced(
+        "tree.truncate",
+        GROWN_ASKED,
+        f"if {GROWN_ASKED[len('refuse(28, ') : -1]}: return Done(0)",
+    ),
+    "a growth that finds no room is 27": replaced("tree.truncate", "refuse(28, (yield", "refuse(27, (yield"),
+    "a refused growth moves the cursor": replaced(
+        "tree.truncate",
+        GROWN_ASKED,
+        f"found = {GROWN_ASKED[len('refuse(28, ') : -1]}\n"
+        "            file.cursor = node.size if found else file.cursor\n            refuse(28, found)",
+    ),
+    **{f"a status's full disk in {width} bytes": full_in("tree.ask_status", width) for width in (1, 2, 3, 5, 8)},
+    "a full disk of a wrong width is 2": added(
+        "tree.ask_status",
+        "stop(1",
+        f"stop(2, len(reply) != 4 and {IS_FULL})",
+    ),
+    "every negative status is a full disk": taken_as_full("tree.ask_status", "rules.signed(reply) < 0"),
+    "-27 is a full disk": taken_as_full("tree.ask_status", "rules.signed(reply) in (NO_SPACE, NO_SPACE + 1)"),
+    "-29 is a full disk": taken_as_full("tree.ask_status", "rules.signed(reply) in (NO_SPACE, NO_SPACE - 1)"),
+    "28 is a full disk": taken_as_full("tree.ask_status", "abs(rules.signed(reply)) == -NO_SPACE"),
+    "a full disk ends a close": full_elsewhere("close", "rules.close_request(file.descriptor)"),
+    "a full disk ends a remove": full_elsewhere("remove", "call.raw"),
+    "a full disk ends a rmdir": full_elsewhere("rmdir", "call.raw"),
+    "a full disk ends a chmod": full_elsewhere("chmod", "call.raw"),
+    "a full disk ends an unmap": full_elsewhere("unmap", "call.raw"),
+    "a full disk ends an open": added("tree.ask_descriptor", "stop(4, not", "refuse(28, descriptor == NO_SPACE)"),
+    "a full disk is 2 to an open": added("tree.ask_descriptor", "stop(4, not", "stop(2, descriptor == NO_SPACE)"),
+    "a full disk ends a fetch": added("tree.fetch", "stop(1", f"refuse(28, {SAID_FULL})"),
+    "a full disk is 2 to a fetch": added("tree.fetch", "stop(1", f"stop(2, {SAID_FULL})"),
+    "a full disk ends a map": added("tree.ask_map", "stop(1", f"refuse(28, {SAID_FULL})"),
+    "a full disk ends a stat": added("tree.stat", "stop(1", f"refuse(28, {SAID_FULL})"),
+    "a full disk ends a readdir": added("tree.readdir", "entries =", f"refuse(28, {SAID_FULL})"),
+    "a full disk is 1 to a readdir": added("tree.readdir", "entries =", f"stop(1, {SAID_FULL})"),
+    "a full disk before 34": added(
+        "tree.on_reply",
+        "refuse(34",
+        "if event.data == rules.put(NO_SPACE, 4): return self.advance(self.pending, event.data)",
+    ),
+    "a full disk refused 34 drops the request": added(
+        "tree.on_reply",
+        "refuse(34",
+        "self.pending = self.pending if event.answer_len or event.data != rules.put(NO_SPACE, 4) else None",
+    ),
+    "a full disk before 61": added(
+        "tree.on_reply",
+        "refuse(61",
+        "refuse(28, self.pending is None and event.data == rules.put(NO_SPACE, 4))",
+    ),
+    "a full disk before 5": added(
+        "tree.on_reply",
+        "refuse(5",
+        "refuse(28, self.stopped and event.data == rules.put(NO_SPACE, 4))",
+    ),
     # replies
     "a status of another length": dropped("tree.ask_status", "stop(1"),
     "2 before 1": delayed("tree.ask_status", "stop(1", "stop(2"),
     "a status is unsigned": replaced("tree.ask_status", "!= expected", "> expected"),
     "any status but a negative one": replaced("tree.ask_status", "!= expected", "< 0"),
-    "a store's status is 0": replaced("tree.store_page", "expected=PAGE", "expected=0"),
+    "a store's status is 0": replaced("tree.store_page", "PAGE, may_be_full", "0, may_be_full"),
     "an id of another length": dropped("tree.ask_id", "stop(1"),
     "id 0": replaced("tree.ask_id", "id == 0 or ", ""),
     "a held id": replaced("tree.ask_id", "node.id == id for", "id == 1 for"),
@@ -779,10 +1036,11 @@ def differs(make_guard, recording):
 
 def lists():
     """The lists that must tell every mutation, by seed; of seven, one in longer buffers, one of growing files, two of
-    maps.
+    maps; then those of a full disk.
     """
     makers = [generate_longer, generate_growing, generate_mapping, generate_mapping, generate, generate, generate]
-    return [(seed, makers[seed % len(makers)](seed)) for seed in SEEDS]
+    made = [(seed, makers[seed % len(makers)](seed)) for seed in SEEDS]
+    return made + [(seed, generate_filling(seed)) for seed in FILLING_SEEDS]
 
 
 def caught_by(name, recordings):

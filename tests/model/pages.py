@@ -284,7 +284,7 @@ def nothing_sent(s):
 
 def ids(s):
     """Every id but 0 and those held is good, also that of a removed node."""
-    for id in (2, 0xFFFF_FFFF, 0xFFFF_FFE4, 0x8000_0000):
+    for id in (2, 0xFFFF_FFFF, 0xFFFF_FFE5, 0x8000_0000):
         s.expect("ask", calls.mkdir(7, b"/%d" % id))
         s.expect(f"done {id}", Reply(put(id, 4)))
     s.expect_end("done 0", calls.rmdir(b"/4294967295"))

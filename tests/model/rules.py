@@ -32,6 +32,7 @@ MAX_COUNT = 4096
 
 # SPECIFICATION 5, 6.2
 MAX_DESCRIPTOR = 1023
+NO_SPACE = -28  # the status of a full disk
 ANSWER = (MAX_NODES - 1) * (ID + 1 + 1 + MAX_NAME)  # the longest listing: 9,690
 REQUEST = 1 + 4 + 4 + 4 + PAGE  # a store: 1,037
 REPLY = ADDRESS + MAX_MAP  # the longest right reply: that to the largest map, 65,544

@@ -7,19 +7,21 @@ from random import Random
 
 from . import calls
 from .edges import image, sample
-from .events import Call, Done, Load, Refused, Save, Stopped
-from .generate import Generator, GrowingGenerator, MappingGenerator
-from .rules import MAX_MAPS, SPACE, UNIT, unsigned
+from .events import Call, Done, Load, Refused, Reply, Save, Stopped
+from .full import full_lists, neighbour_lists
+from .generate import FillingGenerator, Generator, GrowingGenerator, MappingGenerator
+from .recording import FULL_DISK
+from .rules import DIRECTORY, MAX_COUNT, MAX_MAPS, SPACE, UNIT, unsigned
 from .script import Script, load_of
 from .transcripts import SCRIPTS
 from .tree import guard, tree
 
-SEEDS = range(10_000, 10_150)
+SEEDS = range(10_000, 10_200)
 
 
 def generator(seed):
-    """In turn of all calls of files, of growing files, of maps."""
-    return (Generator, GrowingGenerator, MappingGenerator)[seed % 3](Random(seed))
+    """In turn of all calls of files, of growing files, of maps, of a full disk."""
+    return (Generator, GrowingGenerator, MappingGenerator, FillingGenerator)[seed % 4](Random(seed))
 
 
 def of_saves(steps):
@@ -70,6 +72,52 @@ class Agreement(unittest.TestCase):
                 recording = Script()
                 script(recording)
                 self.agree(of_saves(recording.steps))
+
+    def test_full_disk(self):
+        """At every request, at every width."""
+        for name, recording in (*full_lists(), *neighbour_lists()):
+            with self.subTest(name):
+                self.agree(recording.events)
+
+    def test_full_disk_leaves_host_and_guard_alike(self):
+        """After an honest list a call of each file and directory shows what the host has; nothing stops."""
+        ended = 0
+        for seed in SEEDS:
+            honest = FillingGenerator(Random(seed))
+            honest.lie = 0
+            recording = honest.run(80)
+            ended += sum(event == Reply(FULL_DISK) and outcome != Refused(61) for event, outcome in recording.steps)
+            recording.finish() if recording.guard.pending else None
+            self.assertFalse(recording.guard.stopped, seed)
+            self.see_all(honest, recording)
+        self.assertGreaterEqual(ended, 500)
+
+    def see_all(self, made, recording):
+        """Every node's stat and every file's bytes, asked of the host."""
+        for handle in list(recording.guard.open_files):
+            recording.do(calls.close(handle))
+        for path in [made.path_of(node) for node in recording.guard.nodes]:
+            recording.do(calls.chmod(7, path))
+        for node in recording.guard.nodes:
+            path = made.path_of(node)
+            self.assertIsInstance(recording.do(calls.stat(path)), Done)
+            if node.kind == DIRECTORY:
+                self.assertIsInstance(recording.do(calls.readdir(path)), Done)
+                continue
+            recording.do(calls.open_(1, path))
+            for _ in range(0, node.size, MAX_COUNT):
+                self.assertIsInstance(recording.do(calls.read(node.id, MAX_COUNT)), Done)
+            recording.do(calls.close(node.id))
+
+    def test_a_full_disk_that_was_none_is_seen(self):
+        """A host that has obeyed and says that it could not is stopped by what it has too much."""
+        stops = 0
+        for seed in SEEDS:
+            lying = FillingGenerator(Random(seed))
+            lying.lie = 0
+            lying.has_obeyed = lambda: True
+            stops += any(isinstance(outcome, Stopped) for _, outcome in lying.run(80).steps)
+        self.assertGreaterEqual(stops, 20)
 
     def test_honest_host_never_stops(self):
         for seed in SEEDS:

@@ -55,6 +55,12 @@ class Desk(unittest.TestCase):
         answers = ["ask 0e00200000", "done 4096", "ask 0f0010000000000000", "done 0"]
         self.assertEqual(desk.answers(map(str.encode, lines)), answers)
 
+    def test_a_full_disk_ends_the_call(self):
+        """Refused, then unasked; the next call is taken."""
+        lines = ["c 01072f61", "r e4ffffff", "r e4ffffff", "c 02072f64", "r e4ffffff00", "c 0d2f"]
+        answers = ["ask 01072f61", "refused 28", "refused 61", "ask 02072f64", "stopped 1", "refused 5"]
+        self.assertEqual(desk.answers(map(str.encode, lines)), answers)
+
     def test_a_bad_line_never_reaches_the_guard(self):
         stat = "01000000020700000000"
         lines = ["c 0d2f", "r 0", f"r {stat}", "c 0d2f", "r ", "r 0", "c 0d2f"]

@@ -14,6 +14,7 @@ class Limits(unittest.TestCase):
         self.assertEqual((rules.MAX_MODE, rules.MAX_DESCRIPTOR, rules.STAT), (7, 1023, 13))
         self.assertEqual((rules.MAP, rules.UNMAP, rules.UNIT, rules.MAX_MAP), (14, 15, 4096, 65_536))
         self.assertEqual((rules.MAX_MAPS, rules.SPACE), (16, 2**64))
+        self.assertEqual((rules.NO_SPACE, rules.put(rules.NO_SPACE, rules.ID)), (-28, b"\xe4\xff\xff\xff"))
 
     def test_lengths(self):
         self.assertEqual((rules.ANSWER, rules.REQUEST, rules.REPLY, image.LONGEST), (9690, 1037, 65_544, 44_776))

@@ -12,7 +12,7 @@ class Transcripts(unittest.TestCase):
         cls.lines = list(all_lines())
 
     def test_length(self):
-        self.assertGreaterEqual(len(self.lines), 40_000)
+        self.assertGreaterEqual(len(self.lines), 50_000)
         self.assertLessEqual(max(map(len, self.lines)), 131_200)
         self.assertLessEqual(max(len(line) for line in self.lines if line[0] in "cr"), 2 + 2 * 65_552)
 

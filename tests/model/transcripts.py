@@ -22,17 +22,18 @@ A later kind of event or setting takes a letter of its own, so stored lines stay
 
 import sys
 
-from . import dishonest, maps, numbers, pages, trials
+from . import dishonest, full, maps, numbers, pages, trials
 from .events import Call, Load, Reply, Save
-from .generate import generate, generate_growing, generate_longer, generate_mapping
+from .generate import generate, generate_filling, generate_growing, generate_longer, generate_mapping
 from .rules import ANSWER, REQUEST
 from .script import Script
 
-SCRIPTS = [*trials.TRIALS, *numbers.NUMBERS, *numbers.NEIGHBOURS, *pages.PAGES, *maps.MAPS]
+SCRIPTS = [*trials.TRIALS, *numbers.NUMBERS, *numbers.NEIGHBOURS, *pages.PAGES, *maps.MAPS, *full.SCRIPTS]
 SEEDS = range(100)
 LONGER_SEEDS = range(100, 120)
 GROWING_SEEDS = range(120, 150)
 MAPPING_SEEDS = range(150, 161)
+FILLING_SEEDS = range(161, 181)
 
 
 def recordings():
@@ -42,6 +43,8 @@ def recordings():
         script(recording)
         yield script.__name__, recording
     yield from dishonest.dishonest_lists()
+    yield from full.full_lists()
+    yield from full.neighbour_lists()
     for seed in SEEDS:
         yield f"seed {seed}", generate(seed)
     for seed in LONGER_SEEDS:
@@ -50,6 +53,8 @@ def recordings():
         yield f"seed {seed}, growing files", generate_growing(seed)
     for seed in MAPPING_SEEDS:
         yield f"seed {seed}, maps", generate_mapping(seed)
+    for seed in FILLING_SEEDS:
+        yield f"seed {seed}, a full disk", generate_filling(seed)
 
 
 def write_list(name, steps, shown={}):

@@ -11,7 +11,8 @@ is of a save must give both the same outcomes and the same tables; to be held be
 guard.
 
 Each call is a coroutine: its refusals in their order (SPECIFICATION 7), then its requests, each answered by a reply,
-then the change of the tables. The pending call is the coroutine, and how far it has come is where it stands.
+then the change of the tables. The pending call is the coroutine, and how far it has come is where it stands. A full
+disk ends it early: refused, or a write done with the pages that are finished.
 """
 
 from dataclasses import dataclass, replace
@@ -21,8 +22,8 @@ from . import rules
 from .events import Ask, Call, Done, Load, Refused, Reply, Save, Stopped
 from .image import DIGEST, read_image, write_image
 from .rules import (
-    ADDRESS, ANSWER, DIRECTORY, FILE, ID, MAX_DESCRIPTOR, MAX_MAPS, MAX_NODES, MAX_OPEN, MAX_PAGES, MAX_SIZE, PAGE,
-    READ_BIT, READ_RIGHT, REQUEST, SEARCH_BIT, SPACE, UNIT, WRITE_BIT, WRITE_RIGHT, Node, pages_between, pages_of,
+    ADDRESS, ANSWER, DIRECTORY, FILE, ID, MAX_DESCRIPTOR, MAX_MAPS, MAX_NODES, MAX_OPEN, MAX_PAGES, MAX_SIZE, NO_SPACE,
+    PAGE, READ_BIT, READ_RIGHT, REQUEST, SEARCH_BIT, SPACE, UNIT, WRITE_BIT, WRITE_RIGHT, Node, pages_between, pages_of,
 )
 
 
@@ -295,9 +296,8 @@ class Machine:
     def write(self, call):
         file, node = self.opened(call.handle, WRITE_RIGHT)
         start, end = file.cursor, file.cursor + len(call.data)
-        size = max(node.size, end)
         refuse(27, end > MAX_SIZE)
-        refuse(28, self.pages_with(node, size) > MAX_PAGES)
+        refuse(28, self.pages_with(node, max(node.size, end)) > MAX_PAGES)
         stored = []
         for page in pages_between(start, end):
             data = bytes(PAGE)
@@ -305,13 +305,17 @@ class Machine:
                 data = yield from self.fetch(file, node, page)
             data = rules.overlay(data, start - page * PAGE, call.data)
             written_so_far = min(end, (page + 1) * PAGE)
-            yield from self.store_page(file, page, max(node.size, written_so_far), data)
+            size = max(node.size, written_so_far)
+            if (yield from self.store_page(file, page, size, data, may_be_full=True)):
+                refuse(28, not stored)
+                end = page * PAGE  # done with the pages that are finished
+                break
             stored.append(self.store.keep(data))
         first = start // PAGE
         node.pages[first : first + len(stored)] = stored
-        node.size = size
+        node.size = max(node.size, end)
         file.cursor = end
-        return Done(len(call.data))
+        return Done(end - start)
 
     def truncate(self, call):
         file, node = self.opened(call.handle, WRITE_RIGHT)
@@ -325,7 +329,8 @@ class Machine:
             yield from self.store_page(file, page, node.size, data)
             pages[page] = self.store.keep(data)
         if call.size != node.size:
-            yield from self.ask_status(rules.cut_request(file.descriptor, call.size))
+            request, grows = rules.cut_request(file.descriptor, call.size), call.size > node.size
+            refuse(28, (yield from self.ask_status(request, may_be_full=grows)))
         added = pages_of(call.size) - len(pages)
         node.pages = pages + [self.store.keep(bytes(PAGE))] * added
         file.cursor = min(file.cursor, call.size)
@@ -348,14 +353,18 @@ class Machine:
 
     # requests with their replies
 
-    def ask_status(self, request, expected=0):
+    def ask_status(self, request, expected=0, may_be_full=False):
+        """Whether the disk is full, where a call may end so; elsewhere that is a wrong status as any other."""
         reply = yield request
         stop(1, len(reply) != 4)
-        stop(2, rules.signed(reply) != expected)
+        is_full = may_be_full and rules.signed(reply) == NO_SPACE
+        stop(2, not is_full and rules.signed(reply) != expected)
+        return is_full
 
     def ask_id(self, request):
         reply = yield request
         stop(1, len(reply) != ID)
+        refuse(28, rules.signed(reply) == NO_SPACE)
         id = rules.unsigned(reply)
         stop(3, id == 0 or any(node.id == id for node in self.nodes))
         return id
@@ -384,8 +393,8 @@ class Machine:
         stop(5, self.store.keep(reply) != node.pages[page])
         return reply
 
-    def store_page(self, file, page, size, data):
-        return self.ask_status(rules.store_request(file.descriptor, page, size, data), expected=PAGE)
+    def store_page(self, file, page, size, data, may_be_full=False):
+        return self.ask_status(rules.store_request(file.descriptor, page, size, data), PAGE, may_be_full)
 
 
 CALLS = {

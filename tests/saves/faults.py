@@ -1,5 +1,5 @@
-"""Saves that the guard refuses or the disk lets fail, and starts that find no pair: nothing is begun anew, and the
-last save that was done stays.
+"""Saves that the guard refuses or the disk lets fail, which may be full, and starts that find no pair: nothing is begun
+anew, and the last save that was done stays.
 
     python3 -m saves.faults PROGRAM PLACE      from tests/; PROGRAM is life.c's, PLACE a directory that may be filled
 """
@@ -11,7 +11,8 @@ from model import calls
 
 from .power import ON, WORK, Life, expect, new_place
 
-EIO, EBADMSG = "5", "74"
+EIO, ENOSPC, EBADMSG = "5", "28", "74"
+EVER = 1000  # system calls: all that come
 
 
 def saved(program, place):
@@ -52,6 +53,59 @@ def disk_fails(program, place):
     expect(life.end(), 0)
 
 
+def full_call(program, place):
+    """A call that a full disk ends is nothing to the next save; it has what there was room for."""
+    life, right = saved(program, place)
+    life.send(f"n 1 1 {ENOSPC}")
+    expect(life.do(calls.create(7, b"/new")), ["refused", ENOSPC])
+    life.send("n")
+    expect(life.looks(), right)
+    expect(life.do(calls.open_(3, b"/a"))[0], "done")
+    expect(life.do(calls.seek(2, 1500))[:2], ["done", "1500"])
+    life.send(f"n 3 1 {ENOSPC}")  # the second page: the first is a write and a cut
+    expect(life.do(calls.write(2, b"2" * 2000))[:2], ["done", "548"])
+    life.send("n")
+    life.do(calls.close(2))
+    right = life.looks()
+    expect(life.send("s"), ["saved"])
+    expect(life.send("b"), ["loaded"])
+    expect(life.looks(), right)
+    expect(life.end(), 0)
+
+
+def full_save(program, place):
+    """A save that finds no room fails, wherever it does; the last one is whole, or, at the very end, this one, nothing
+    of the other takes room, and it is gone on from.
+    """
+    first = 1
+    while full_save_at(program, place, first):
+        first += 1
+    expect(first > 10, True)
+
+
+def full_save_at(program, place, first):
+    """Whether a save has so many system calls."""
+    life, right = saved(program, place)
+    for call in WORK[1]:
+        expect(life.do(call)[0], "done")
+    after = life.looks()
+    life.send(f"n {first} {EVER} {ENOSPC}")
+    came = life.send("s")
+    if int(life.send("n")[0]) == EVER:
+        expect(came, ["saved"])
+        life.kill()
+        return False
+    expect(came, ["failed", ENOSPC])
+    expect(life.send("b"), ["loaded"])
+    expect(life.looks() in ([right] if first < 10 else [right, after]), True)
+    expect([path.name for path in place.rglob("*") if path.name in ("new", "digest.new")], [])
+    for call in ON:
+        expect(life.do(call)[0], "done")
+    expect(life.send("s"), ["saved"])
+    expect(life.end(), 0)
+    return True
+
+
 def no_pair(program, place):
     """A digest without its image, or half a digest: no start, and nothing is begun anew."""
     life, right = saved(program, place)
@@ -72,7 +126,7 @@ def no_pair(program, place):
     expect(life.end(), 0)
 
 
-TRIALS = [refused, disk_fails, no_pair]
+TRIALS = [refused, disk_fails, full_call, full_save, no_pair]
 
 
 def main():

@@ -4,7 +4,10 @@
  *     c CALL     a call, as drive.c of tests/host prints it
  *     s          a save; prints saved, refused and the number, or failed and errno
  *     k COUNT    the program kills itself at the disk's change number COUNT from now; prints armed
- *     x NAME     from now on this system call fails (points.c), or, without a name, none; prints armed */
+ *     x NAME     from now on this system call fails (points.c), or, without a name, none; prints armed
+ *     n FROM CALLS ERROR
+ *                of the system calls that may need room, so many from number FROM on fail (points.h); prints how many of
+ *                those armed before were still to come */
 #define _XOPEN_SOURCE 700 /* setenv */
 #include <errno.h>
 #include <stdio.h>
@@ -63,6 +66,13 @@ static void call(const char *digits)
         printf("%02x", c.layer.answer[i]);
 }
 
+static void fill(const char *words)
+{
+    printf("%lu", full_disk.calls);
+    if (sscanf(words, "%lu %lu %d", &full_disk.from, &full_disk.calls, &full_disk.error) != 3)
+        full_disk.calls = 0;
+}
+
 int main(int n, char **words)
 {
     if (n != 2 || chdir(words[1]))
@@ -76,6 +86,7 @@ int main(int n, char **words)
         case 's': save(); break;
         case 'k': points_left = strtoul(line + 2, NULL, 10); fputs("armed", stdout); break;
         case 'x': setenv("FAILS", line[1] == ' ' ? line + 2 : "", 1), fputs("armed", stdout); break;
+        case 'n': fill(line + 1); break;
         default: fputs("bad line", stdout);
         }
         putchar('\n');

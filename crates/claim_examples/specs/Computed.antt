@@ -1,5 +1,6 @@
--- Four lists of events, and what they come to, over digests that are cheap to compute.
+-- Five lists of events, and what they come to, over digests that are cheap to compute.
 use mathlib.Core.Path.{_≡_, refl}
+use mathlib.Core.Logic.{inl, inr}
 use mathlib.Core.Bool.{true}
 use mathlib.Core.List.{List, [], _∷_, _++_, map}
 use Prim.Native.Nat.{ℕ, _-_, _/_, _%_}
@@ -22,9 +23,9 @@ use Rattle.filesystem.specs.Paths.{joined, pathBytes, componentForm, onto, spli
 use Rattle.filesystem.specs.Image.{nodeForm, imageForm, flatten, divide, climb, pathLength, inLimits, parentsEarlier, soundNodes, sound, print, recordsLength, imageLength, parse}
 use Rattle.filesystem.specs.Digests.{replaced}
 use Rattle.rules.specs.Calls.{callBytes, byPath, byNumberAndPath, byHandle, byHandleAndNumber, byHandleAndBytes, readFields, readCall, byNumber}
-use Rattle.rules.specs.Pages.{pageAt, pageOf, bytesAt, resized, splice, overlay, pagePart, truncating, addedBy, first, last, fetches, fill, sizeSent, cuts, bytesAfter, sizeAfter, cursorAfter, numberOf}
+use Rattle.rules.specs.Pages.{pageAt, pageOf, bytesAt, resized, splice, overlay, pagePart, truncating, addedBy, first, last, fetches, fill, sizeSent, cuts, bytesAfter, sizeAfter, cursorAfter, numberOf, before}
 use Rattle.rules.specs.Requests.{storeLength, isFetch, closeRequest, fetchRequest, storeRequest, cutRequest}
-use Rattle.rules.specs.Rules.{noRoom, callChecks, readAction, callAction, isNumber, isDescriptor, replyChecks, replyAction, isIdle, callOr, imageOr, isNone, eventChecks, eventAction, judge, saving, mapChecks, mapReasons, reasons}
+use Rattle.rules.specs.Rules.{noRoom, callChecks, readAction, callAction, isNumber, isDescriptor, replyChecks, replyAction, isFull, saysFull, fullAction, isIdle, callOr, imageOr, isNone, eventChecks, eventAction, judge, saving, mapChecks, mapReasons, reasons}
 use Rattle.rules.specs.Skeleton.{Config, answerLength, requestLength, Event, call, reply, save, load, Answer, done, ask, refused, stopped, Outcome}
 use Rattle.machine.specs.Machine.{State, imageOf, fresh, readOn, finishChange, pagesStored, askStore, onPage, pagesFrom, apply, step, outcomes, final, zeroDigest, guard}
 use Rattle.machine.specs.Tree.{tree, digestsOf, lookup, goBack}
@@ -118,6 +119,21 @@ growths =
 abbrev pub zeroPages : List (List ℕ)
 zeroPages = replicate 1024 0 ∷ replicate 1024 0 ∷ []
 
+-- A disk that is full, told by an honest host: to a create, to the second page of a write, to a growth. The guard goes on.
+abbrev pub full : Event
+full = r (228 ∷ 255 ∷ 255 ∷ 255 ∷ [])
+
+abbrev pub filled : List Event
+filled =
+    c (1 ∷ 7 ∷ 47 ∷ 97 ∷ []) ∷ full ∷ c (1 ∷ 7 ∷ 47 ∷ 97 ∷ []) ∷ r (2 ∷ 0 ∷ 0 ∷ 0 ∷ []) ∷ c (3 ∷ 3 ∷ 47 ∷ 97 ∷ []) ∷ r (status 0)
+    ∷ c (7 ∷ 2 ∷ 0 ∷ 0 ∷ 0 ∷ replicate 1025 9) ∷ r (status 1024) ∷ full ∷ cutTo 0 8 ∷ full ∷ []
+
+abbrev pub filledAnswers : List Answer
+filledAnswers =
+    ask (1 ∷ 7 ∷ 47 ∷ 97 ∷ []) ∷ refused 28 ∷ ask (1 ∷ 7 ∷ 47 ∷ 97 ∷ []) ∷ done 2 [] ∷ ask (3 ∷ 3 ∷ 47 ∷ 97 ∷ []) ∷ done 2 []
+    ∷ ask (7 ∷ 0 ∷ 0 ∷ 0 ∷ 0 ∷ 0 ∷ 0 ∷ 0 ∷ 0 ∷ 0 ∷ 4 ∷ 0 ∷ 0 ∷ firstPage) ∷ ask (7 ∷ 0 ∷ 0 ∷ 0 ∷ 0 ∷ 1 ∷ 0 ∷ 0 ∷ 0 ∷ 1 ∷ 4 ∷ 0 ∷ 0 ∷ secondPage) ∷ done 1024 []
+    ∷ ask (8 ∷ 0 ∷ 0 ∷ 0 ∷ 0 ∷ 0 ∷ 8 ∷ 0 ∷ 0 ∷ []) ∷ refused 28 ∷ []
+
 -- All that is computed here.
 pub record Computed : Type 0 where
   pub guard-does : answersOf (outcomes cheap (guard cheap) (fresh cheap (guard cheap)) honest) ≡ honestAnswers
@@ -131,16 +147,18 @@ pub record Computed : Type 0 where
   pub tree-not : lastAnswer (answersOf (outcomes constant (tree constant) (fresh constant (tree constant)) forged)) ≡ stopped 5
   pub growths-kept : pages cheap (guard cheap) (fresh cheap (guard cheap)) growths ≡ zeroPages
   pub growths-seen : pagesSeen cheap (fresh cheap (tree cheap)) (shown cheap (guard cheap) (fresh cheap (guard cheap)) growths) ≡ zeroPages
+  pub full-does : answersOf (outcomes cheap (guard cheap) (fresh cheap (guard cheap)) filled) ≡ filledAnswers
+  pub full-right : Honest cheap (fresh cheap (guard cheap)) (fresh cheap (tree cheap)) filled
 
 pub computed : Computed
-unfolding pages awaitsPage pageIn pageOut storedPage pageAdded addedBy pagesAfter pageReplied standing shown isFetch cutRequest truncating Honest HonestAt Right RightFor final constant outcomes step judge eventChecks eventAction callChecks callAction readAction replyChecks replyAction isIdle callOr isNone decide pick noRoom apply readOn finishChange pagesStored askStore onPage pagesFrom answerLength requestLength storeLength signed isNumber isDescriptor closeRequest fetchRequest storeRequest pageAt overlay first last fetches fill sizeSent cuts sizeAfter cursorAfter numberOf callBytes byPath byNumberAndPath byHandle byHandleAndNumber byHandleAndBytes readFields readCall joined pathBytes componentForm onto split afterSlash readPath tooLong childAt walk walkChecks parentChecks parentOf lastOf coverTable covers pagesFor pageTotal nodeAt openAt findId findChild children findHandle findDescriptor setMode setSize setCursor bind front get₂ get-as get-all ended whole encode decode every any place select without tab equal cheap imageOr unique put-all nodeForm imageForm flatten divide climb pathLength inLimits parentsEarlier soundNodes sound print recordsLength imageLength parse pageOf bytesAt resized splice pagePart bytesAfter zeroDigest replaced digestsOf lookup goBack mapChecks mapReasons reasons byNumber
+unfolding pages awaitsPage pageIn pageOut storedPage pageAdded addedBy pagesAfter pageReplied standing shown isFetch cutRequest truncating Honest HonestAt Right RightFor final constant outcomes step judge eventChecks eventAction callChecks callAction readAction replyChecks replyAction isFull saysFull fullAction before isIdle callOr isNone decide pick noRoom apply readOn finishChange pagesStored askStore onPage pagesFrom answerLength requestLength storeLength signed isNumber isDescriptor closeRequest fetchRequest storeRequest pageAt overlay first last fetches fill sizeSent cuts sizeAfter cursorAfter numberOf callBytes byPath byNumberAndPath byHandle byHandleAndNumber byHandleAndBytes readFields readCall joined pathBytes componentForm onto split afterSlash readPath tooLong childAt walk walkChecks parentChecks parentOf lastOf coverTable covers pagesFor pageTotal nodeAt openAt findId findChild children findHandle findDescriptor setMode setSize setCursor bind front get₂ get-as get-all ended whole encode decode every any place select without tab equal cheap imageOr unique put-all nodeForm imageForm flatten divide climb pathLength inLimits parentsEarlier soundNodes sound print recordsLength imageLength parse pageOf bytesAt resized splice pagePart bytesAfter zeroDigest replaced digestsOf lookup goBack mapChecks mapReasons reasons byNumber
 computed = record {
   guard-does = refl;
   replies-right = (
     tt,
     (
-      record { long = refl; not-zero = λ e. absurd (eqb-false 2 0 refl e); not-held = both (eqb-false 1 2 refl) all-none },
-      (tt, (record { descriptor = 0; long = refl; is = refl; low = omega arith; not-held = all-none }, (tt, (refl, (refl, (tt, (refl, tt))))))),
+      inl (record { long = refl; not-zero = λ e. absurd (eqb-false 2 0 refl e); not-full = λ e. absurd (let z : _≡_ {A = ℕ} 0 1 = cc in omega arith); not-held = both (eqb-false 1 2 refl) all-none }),
+      (tt, (record { descriptor = 0; long = refl; is = refl; low = omega arith; not-held = all-none }, (tt, (inl refl, (inl refl, (tt, (refl, tt))))))),
     ),
   );
   guard-image = refl;
@@ -152,4 +170,18 @@ computed = record {
   tree-not = refl;
   growths-kept = refl;
   growths-seen = refl;
+  full-does = refl;
+  full-right = (
+    tt,
+    (
+      inr (refl, refl),
+      (
+        tt,
+        (
+          inl (record { long = refl; not-zero = λ e. absurd (eqb-false 2 0 refl e); not-full = λ e. absurd (let z : _≡_ {A = ℕ} 0 1 = cc in omega arith); not-held = both (eqb-false 1 2 refl) all-none }),
+          (tt, (record { descriptor = 0; long = refl; is = refl; low = omega arith; not-held = all-none }, (tt, (inl refl, (inr (refl, (refl, refl)), (tt, (inr (refl, (refl, refl)), tt))))))),
+        ),
+      ),
+    ),
+  );
 }

@@ -136,11 +136,15 @@ fn judge_id(m: &[u8], n: usize, reply: &[u8]) -> u8
     0
 }
 
-// create and mkdir: one more node, behind the others, with the staged name; done with its id.
+// create and mkdir: one more node, behind the others, with the staged name; done with its id. Or the disk is full: -28
+// is no id.
 pub fn accept_create(m: &mut [u8], reply: &[u8]) -> outcomes::Outcome
     requires { ⌜ (numbersIn m .call ≡ CREATING) × IsMemory m ⌝ }
     ensures { λ r. ⌜ Accepts m reply r ⌝ }
 {
+    if replies::is_full(reply) {
+        return replies::give_up(m);
+    }
     let g = Guard::load(m);
     let nodes = g.nodes;
     let b = judge_id(m, nodes, reply);

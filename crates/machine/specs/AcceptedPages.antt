@@ -1,7 +1,7 @@
 -- A page that is accepted is the kept one (SPECIFICATION 5.5, 13.3): the first page of a read, and each later one.
 -- Assumes nothing.
-use mathlib.Core.Path.{_≡_, ap, _∙_, subst}
-use mathlib.Core.Bool.{true}
+use mathlib.Core.Path.{_≡_, ap, sym, _∙_, subst}
+use mathlib.Core.Bool.{true, false, true≢false}
 use mathlib.Core.List.{List, []}
 use Prim.Native.Nat.{ℕ, _<_}
 use lib.ListN.{length, getD}
@@ -12,7 +12,7 @@ use Rattle.filesystem.specs.Tables.{pagesFor}
 use Rattle.rules.specs.Pages.{Change, pageOf}
 use Rattle.rules.specs.Requests.{Pending, reading}
 use Rattle.rules.specs.Skeleton.{Config, reply, Answer, done, ask, refused, stopped}
-use Rattle.rules.specs.Rules.{Move, refuse, halt, readPage, fillPage, reasons, replyAction, eventChecks, eventAction, judge}
+use Rattle.rules.specs.Rules.{Move, refuse, halt, readPage, fillPage, reasons, replyAction, tellsFull, eventChecks, eventAction, judge}
 use Rattle.machine.specs.Machine.{Store, State, Result, contentAt, apply, step, guard}
 use Rattle.machine.specs.Tree.{tree, guardOf}
 use Rattle.machine.specs.DigestLaws.{digest-at, digests-at}
@@ -40,24 +40,26 @@ module _ (c : Config) (S : Store) (s : State S) where
   unfolding apply
   change-accepts k o q i r = pick-ind (λ (x : Result S). Accepted (x .outcome .answer) → IsKept k i r) _ (λ e _. e) (λ _ h. absurd h)
 
-  -- a reply that is accepted is acted on
+  -- a reply that is accepted, and does not say that the disk is full, is acted on
   abbrev actionOn : List ℕ → Pending → Move
   actionOn r p = replyAction (c .width) (s .skeleton .tables) r p
 
-  accepted-acts : (r : List ℕ) (a q : ℕ) → Accepted (step c S s (reply r a q) .outcome .answer)
+  accepted-acts : (r : List ℕ) (a q : ℕ) → tellsFull (c .width) r (s .skeleton .pending) ≡ false → Accepted (step c S s (reply r a q) .outcome .answer)
       → Accepted (answer (actionOn r (s .skeleton .pending)))
   unfolding step judge eventAction apply
-  accepted-acts r a q =
+  accepted-acts r a q f =
       let F : Move → Type 0 = λ m. Accepted (answer m) → Accepted (answer (actionOn r (s .skeleton .pending))) in
       let cs = reasons (c .width) (s .skeleton) r in
       decide-ind refuse F (eventChecks c (s .skeleton) (reply r a q)) _ (λ _ _ h. absurd h)
-      (λ _. decide-ind halt F cs _ (λ _ _ h. absurd h) (λ _ h. h))
+      (λ _. pick-ind F (tellsFull (c .width) r (s .skeleton .pending)) (λ e. absurd (true≢false (sym e ∙ f)))
+      (λ _. decide-ind halt F cs _ (λ _ _ h. absurd h) (λ _ h. h)))
 
   -- a reply to the fetch of page i, whichever page of the read it is
   pub page-checked : (k o p n i : ℕ) → s .skeleton .pending ≡ reading k o p n i → (r : List ℕ) (a q : ℕ)
       → Accepted (step c S s (reply r a q) .outcome .answer) → IsKept k i r
   unfolding replyAction
-  page-checked k o p n i w r a q h = read-accepts k o p n i r (subst (λ x. Accepted (answer (actionOn r x))) w (accepted-acts r a q h))
+  page-checked k o p n i w r a q h =
+      read-accepts k o p n i r (subst (λ x. Accepted (answer (actionOn r x))) w (accepted-acts r a q (ap (tellsFull (c .width) r) w) h))
 
 -- The guard accepts a page that has the kept digest, the tree one that it holds.
 module _ (c : Config) (k o p n i : ℕ) (r : List ℕ) (a q : ℕ) where

@@ -16,7 +16,7 @@ use Rattle.rules.specs.PageLaws.{first-last}
 use Rattle.rules.specs.Requests.{asked, Pending, idle, reading, fetching, storing, cutting}
 use Rattle.rules.specs.Skeleton.{Config, Event, EventBytes}
 use Rattle.rules.specs.Rules.{Move, judge}
-use Rattle.rules.specs.Valid.{Starts, Fits, fRefuse, fHalt, fSend, fFinish, fAdd, fDelete, fRemap, fReadPage, fBegin, fFillPage, fStored, fCutDone, fSaving, fLoading}
+use Rattle.rules.specs.Valid.{Starts, Fits, fRefuse, fHalt, fSend, fFinish, fAdd, fDelete, fRemap, fReadPage, fBegin, fFillPage, fStored, fCutDone, fKeepPages, fGiveUp, fSaving, fLoading}
 use Rattle.rules.specs.FitLaws.{judge-fits}
 use Rattle.rules.specs.Lengths.{Gathers}
 use Rattle.rules.specs.MapLaws.{none-valid}
@@ -72,8 +72,8 @@ module _ (c : Config) where
   keeps-counted : (g : State (guard c)) → Counts (g .skeleton .pending) (g .progress .digests) → (m : Move) (e : Event) → Fits c (g .skeleton) e m
       → Counted (apply c (guard c) g m)
   unfolding apply finishChange
-  keeps-counted g h m e fRefuse = h
-  keeps-counted g h m e (fHalt x f) = tt
+  keeps-counted g h m e (fRefuse f) = h
+  keeps-counted g h m e (fHalt x n f) = tt
   keeps-counted g h m e (fSend {p = p} x s k) = starts-count p s
   keeps-counted g h m e (fFinish pl v z) = tt
   keeps-counted g h m e (fAdd pl z v) = tt
@@ -92,6 +92,8 @@ module _ (c : Config) where
   keeps-counted g h m e (fStored {k = k} {o = o} {q = q} {i = i} pl w x) =
       pages-counted g k o q (suc i) (omega arith) (x .to) (subst (λ p. Counts p (g .progress .digests)) w h)
   keeps-counted g h m e (fCutDone pl w x) = tt
+  keeps-counted g h m e (fKeepPages pl w x t l) = tt
+  keeps-counted g h m e (fGiveUp he f) = tt
   keeps-counted g h m e (fSaving he w z) = tt
   keeps-counted g h m e (fLoading he z hd hp) = tt
 

@@ -8,8 +8,8 @@ use Prim.Native.Nat.{ℕ, suc, _+_, _*_, _≤_}
 use native.Mathlib.Omega.{arith}
 use lib.Dec.{ltb, leb}
 use borrow.Author.Tests.{ltb-false}
-use Rattle.lists.specs.Pick.{pick, pick-ind}
-use Rattle.lists.specs.Equal.{or-fst, or-snd}
+use Rattle.lists.specs.Pick.{pick, pick-true, pick-false, pick-ind}
+use Rattle.lists.specs.Equal.{Is, isT, isF, is, or-fst, or-snd}
 use Rattle.lists.specs.All.{All, both, none}
 use Rattle.lists.specs.Search.{without}
 use Rattle.lists.specs.Checks.{Check, Passed, First, decide, decide-passed, decide-ind, decide-exactly, decide-append, decide-map}
@@ -20,7 +20,7 @@ use Rattle.rules.specs.Requests.{asked, Pending, idle, creating, opening, closi
 use Rattle.rules.specs.Skeleton.{Config, Event, call, reply, save, Answer, done, ask, refused, stopped, Outcome, plain, answerLength, requestLength}
 use Rattle.filesystem.specs.MemoryMaps.{Map}
 use Rattle.rules.specs.MapRules.{begins, ends, findMap, mapsAfter, mapNumber}
-use Rattle.rules.specs.Rules.{Move, refuse, halt, send, finish, add, delete, remap, readPage, begin, fillPage, stored, cutDone, saving, loading, reasons, replyAction, isIdle, eventChecks, eventAction, judge}
+use Rattle.rules.specs.Rules.{Move, refuse, halt, send, finish, add, delete, remap, readPage, begin, fillPage, stored, cutDone, keepPages, giveUp, saving, loading, reasons, replyAction, tellsFull, fullAction, isIdle, eventChecks, eventAction, judge}
 use Rattle.machine.specs.Machine.{Store, State, Result, contentAt, sizeAt, cleared, readOn, finishChange, pagesStored, askStore, onPage, pagesFrom, apply, step, outcomes, final}
 use Rattle.machine.specs.StepOutcomes.{onward, pages-onward, after-stop}
 
@@ -60,6 +60,8 @@ module _ (c : Config) (S : Store) where
   move-keeps s (fillPage k o q i r) = pick-ind (Keeps s) (S .isPage (contentAt c S s k) i r) (λ _ _. (refl, refl, refl)) (λ _ _. (refl, refl, refl))
   move-keeps s (stored k o q i) = pages-keep s k o q (suc i)
   move-keeps s (cutDone k o q) = λ e. absurd (true≢false e)
+  move-keeps s (keepPages k o q i) = λ e. absurd (true≢false e)
+  move-keeps s giveUp = λ e. (refl, refl, refl)
   move-keeps s saving = λ e. absurd (true≢false e)
   move-keeps s (loading i d) = λ e. absurd (true≢false e)
 
@@ -110,7 +112,8 @@ module _ (c : Config) (S : Store) where
         ap (λ (r : Result S). final c S (r .state) es) q ∙ ih .1,
       )
 
-  -- Stopped n exactly where n is the first of the reply's reasons: those of the rules, and behind them the page's digest.
+  -- Stopped n exactly where n is the first of the reply's reasons, and the reply does not say that the disk is full where it may: those of the rules, and
+  -- behind them the page's digest.
   unfoldable pub pageChecks : State S → List ℕ → Pending → List Check
   pageChecks s r idle = []
   pageChecks s r (asked x) = []
@@ -171,16 +174,29 @@ module _ (c : Config) (S : Store) where
     unfolding step judge apply
     judged = decide-map refuse answerTo (eventChecks c (s .skeleton) (reply r a q)) (eventAction c (s .skeleton) (reply r a q))
 
-    acted : isIdle (s .skeleton .pending) ≡ false → Behind (stopChecks s r) (answerTo (eventAction c (s .skeleton) (reply r a q)))
+    -- a reply that says that the disk is full, where it may, never stops
+    full-never : (p : Pending) (n : ℕ) → answerTo (fullAction p) ≡ stopped n → ⊥
+    unfolding fullAction apply finishChange
+    full-never idle n e = let z : _≡_ {A = ℕ} 0 1 = cc in omega arith
+    full-never (asked x) n e = let z : _≡_ {A = ℕ} 0 1 = cc in omega arith
+    full-never (reading k o p m i) n e = let z : _≡_ {A = ℕ} 0 1 = cc in omega arith
+    full-never (fetching k o x i) n e = let z : _≡_ {A = ℕ} 0 1 = cc in omega arith
+    full-never (storing k o x i) n y =
+        pick-ind (λ m. answerTo m ≡ stopped n → ⊥) (ltb (first x) i) (λ _ e. let z : _≡_ {A = ℕ} 0 1 = cc in omega arith) (λ _ e. let z : _≡_ {A = ℕ} 0 1 = cc in omega arith) y
+    full-never (cutting k o x) n e = let z : _≡_ {A = ℕ} 0 1 = cc in omega arith
+
+    acted : isIdle (s .skeleton .pending) ≡ false → tellsFull (c .width) r (s .skeleton .pending) ≡ false
+        → Behind (stopChecks s r) (answerTo (eventAction c (s .skeleton) (reply r a q)))
     unfolding eventAction stopChecks apply
-    acted h =
+    acted h full =
         let b = behind s r (s .skeleton .pending) h in
         let cs = reasons (c .width) (s .skeleton) r in
         record {
           next = b .next;
           goes = b .goes;
           is =
-              decide-map halt answerTo cs (replyAction (c .width) (s .skeleton .tables) r (s .skeleton .pending))
+              ap answerTo (pick-false _ _ _ full)
+              ∙ decide-map halt answerTo cs (replyAction (c .width) (s .skeleton .tables) r (s .skeleton .pending))
               ∙ ap (decide stopped cs) (b .is)
               ∙ sym (decide-append stopped cs (pageChecks s r (s .skeleton .pending)) (b .next));
         }
@@ -191,17 +207,27 @@ module _ (c : Config) (S : Store) where
         let e = decide-exactly stopped (stopChecks s r) (b .next) n (λ _ m z. true≢false (sym (b .goes) ∙ ap onward z)) (λ m k z. cc) in
         (λ z. e .0 (sym (b .is) ∙ z), λ f. b .is ∙ e .1 f)
 
-    pub stopped-exactly : (n : ℕ) → (answer ≡ stopped n) ↔ (Passed (eventChecks c (s .skeleton) (reply r a q)) × First n (stopChecks s r))
-    unfolding eventChecks
+    abbrev Stops : ℕ → Type 0
+    Stops n = Passed (eventChecks c (s .skeleton) (reply r a q)) × (tellsFull (c .width) r (s .skeleton .pending) ≡ false) × First n (stopChecks s r)
+
+    pub stopped-exactly : (n : ℕ) → (answer ≡ stopped n) ↔ Stops n
+    unfolding eventChecks eventAction
     stopped-exactly n = (
       λ z.
-          decide-ind refused (λ x. x ≡ stopped n → Passed (eventChecks c (s .skeleton) (reply r a q)) × First n (stopChecks s r))
+          decide-ind refused (λ x. x ≡ stopped n → Stops n)
           (eventChecks c (s .skeleton) (reply r a q)) (answerTo (eventAction c (s .skeleton) (reply r a q)))
           (λ m f y. absurd (let u : _≡_ {A = ℕ} 0 1 = cc in omega arith))
-          (λ p y. (p, stops-behind n (acted (running p)) .0 y)) (sym judged ∙ z),
-      λ w. judged ∙ decide-passed refused _ _ (w .0) ∙ stops-behind n (acted (running (w .0))) .1 (w .1),
+          (λ p y. (p, said y, stops-behind n (acted (running p) (said y)) .0 y)) (sym judged ∙ z),
+      λ w. judged ∙ decide-passed refused _ _ (w .0) ∙ stops-behind n (acted (running (w .0)) (w .1)) .1 (w .2),
     )
       where
+        said : answerTo (eventAction c (s .skeleton) (reply r a q)) ≡ stopped n → tellsFull (c .width) r (s .skeleton .pending) ≡ false
+        said y = go (is (tellsFull (c .width) r (s .skeleton .pending)))
+          where
+            go : Is (tellsFull (c .width) r (s .skeleton .pending)) → tellsFull (c .width) r (s .skeleton .pending) ≡ false
+            go (isF e) = e
+            go (isT e) = absurd (full-never (s .skeleton .pending) n (sym (ap answerTo (pick-true _ _ _ e)) ∙ y))
+
         running : Passed (eventChecks c (s .skeleton) (reply r a q)) → isIdle (s .skeleton .pending) ≡ false
         running (both _ (both i _)) = i
 

@@ -1,5 +1,6 @@
 -- The claim, second half (SPECIFICATION 10.5): under a host that is honest throughout nothing stops, and guard and tree agree. No collision is spoken of.
 use mathlib.Core.Path.{_≡_, refl, ap, sym, _∙_, subst}
+use mathlib.Core.Logic.{_⊎_, inl, inr}
 use mathlib.Core.Bool.{true≢false, true, not}
 use mathlib.Core.List.{List, [], _∷_}
 use mathlib.Core.Option.{some}
@@ -9,19 +10,20 @@ use lib.Dec.{eqb, ltb, leb}
 use lib.ListN.{length, getD}
 use borrow.Author.Tests.{eq-eqb}
 use Rattle.lists.specs.Pick.{pick-ind, pick-true}
-use Rattle.lists.specs.Equal.{equal, equal-true, equal-refl}
+use Rattle.lists.specs.Equal.{equal, equal-true, equal-refl, and-both}
 use Rattle.lists.specs.All.{All, both, none as all-none, all-head, all-tail, all-append}
 use Rattle.lists.specs.Cells.{length-tab}
 use Rattle.lists.specs.Checks.{Check, First, here, later, Passed}
 use Rattle.filesystem.specs.Image.{Image, parse}
-use Rattle.rules.specs.Pages.{pageOf, Change, first, last, fetches, cuts}
+use Rattle.rules.specs.Pages.{pageOf, Change, first, last, fetches, cuts, storesMore, cutsMore}
 use Rattle.rules.specs.Requests.{asked, Pending, idle, creating, opening, closing, removing, changing, listing, stating, mapping, unmapping, reading, fetching, storing, cutting}
 use Rattle.rules.specs.Skeleton.{Config, Event, reply, EventBytes}
-use Rattle.rules.specs.Rules.{Move, loading, judge, replyChecks, mapReasons, reasons}
+use Rattle.rules.specs.Rules.{Move, loading, judge, saysFull, tellsFull, replyChecks, mapReasons, reasons}
 use Rattle.machine.specs.Machine.{State, Result, files, readOn, finishChange, pagesStored, askStore, onPage, pagesFrom, cleared, apply, step, fresh, outcomes, final, guard}
-use Rattle.rules.specs.Valid.{Valid, Fits, fRefuse, fHalt, fSend, fFinish, fAdd, fDelete, fRemap, fReadPage, fBegin, fFillPage, fStored, fCutDone, fSaving, fLoading}
+use Rattle.rules.specs.Valid.{Valid, Fits, fRefuse, fHalt, fSend, fFinish, fAdd, fDelete, fRemap, fReadPage, fBegin, fFillPage, fStored, fCutDone, fKeepPages, fGiveUp, fSaving, fLoading}
 use Rattle.rules.specs.FitLaws.{judge-fits}
 use Rattle.rules.specs.MapLaws.{right-map}
+use Rattle.rules.specs.FullLaws.{right-full}
 use Rattle.rules.specs.ReplyLaws.{right-id, right-descriptor, right-status, right-stat, right-listing}
 use Rattle.machine.specs.Tree.{Saved, lookup, goBack, tree, guardOf}
 use Rattle.machine.specs.Honest.{RightFor, Right}
@@ -40,24 +42,29 @@ module _ (c : Config) (fit : Fit c) where
   unfolding pageOf
   page-long t k i r e = both (ap not (eq-eqb _ _ (ap length e ∙ length-tab 1024 _))) all-none
 
-  -- a right reply passes every check
-  right-passes : (t : State (tree c)) (r : List ℕ) → Valid (c .width) (t .skeleton) → (p : Pending) → RightFor c t r p
-      → Passed (replyChecks (c .width) (t .skeleton .tables) r p)
+  -- a right reply passes every check, or says that the disk is full where it may
+  abbrev Goes : State (tree c) → List ℕ → Pending → Type 0
+  Goes t r p = (tellsFull (c .width) r p ≡ true) ⊎ Passed (replyChecks (c .width) (t .skeleton .tables) r p)
+
+  right-passes : (t : State (tree c)) (r : List ℕ) → Valid (c .width) (t .skeleton) → (p : Pending) → RightFor c t r p → Goes t r p
   unfolding RightFor
-  right-passes t r v idle h = unfold replyChecks in all-none
-  right-passes t r v (asked (creating p k m name)) h = right-id (c .width) (t .skeleton .tables) r p k m name h
-  right-passes t r v (asked (opening k rights)) h = right-descriptor (c .width) (t .skeleton .tables) r k rights h
-  right-passes t r v (asked (closing o)) h = unfold replyChecks in right-status (c .width) (t .skeleton .tables) r 0 (omega arith) h
-  right-passes t r v (asked (removing k)) h = unfold replyChecks in right-status (c .width) (t .skeleton .tables) r 0 (omega arith) h
-  right-passes t r v (asked (changing k m)) h = unfold replyChecks in right-status (c .width) (t .skeleton .tables) r 0 (omega arith) h
-  right-passes t r v (asked (listing k)) h = right-listing (c .width) (t .skeleton .tables) r k (v .tables .nodes-valid) h
-  right-passes t r v (asked (stating k)) h = right-stat (c .width) (t .skeleton .tables) r k h
-  right-passes t r v (asked (mapping n)) h = unfold replyChecks in both (ap not (eq-eqb _ _ (right-map (t .skeleton .maps) n r h .0))) all-none
-  right-passes t r v (asked (unmapping a)) h = unfold replyChecks in right-status (c .width) (t .skeleton .tables) r 0 (omega arith) h
-  right-passes t r v (reading k o p n i) h = unfold replyChecks in page-long t k i r h
-  right-passes t r v (fetching k o q i) h = unfold replyChecks in page-long t k i r h
-  right-passes t r v (storing k o q i) h = unfold replyChecks in right-status (c .width) (t .skeleton .tables) r 1024 (omega arith) h
-  right-passes t r v (cutting k o q) h = unfold replyChecks in right-status (c .width) (t .skeleton .tables) r 0 (omega arith) h
+  right-passes t r v idle h = inr (unfold replyChecks in all-none)
+  right-passes t r v (asked (creating p k m name)) (inl h) = inr (right-id (c .width) (t .skeleton .tables) r p k m name h)
+  right-passes t r v (asked (creating p k m name)) (inr h) = inl (right-full (c .width) r h)
+  right-passes t r v (asked (opening k rights)) h = inr (right-descriptor (c .width) (t .skeleton .tables) r k rights h)
+  right-passes t r v (asked (closing o)) h = inr (unfold replyChecks in right-status (c .width) (t .skeleton .tables) r 0 (omega arith) h)
+  right-passes t r v (asked (removing k)) h = inr (unfold replyChecks in right-status (c .width) (t .skeleton .tables) r 0 (omega arith) h)
+  right-passes t r v (asked (changing k m)) h = inr (unfold replyChecks in right-status (c .width) (t .skeleton .tables) r 0 (omega arith) h)
+  right-passes t r v (asked (listing k)) h = inr (right-listing (c .width) (t .skeleton .tables) r k (v .tables .nodes-valid) h)
+  right-passes t r v (asked (stating k)) h = inr (right-stat (c .width) (t .skeleton .tables) r k h)
+  right-passes t r v (asked (mapping n)) h = inr (unfold replyChecks in both (ap not (eq-eqb _ _ (right-map (t .skeleton .maps) n r h .0))) all-none)
+  right-passes t r v (asked (unmapping a)) h = inr (unfold replyChecks in right-status (c .width) (t .skeleton .tables) r 0 (omega arith) h)
+  right-passes t r v (reading k o p n i) h = inr (unfold replyChecks in page-long t k i r h)
+  right-passes t r v (fetching k o q i) h = inr (unfold replyChecks in page-long t k i r h)
+  right-passes t r v (storing k o q i) (inl h) = inr (unfold replyChecks in right-status (c .width) (t .skeleton .tables) r 1024 (omega arith) h)
+  right-passes t r v (storing k o q i) (inr (s, h)) = inl (and-both (storesMore q) (saysFull 4 r) s (right-full 4 r h))
+  right-passes t r v (cutting k o q) (inl h) = inr (unfold replyChecks in right-status (c .width) (t .skeleton .tables) r 0 (omega arith) h)
+  right-passes t r v (cutting k o q) (inr (s, h)) = inl (and-both (cutsMore q) (saysFull 4 r) s (right-full 4 r h))
 
   -- and those of maps
   maps-pass : (t : State (tree c)) (r : List ℕ) (p : Pending) → RightFor c t r p → Passed (mapReasons (t .skeleton .maps) r p)
@@ -106,10 +113,14 @@ module _ (c : Config) (fit : Fit c) where
   calm : (g : State (guard c)) (t : State (tree c)) → Valid (c .width) (t .skeleton) → {m : Move} {e : Event} → Fits c (t .skeleton) e m → HonestAt c g t e
       → Calm (apply c (tree c) t m)
   unfolding apply isStop readOn askStore finishChange
-  calm g t v fRefuse ho = refl
-  calm g t v {e = e} (fHalt {n = n} {r = r} {a = a} {q = q} he f) ho =
+  calm g t v (fRefuse f) ho = refl
+  calm g t v {e = e} (fHalt {n = n} {r = r} {a = a} {q = q} he y f) ho =
       let h : RightFor c t r (t .skeleton .pending) = unfold Right in right-reply g t e r a q ho he in
-      absurd (passed-not-first n (reasons (c .width) (t .skeleton) r) (unfold reasons in all-append (right-passes t r v (t .skeleton .pending) h) (maps-pass t r (t .skeleton .pending) h)) f)
+      absurd (go (right-passes t r v (t .skeleton .pending) h) (maps-pass t r (t .skeleton .pending) h))
+    where
+      go : Goes t r (t .skeleton .pending) → Passed (mapReasons (t .skeleton .maps) r (t .skeleton .pending)) → ⊥
+      go (inl x) _ = true≢false (sym x ∙ y)
+      go (inr p) z = passed-not-first n (reasons (c .width) (t .skeleton) r) (unfold reasons in all-append p z) f
   calm g t v (fSend h s k) ho = refl
   calm g t v (fFinish pl h s) ho = refl
   calm g t v (fAdd pl z h) ho = refl
@@ -124,6 +135,8 @@ module _ (c : Config) (fit : Fit c) where
       (λ x. absurd (true≢false (sym (page-right t (fetching k o q i) r k i (right-reply g t e r a b ho he) w (λ y. unfold RightFor in y)) ∙ x)))
   calm g t v (fStored {k = k} {o = o} {q = q} {i = i} pl w h) ho = calm-pages t k o q (suc i)
   calm g t v (fCutDone pl w h) ho = refl
+  calm g t v (fKeepPages pl w h s l) ho = refl
+  calm g t v (fGiveUp he f) ho = refl
   calm g t v (fSaving he w z) ho = refl
   calm g t v (fLoading he z hd hp) ho = refl
 
@@ -146,8 +159,8 @@ module _ (c : Config) (fit : Fit c) where
   sure : (t : State (tree c)) → Kept c Any Any t → {m : Move} {e : Event} → Fits c (t .skeleton) e m → HonestAt c (guardOf c t) t e
       → judge c (t .skeleton) e ≡ m → Agree c t m
   unfolding HonestAt step apply guardOf isDone
-  sure t v fRefuse ho mq = tt
-  sure t v (fHalt he f) ho mq = tt
+  sure t v (fRefuse f) ho mq = tt
+  sure t v (fHalt he y f) ho mq = tt
   sure t v (fSend h s k) ho mq = tt
   sure t v (fFinish pl h s) ho mq = tt
   sure t v (fAdd pl z h) ho mq = tt
@@ -160,6 +173,8 @@ module _ (c : Config) (fit : Fit c) where
       same-page r _ (page-right t (fetching k o q i) r k i (right-reply (guardOf c t) t e r a b ho he) w (λ y. unfold RightFor in y))
   sure t v (fStored pl w h) ho mq = tt
   sure t v (fCutDone pl w h) ho mq = tt
+  sure t v (fKeepPages pl w h s l) ho mq = tt
+  sure t v (fGiveUp he f) ho mq = tt
   sure t v (fSaving he w z) ho mq = tt
   sure t v {e = e} (fLoading {i = i} {image = image} {d = d} he z hd hp) ho mq = sure-load t v i image d hp ((rw he at ho) (rw (rw he at mq) tt))
 

@@ -19,13 +19,14 @@ use Rattle.lists.specs.LittleEndian.{encode}
 use Rattle.lists.specs.FormLaws.{some≢none}
 use Rattle.filesystem.specs.Tables.{Node, nodeAt, pagesFor, setSize}
 use Rattle.filesystem.specs.Image.{flatten, print}
-use Rattle.rules.specs.Pages.{pageOf, Change, writing, shrinking, growing, first, last, fetches, sizeSent, cuts, bytesAfter, sizeAfter, FitsSize, addedBy}
-use Rattle.rules.specs.PageLaws.{Where, low, mid, high, range, length-after, first-last, after-apart, apart-old, page-past}
+use Rattle.rules.specs.Pages.{pageOf, Change, writing, shrinking, growing, first, last, fetches, sizeSent, cuts, bytesAfter, sizeAfter, FitsSize, addedBy, before}
+use Rattle.rules.specs.PageLaws.{Where, low, mid, high, range, length-after, first-last, after-apart, apart-old, page-past, before-first, before-last, before-page, before-uncut}
+use Rattle.rules.specs.FullLaws.{before-change}
 use Rattle.rules.specs.Requests.{asked, storeRequest, cutRequest, Pending, idle, reading, fetching, storing, cutting}
 use Rattle.rules.specs.Skeleton.{Config, Event}
 use Rattle.rules.specs.Rules.{Move}
 use Rattle.machine.specs.Machine.{Files, State, Result, files, sizeAt, descriptorAt, readOn, finishChange, pagesStored, askStore, onPage, pagesFrom, cleared, apply}
-use Rattle.rules.specs.Valid.{ValidNodes, Starts, Fits, fRefuse, fHalt, fSend, fFinish, fAdd, fDelete, fReadPage, fBegin, fFillPage, fStored, fCutDone, fSaving, fLoading, fRemap}
+use Rattle.rules.specs.Valid.{ValidNodes, Starts, Fits, fRefuse, fHalt, fSend, fFinish, fAdd, fDelete, fReadPage, fBegin, fFillPage, fStored, fCutDone, fKeepPages, fGiveUp, fSaving, fLoading, fRemap}
 use Rattle.machine.specs.Tree.{Saved, lookup, goBack, digestsOf, tree}
 use Rattle.machine.specs.History.{storedPage, pageAdded, pageOut, imageGiven, imageOut}
 use Rattle.machine.specs.Simulation.{Aligned, aligned-at}
@@ -205,8 +206,8 @@ module _ (c : Config) (M N : List ℕ → Type 0) where
   pub keeps : (t : State (tree c)) → Kept t → ValidNodes (c .width) (t .skeleton .tables .nodes) → {m : Move} {e : Event} → Fits c (t .skeleton) e m
       → ((p : List ℕ) → List·Memᴰ p (imageOut e (apply c (tree c) t m .outcome)) → N p) → Keeps (apply c (tree c) t m)
   unfolding apply imageOut imageGiven
-  keeps t v h fRefuse n s = v
-  keeps t v h (fHalt x f) n s = record { good = v .good; sofar = tt; saves = v .saves }
+  keeps t v h (fRefuse f) n s = v
+  keeps t v h (fHalt x y f) n s = record { good = v .good; sofar = tt; saves = v .saves }
   keeps t v h (fSend {p = p} x st kd) n s = record { good = v .good; sofar = starts-sofar (t .contents) p st; saves = v .saves }
   keeps t v h (fFinish pl x z) n s = record { good = record { aligned = z ∙ v .good .aligned; known = v .good .known }; sofar = tt; saves = v .saves }
   keeps t v h (fAdd {n = m} pl z x) n s = record { good = add-good (files c (tree c) t) m z (v .good); sofar = tt; saves = v .saves }
@@ -230,6 +231,14 @@ module _ (c : Config) (M N : List ℕ → Type 0) where
   keeps t v h (fCutDone {k = k} {o = o} {q = q} pl w x) n s =
       let (new, more) = subst (SoFar (t .contents)) w (v .sofar) in
       finish-kept t v k o q (x .fits) new more
+  keeps t v h (fKeepPages {k = k} {o = o} {q = q} {i = i} pl w x z l) n s =
+      finish-kept t v k o (before q i) (before-change _ _ k o q i x z l .fits)
+      (λ j a b.
+      let m : j < i = (let e = before-last q i z l (x .to) in omega arith) in
+      rw (before-page q i (getD (t .contents) k []) j z l (x .to) m)
+      (subst (SoFar (t .contents)) w (v .sofar) j (let e = before-first q i in omega arith) (omega arith)))
+      (λ p m. absurd (List·Memᴰ·not-nil (rw (uncut-adds (before q i) (length (getD (t .contents) k [])) (before-uncut q i z)) at m)))
+  keeps t v h (fGiveUp he f) n s = record { good = v .good; sofar = tt; saves = v .saves }
   keeps t v h (fSaving he w z) n s = record { good = v .good; sofar = tt; saves = both (record { good = v .good; valid = h; image = n _ (rw he (List·Memᴰ·head refl)); sealed = refl }) (v .saves) }
   keeps t v h (fLoading {d = d} he z hd hp) n s =
       record { good = back-good (lookup (t .saves) d) (files c (tree c) t) (λ x e. lookup-good (t .saves) d (v .saves) x e .0) (v .good); sofar = tt; saves = v .saves }

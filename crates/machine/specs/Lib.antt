@@ -11,6 +11,11 @@ pub mod Consistent
 pub mod Trials
 pub mod Tree
 pub mod GrowthLaws
+pub mod FullDiskLaws
+pub mod GivenUpRuns
+pub mod PartialWrites
+pub mod PartialRuns
+pub mod PartialExample
 pub mod History
 pub mod Honest
 pub mod Claim

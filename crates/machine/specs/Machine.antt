@@ -7,18 +7,18 @@ use mathlib.Core.Bool.{Bool}
 use mathlib.Core.List.{List, [], _∷_, _++_, map}
 use Prim.Native.Nat.{ℕ, suc, _+_, _-_, _*_}
 use lib.Dec.{ltb, leb}
-use lib.ListN.{length, getD, set}
+use lib.ListN.{length, getD, set, take}
 use Rattle.lists.specs.Pick.{pick}
 use Rattle.lists.specs.Equal.{equal}
 use Rattle.lists.specs.Search.{without}
 use Rattle.filesystem.specs.Tables.{PAGE-BYTES, Node, Tables, nodeAt, openAt, setSize, setCursor}
 use Rattle.filesystem.specs.Image.{Image, flatten, divide, print}
 use Rattle.filesystem.specs.Digests.{replaced}
-use Rattle.rules.specs.Pages.{pageOf, pagePart, Change, first, last, fetches, fill, sizeSent, cuts, sizeAfter, cursorAfter, numberOf}
+use Rattle.rules.specs.Pages.{pageOf, pagePart, Change, first, last, fetches, fill, sizeSent, cuts, sizeAfter, cursorAfter, numberOf, before}
 use Rattle.rules.specs.Requests.{fetchRequest, storeRequest, cutRequest, Pending, reading, fetching, storing, cutting}
 use Rattle.rules.specs.Skeleton.{Config, Event, Answer, done, ask, refused, stopped, Outcome, plain, Skeleton, waiting, resting, halted, remapped, freshSkeleton}
 use Rattle.rules.specs.MapRules.{MapChange, mapsAfter, mapNumber}
-use Rattle.rules.specs.Rules.{Move, refuse, halt, send, finish, add, delete, remap, readPage, begin, fillPage, stored, cutDone, saving, loading, judge}
+use Rattle.rules.specs.Rules.{Move, refuse, halt, send, finish, add, delete, remap, readPage, begin, fillPage, stored, cutDone, keepPages, giveUp, saving, loading, judge}
 
 -- nodes, and what is kept of each one's pages; a directory has none
 pub record Files (X : Type 0) : Type 0 where
@@ -42,6 +42,8 @@ pub record Store : Type 1 where
   -- a change: page i as it is stored, from the page that was fetched; it goes out; the file at the end
   pub pageFor : Content → Change → (i : ℕ) → List ℕ → List ℕ
   pub sent : Progress → List ℕ → Progress
+  -- of what was sent, the first n pages
+  pub upTo : Progress → (n : ℕ) → Progress
   pub changed : Content → Change → (size : ℕ) → Progress → Content
   -- a file's digests, page by page
   pub digests : Content → List (List ℕ)
@@ -85,6 +87,10 @@ module _ (c : Config) (S : Store) where
     outcome = plain a;
     state = record { skeleton = resting (s .skeleton) t; contents = x; progress = S .nothing; saves = s .saves };
   }
+
+  -- the disk is full: the call ends, the tables are those of before it
+  abbrev pub gaveUp : State S → Result S
+  gaveUp s = ending s (refused 28) (s .skeleton .tables) (s .contents)
 
   -- a stop is for good; the tables are those of before the call
   abbrev pub stopping : State S → ℕ → Result S
@@ -136,6 +142,10 @@ module _ (c : Config) (S : Store) where
   abbrev pub cleared : State S → State S
   cleared s = record { skeleton = s .skeleton; contents = s .contents; progress = S .nothing; saves = s .saves }
 
+  -- of a change, the first n pages that it has sent
+  abbrev pub trimmed : State S → ℕ → State S
+  trimmed s n = record { skeleton = s .skeleton; contents = s .contents; progress = S .upTo (s .progress) n; saves = s .saves }
+
   abbrev pub imageOf : State S → List ℕ
   imageOf s = print (c .width) (s .skeleton .tables .nodes, flatten (map (S .digests) (s .contents)))
 
@@ -170,6 +180,8 @@ module _ (c : Config) (S : Store) where
   apply s (fillPage k o q i r) = pick (S .isPage (contentAt s k) i r) (askStore s k o q i r) (stopping s 5)
   apply s (stored k o q i) = pagesFrom s k o q (suc i)
   apply s (cutDone k o q) = finishChange s k o q
+  apply s (keepPages k o q i) = finishChange (trimmed s (i - first q)) k o (before q i)
+  apply s giveUp = gaveUp s
   apply s saving = saved s (imageOf s)
   apply s (loading i d) = loaded s (S .restore (s .saves) i d (files s))
 
@@ -213,6 +225,7 @@ module _ (c : Config) where
     gathered = λ x p n a. a .bytes;
     pageFor = λ x q i r. fill q i r;
     sent = λ a p. record { bytes = a .bytes; digests = a .digests ++ (c .digest p ∷ []) };
+    upTo = λ a n. record { bytes = a .bytes; digests = take n (a .digests) };
     changed = λ x q size a. replaced zeroDigest x size (first q) (a .digests);
     digests = λ x. x;
     keep = λ e d f. tt;

@@ -14,7 +14,7 @@ use Rattle.rules.specs.MapLaws.{ValidMaps, none-valid}
 use Rattle.rules.specs.MapMoves.{MapMove, MapsValid, judge-maps}
 use Rattle.rules.specs.Pages.{Change, first, last, fetches, cuts}
 use Rattle.rules.specs.Skeleton.{Config, Event, save, load, EventBytes}
-use Rattle.rules.specs.Rules.{Move, refuse, halt, send, finish, add, delete, remap, readPage, begin, fillPage, stored, cutDone, saving, loading, eventChecks, eventAction, judge}
+use Rattle.rules.specs.Rules.{Move, refuse, halt, send, finish, add, delete, remap, readPage, begin, fillPage, stored, cutDone, keepPages, giveUp, saving, loading, eventChecks, eventAction, judge}
 use Rattle.machine.specs.Machine.{Store, State, Result, contentAt, sizeAt, readOn, finishChange, pagesStored, askStore, onPage, pagesFrom, cleared, apply, step, fresh, final}
 
 module _ (c : Config) (S : Store) where
@@ -46,6 +46,8 @@ module _ (c : Config) (S : Store) where
       pick-ind Keeps (S .isPage (contentAt c S s k) i r) (λ _. record { valid = v .valid; pending = tt }) (λ _. record { valid = v .valid; pending = tt })
   move-maps s v (stored k o q i) h = pages-maps s (v .valid) k o q (suc i)
   move-maps s v (cutDone k o q) h = record { valid = v .valid; pending = tt }
+  move-maps s v (keepPages k o q i) h = record { valid = v .valid; pending = tt }
+  move-maps s v giveUp h = record { valid = v .valid; pending = tt }
   move-maps s v saving h = record { valid = v .valid; pending = tt }
   move-maps s v (loading i d) h = record { valid = v .valid; pending = tt }
 

@@ -150,7 +150,7 @@ module _ (c : Config) (fit : Fit c) where
             (sym (ap (λ s. step c (guard c) s e) q ∙ x)) m)))),
       );
       rest = λ g t e es (r, st, np) q h b. (
-        standing r (step c (guard c) g e .outcome .answer),
+        standing r e (step c (guard c) g e .outcome .answer),
         move-stands c r g st (judge-fits c (g .skeleton) (subst (λ (s : State (guard c)). Valid (c .width) (s .skeleton)) (sym q) (h .valid)) e b),
         λ p m. np p (Memᴰ·append-right (pageReplied r e ++ pageOut (step c (tree c) t e .state .skeleton) (step c (guard c) g e .outcome .answer)) m),
       );
@@ -161,9 +161,9 @@ module _ (c : Config) (fit : Fit c) where
 
     -- a load that is refused leaves a guard that awaits no page
     stays : (i d r : List ℕ) → Stands c r from → EventBytes (load i d) → started c i d .state ≡ from
-        → Stands c (standing r (started c i d .outcome .answer)) from
+        → Stands c (standing r (load i d) (started c i d .outcome .answer)) from
     unfolding step
-    stays i d r st b g = subst (Stands c (standing r (started c i d .outcome .answer))) g
+    stays i d r st b g = subst (Stands c (standing r (load i d) (started c i d .outcome .answer))) g
         (move-stands c r from st (judge-fits c (from .skeleton) (fresh-valid (c .width) (fit .wide)) (load i d) b))
 
     -- one life that is not the first
@@ -199,13 +199,13 @@ module _ (c : Config) (fit : Fit c) where
         tried i d es o g u ih bs lo ((r, st, np), ni) = do
           s ← ih (all-tail bs) (subst (λ y. LoadsOfSaves c (kept t) y es) g (lo .1)) (
             (
-              standing r (started c i d .outcome .answer),
+              standing r (load i d) (started c i d .outcome .answer),
               stays i d r st (all-head bs) g,
               λ p m. np p
                   (Memᴰ·append-right (pageReplied r (load i d) ++ pageOut (resumed c t i d .state .skeleton) (started c i d .outcome .answer))
-                  (subst (λ y. List·Memᴰ p (pagesAfter c (standing r (started c i d .outcome .answer)) y (shown c (guard c) (started c i d .state) es)))
+                  (subst (λ y. List·Memᴰ p (pagesAfter c (standing r (load i d) (started c i d .outcome .answer)) y (shown c (guard c) (started c i d .state) es)))
                   (sym u)
-                  (subst (λ y. List·Memᴰ p (pagesAfter c (standing r (started c i d .outcome .answer)) (restarted c t) (shown c (guard c) y es)))
+                  (subst (λ y. List·Memᴰ p (pagesAfter c (standing r (load i d) (started c i d .outcome .answer)) (restarted c t) (shown c (guard c) y es)))
                   (sym g) m))),
             ),
             (λ p m. ni p (Memᴰ·append-right (imageIn (load i d) ++ imageOut (load i d) (started c i d .outcome))

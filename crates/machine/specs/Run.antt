@@ -23,7 +23,7 @@ use Rattle.rules.specs.Requests.{Pending}
 use Rattle.rules.specs.Skeleton.{Config, Event, call, reply, save, load, EventBytes, ask, refused, Outcome}
 use Rattle.rules.specs.Rules.{Move, loading, judge}
 use Rattle.machine.specs.Machine.{Files, State, Result, files, readOn, finishChange, pagesStored, askStore, onPage, pagesFrom, cleared, apply, step, fresh, outcomes, final, guard}
-use Rattle.rules.specs.Valid.{ValidNodes, Valid, Plain, sizes, Fits, fRefuse, fHalt, fSend, fFinish, fAdd, fDelete, fRemap, fReadPage, fBegin, fFillPage, fStored, fCutDone, fSaving, fLoading}
+use Rattle.rules.specs.Valid.{ValidNodes, Valid, Plain, sizes, Fits, fRefuse, fHalt, fSend, fFinish, fAdd, fDelete, fRemap, fReadPage, fBegin, fFillPage, fStored, fCutDone, fKeepPages, fGiveUp, fSaving, fLoading}
 use Rattle.rules.specs.TableLaws.{fresh-valid}
 use Rattle.rules.specs.FitLaws.{judge-fits}
 use Rattle.machine.specs.ValidLaws.{keeps-valid}
@@ -116,8 +116,8 @@ module _ (c : Config) (fit : Fit c) (M N : List ℕ → Type 0) where
       → ((p : List ℕ) → List·Memᴰ p (pageIn (t .skeleton .pending) e) → M p) → ((p : List ℕ) → List·Memᴰ p (imageIn e) → N p)
       → LoadOf (map (λ s. s .digest) (t .saves)) e (apply c (guard c) (guardOf c t) m .outcome) → Or Bad (Agree c t m)
   unfolding apply imageIn LoadOf isDone
-  agree t v fRefuse np ni lo = ok tt
-  agree t v (fHalt he f) np ni lo = ok tt
+  agree t v (fRefuse f) np ni lo = ok tt
+  agree t v (fHalt he y f) np ni lo = ok tt
   agree t v (fSend h s k) np ni lo = ok tt
   agree t v (fFinish pl h s) np ni lo = ok tt
   agree t v (fAdd pl z h) np ni lo = ok tt
@@ -132,6 +132,8 @@ module _ (c : Config) (fit : Fit c) (M N : List ℕ → Type 0) where
       (known-at c M N (t .contents) k (v .good .known) i (page-in c (t .skeleton .tables .nodes) (t .contents) (v .good .aligned) k i (h .old)))
   agree t v (fStored pl w h) np ni lo = ok tt
   agree t v (fCutDone pl w h) np ni lo = ok tt
+  agree t v (fKeepPages pl w h s l) np ni lo = ok tt
+  agree t v (fGiveUp he f) np ni lo = ok tt
   agree t v (fSaving he w z) np ni lo = ok tt
   agree t v (fLoading {i = i} {image = image} {d = d} he z hd hp) np ni lo =
       agree-image t v i image d hp hd (ni image (rw he (List·Memᴰ·head refl))) ((rw he at lo) tt)
@@ -182,8 +184,8 @@ module _ (c : Config) (fit : Fit c) (M N : List ℕ → Type 0) where
 
   remembers : (t : State (tree c)) {m : Move} {e : Event} → Fits c (t .skeleton) e m → Remembers t e (apply c (tree c) t m)
   unfolding apply readOn askStore finishChange
-  remembers t {e = e} (fRefuse {n = n}) = rw (given-refused e n)
-  remembers t {e = e} (fHalt {r = r} {a = a} {q = q} he f) = same-saves t e (is-plain e r a q he) _ _ refl
+  remembers t {e = e} (fRefuse {n = n} f) = rw (given-refused e n)
+  remembers t {e = e} (fHalt {r = r} {a = a} {q = q} he y f) = same-saves t e (is-plain e r a q he) _ _ refl
   remembers t {e = e} (fSend {q = q} h s k) = rw (given-ask e q)
   remembers t {e = e} (fFinish pl h s) = same-saves t e pl _ _ refl
   remembers t {e = e} (fAdd pl z h) = same-saves t e pl _ _ refl
@@ -197,6 +199,8 @@ module _ (c : Config) (fit : Fit c) (M N : List ℕ → Type 0) where
       same-saves t e (is-plain e r a b he) _ _ (pick-ind (Quiet t) _ (λ _. refl) (λ _. refl))
   remembers t {e = e} (fStored {k = k} {o = o} {q = q} {i = i} pl w h) = same-saves t e pl _ _ (pages-quiet t k o q (suc i))
   remembers t {e = e} (fCutDone pl w h) = same-saves t e pl _ _ refl
+  remembers t {e = e} (fKeepPages pl w h s l) = same-saves t e pl _ _ refl
+  remembers t {e = e} (fGiveUp {r = r} {a = a} {q = q} he f) = same-saves t e (is-plain e r a q he) _ _ refl
   remembers t {e = e} (fSaving {n = n} he w z) = rw he (unfold given givenIf in refl)
   remembers t {e = e} (fLoading {image = image} {d = d} he z hd hp) = rw he (unfold given in refl)
 

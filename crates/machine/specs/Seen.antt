@@ -30,12 +30,18 @@ unfoldable pub shown : (c : Config) (S : Store) → State S → List Event → L
 shown c S s [] = []
 shown c S s (e ∷ es) = record { event = e; outcome = step c S s e .outcome } ∷ shown c S (step c S s e .state) es
 
--- The history. The request that stands after an answer: a refusal leaves it as it was.
-unfoldable pub standing : (request : List ℕ) → Answer → List ℕ
-standing q (done n b) = []
-standing q (ask r) = r
-standing q (refused n) = q
-standing q (stopped n) = []
+-- The history. The request that stands after an event: a refusal leaves it as it was, but for 28 to a reply, where the disk is full.
+unfoldable pub leftBy : (request : List ℕ) → Event → (number : ℕ) → List ℕ
+leftBy q (call s a b) n = q
+leftBy q (reply r a b) n = pick (eqb n 28) [] q
+leftBy q (save m) n = q
+leftBy q (load i d) n = q
+
+unfoldable pub standing : (request : List ℕ) → Event → Answer → List ℕ
+standing q e (done n b) = []
+standing q e (ask r) = r
+standing q e (refused n) = leftBy q e n
+standing q e (stopped n) = []
 
 -- the reply to a fetch, if it is as long as a page
 unfoldable pub pageReplied : (request : List ℕ) → Event → List (List ℕ)
@@ -51,7 +57,7 @@ module _ (c : Config) where
   pagesAfter q t [] = []
   pagesAfter q t (x ∷ xs) =
       (pageReplied q (x .event) ++ pageOut (step c (tree c) t (x .event) .state .skeleton) (x .outcome .answer))
-      ++ pagesAfter (standing q (x .outcome .answer)) (step c (tree c) t (x .event) .state) xs
+      ++ pagesAfter (standing q (x .event) (x .outcome .answer)) (step c (tree c) t (x .event) .state) xs
 
   -- from this tree on
   abbrev pub pagesSeen : State (tree c) → List Seen → List (List ℕ)

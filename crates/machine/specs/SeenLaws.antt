@@ -1,26 +1,29 @@
 -- What a run of the guard shows, in the words of specs/Seen.antt: the same history, the same loads, the same honest host as in specs/Claim.antt;
 -- and that only a save gives a digest.
 -- Assumes nothing.
-use mathlib.Core.Path.{_≡_, refl, ap, ap₂, subst}
+use mathlib.Core.Path.{_≡_, refl, ap, ap₂, _∙_, subst}
+use mathlib.Core.Bool.{false}
 use mathlib.Core.List.{List, [], _∷_, _++_}
 use Prim.Native.Nat.{ℕ, suc, _+_, _*_}
 use lib.Dec.{eqb, ltb, leb}
 use lib.ListN.{length, getD}
-use Rattle.lists.specs.Pick.{pick, pick-ind}
+use Rattle.lists.specs.Pick.{pick, pick-false, pick-ind}
 use Rattle.lists.specs.Equal.{equal}
-use Rattle.lists.specs.Checks.{decide-ind}
+use Rattle.lists.specs.All.{both, none as all-none}
+use Rattle.lists.specs.Checks.{First, decide-ind}
 use Rattle.filesystem.specs.Tables.{PAGE-BYTES}
 use Rattle.rules.specs.Pages.{Change, first, last, fetches, cuts}
 use Rattle.rules.specs.Requests.{isFetch, fetchRequest, storeRequest, cutRequest, asked, Pending, idle, reading, fetching, storing, cutting}
 use Rattle.rules.specs.Skeleton.{Config, Event, call, reply, save, load, EventBytes, Outcome, done, refused, plain}
 use Rattle.rules.specs.Rules.{Move, refuse, eventChecks, eventAction, judge}
-use Rattle.rules.specs.Valid.{Valid, Asks, Starts, Fits, fRefuse, fHalt, fSend, fFinish, fAdd, fDelete, fRemap, fReadPage, fBegin, fFillPage, fStored, fCutDone, fSaving, fLoading}
+use Rattle.rules.specs.Valid.{Valid, Asks, Starts, Fits, fRefuse, fHalt, fSend, fFinish, fAdd, fDelete, fRemap, fReadPage, fBegin, fFillPage, fStored, fCutDone, fKeepPages, fGiveUp, fSaving, fLoading}
+use Rattle.rules.specs.Outcomes.{first-has}
 use Rattle.rules.specs.FitLaws.{judge-fits}
 use Rattle.machine.specs.Machine.{Store, State, Result, contentAt, sizeAt, imageOf, readOn, finishChange, pagesStored, askStore, onPage, pagesFrom, cleared, apply, step, outcomes, guard}
 use Rattle.machine.specs.Tree.{tree}
 use Rattle.machine.specs.History.{awaitsPage, pageIn, imageIn, imageOut, images}
 use Rattle.machine.specs.Claim.{LoadOf, LoadsOfSaves, HonestAt, Honest, given}
-use Rattle.machine.specs.Seen.{Seen, events, answers, shown, standing, pageReplied, imagesSeen, LoadsSeen, HonestIn, HonestSeen}
+use Rattle.machine.specs.Seen.{Seen, events, answers, shown, leftBy, standing, pageReplied, imagesSeen, LoadsSeen, HonestIn, HonestSeen}
 
 -- what was handed in, with the outcomes of a run, is what the run shows
 pub shown-is : (c : Config) (S : Store) (s : State S) (xs : List Seen) → answers xs ≡ outcomes c S s (events xs) → xs ≡ shown c S s (events xs)
@@ -72,8 +75,8 @@ module _ (c : Config) where
   abbrev pub Stands : List ℕ → State (guard c) → Type 0
   Stands q g = isFetch q ≡ awaitsPage (g .skeleton .pending)
 
-  abbrev StandsAfter : List ℕ → Result (guard c) → Type 0
-  StandsAfter q r = Stands (standing q (r .outcome .answer)) (r .state)
+  abbrev StandsAfter : List ℕ → Event → Result (guard c) → Type 0
+  StandsAfter q e r = Stands (standing q e (r .outcome .answer)) (r .state)
 
   starts-stands : (p : Pending) (q : List ℕ) → Starts p → Asks p q → isFetch q ≡ awaitsPage p
   unfolding awaitsPage
@@ -84,31 +87,45 @@ module _ (c : Config) where
   starts-stands (storing k o x i) q s a = absurd s
   starts-stands (cutting k o x) q s a = absurd s
 
-  pages-stand : (q : List ℕ) (g : State (guard c)) (k o : ℕ) (x : Change) (i : ℕ) → StandsAfter q (pagesFrom c (guard c) g k o x i)
+  pages-stand : (q : List ℕ) (e : Event) (g : State (guard c)) (k o : ℕ) (x : Change) (i : ℕ) → StandsAfter q e (pagesFrom c (guard c) g k o x i)
   unfolding pagesFrom onPage askStore pagesStored finishChange standing isFetch awaitsPage fetchRequest storeRequest cutRequest
-  pages-stand q g k o x i =
-      pick-ind (StandsAfter q) (ltb i (last x))
-      (λ _. pick-ind (StandsAfter q) (fetches x (sizeAt c (guard c) g k) i) (λ _. refl) (λ _. refl))
-      (λ _. pick-ind (StandsAfter q) (cuts x) (λ _. refl) (λ _. refl))
+  pages-stand q e g k o x i =
+      pick-ind (StandsAfter q e) (ltb i (last x))
+      (λ _. pick-ind (StandsAfter q e) (fetches x (sizeAt c (guard c) g k) i) (λ _. refl) (λ _. refl))
+      (λ _. pick-ind (StandsAfter q e) (cuts x) (λ _. refl) (λ _. refl))
 
-  pub move-stands : (q : List ℕ) (g : State (guard c)) → Stands q g → {m : Move} {e : Event} → Fits c (g .skeleton) e m → StandsAfter q (apply c (guard c) g m)
+  -- a number of a reply's list is not 28
+  not-full : (g : State (guard c)) (r : List ℕ) (a b n : ℕ) → First n (eventChecks c (g .skeleton) (reply r a b)) → eqb n 28 ≡ false
+  unfolding eventChecks
+  not-full g r a b n f = first-has {F = λ ch. eqb (ch .0) 28 ≡ false} (both refl (both refl (both refl all-none))) f
+
+  left-stands : (q : List ℕ) (g : State (guard c)) → Stands q g → (e : Event) (n : ℕ) → First n (eventChecks c (g .skeleton) e) → Stands (leftBy q e n) g
+  unfolding leftBy
+  left-stands q g h (call s a b) n f = h
+  left-stands q g h (reply r a b) n f = ap isFetch (pick-false _ _ _ (not-full g r a b n f)) ∙ h
+  left-stands q g h (save m) n f = h
+  left-stands q g h (load i d) n f = h
+
+  pub move-stands : (q : List ℕ) (g : State (guard c)) → Stands q g → {m : Move} {e : Event} → Fits c (g .skeleton) e m → StandsAfter q e (apply c (guard c) g m)
   unfolding apply readOn askStore finishChange standing isFetch awaitsPage fetchRequest storeRequest
-  move-stands q g h fRefuse = h
-  move-stands q g h (fHalt he f) = refl
+  move-stands q g h {e = e} (fRefuse {n = n} f) = left-stands q g h e n f
+  move-stands q g h (fHalt he y f) = refl
   move-stands q g h (fSend {p = p} {q = r} x s a) = starts-stands p r s a
   move-stands q g h (fFinish pl v z) = refl
   move-stands q g h (fAdd pl z v) = refl
   move-stands q g h (fDelete pl v) = refl
   move-stands q g h (fRemap pl) = refl
-  move-stands q g h (fReadPage {k = k} {p = p} {n = n} {i = i} {r = r} he w l x) =
-      pick-ind (StandsAfter q) (equal (c .digest r) (getD (getD (g .contents) k []) i []))
-      (λ _. pick-ind (StandsAfter q) (leb (p + n) (i * 1024 + 1024)) (λ _. refl) (λ _. refl))
+  move-stands q g h {e = e} (fReadPage {k = k} {p = p} {n = n} {i = i} {r = r} he w l x) =
+      pick-ind (StandsAfter q e) (equal (c .digest r) (getD (getD (g .contents) k []) i []))
+      (λ _. pick-ind (StandsAfter q e) (leb (p + n) (i * 1024 + 1024)) (λ _. refl) (λ _. refl))
       (λ _. refl)
-  move-stands q g h (fBegin {k = k} {o = o} {q = x} pl z) = pages-stand q (cleared c (guard c) g) k o x (first x)
-  move-stands q g h (fFillPage {k = k} {i = i} {r = r} he w l x) =
-      pick-ind (StandsAfter q) (equal (c .digest r) (getD (getD (g .contents) k []) i [])) (λ _. refl) (λ _. refl)
-  move-stands q g h (fStored {k = k} {o = o} {q = x} {i = i} pl w z) = pages-stand q g k o x (suc i)
+  move-stands q g h {e = e} (fBegin {k = k} {o = o} {q = x} pl z) = pages-stand q e (cleared c (guard c) g) k o x (first x)
+  move-stands q g h {e = e} (fFillPage {k = k} {i = i} {r = r} he w l x) =
+      pick-ind (StandsAfter q e) (equal (c .digest r) (getD (getD (g .contents) k []) i [])) (λ _. refl) (λ _. refl)
+  move-stands q g h {e = e} (fStored {k = k} {o = o} {q = x} {i = i} pl w z) = pages-stand q e g k o x (suc i)
   move-stands q g h (fCutDone pl w z) = refl
+  move-stands q g h (fKeepPages pl w x z l) = refl
+  move-stands q g h (fGiveUp he f) = rw he (unfold leftBy pick in refl)
   move-stands q g h (fSaving he w z) = refl
   move-stands q g h (fLoading he z hd hp) = refl
 
@@ -138,8 +155,8 @@ module _ (c : Config) (S : Store) where
 
   move-bare : (s : State S) {m : Move} {e : Event} → NoSave e → Fits c (s .skeleton) e m → Bare (apply c S s m)
   unfolding apply readOn askStore finishChange
-  move-bare s ns fRefuse = refl
-  move-bare s ns (fHalt he f) = refl
+  move-bare s ns (fRefuse f) = refl
+  move-bare s ns (fHalt he y f) = refl
   move-bare s ns (fSend x st a) = refl
   move-bare s ns (fFinish pl v z) = refl
   move-bare s ns (fAdd pl z v) = refl
@@ -151,6 +168,8 @@ module _ (c : Config) (S : Store) where
   move-bare s ns (fFillPage {k = k} {i = i} {r = r} he w l x) = pick-ind Bare (S .isPage (contentAt c S s k) i r) (λ _. refl) (λ _. refl)
   move-bare s ns (fStored {k = k} {o = o} {q = x} {i = i} pl w z) = pages-bare s k o x (suc i)
   move-bare s ns (fCutDone pl w z) = refl
+  move-bare s ns (fKeepPages pl w x z l) = refl
+  move-bare s ns (fGiveUp he f) = refl
   move-bare s ns (fSaving he w z) = absurd (subst NoSave he ns)
   move-bare s ns (fLoading he z hd hp) = refl
 

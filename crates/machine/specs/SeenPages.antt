@@ -30,7 +30,7 @@ module _ (c : Config) (fit : Fit c) where
       let v : Valid (c .width) (g .skeleton) = rw q (h .valid) in
       let here : pageReplied r e ≡ pageIn (g .skeleton .pending) e = page-replied c r (g .skeleton .pending) e st in
       let same : step c (tree c) t e .state .skeleton ≡ step c (guard c) g e .state .skeleton = ap (λ (x : Result (guard c)). x .state .skeleton) (sym y) in
-      let rest = shown-on es (step c (guard c) g e .state) (step c (tree c) t e .state) (standing r a) (ap (λ x. x .state) y) h₂
+      let rest = shown-on es (step c (guard c) g e .state) (step c (tree c) t e .state) (standing r e a) (ap (λ x. x .state) y) h₂
       (move-stands c r g st (judge-fits c (g .skeleton) v e (all-head bs))) (all-tail bs) ho in
       λ i. (here i ++ pageOut (same i) a) ++ rest i
 

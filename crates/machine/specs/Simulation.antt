@@ -1,25 +1,27 @@
 -- The guard is a function of the tree: one move of each comes to the same, where the tests on pages and loaded images agree.
 -- Assumes nothing.
 use mathlib.Core.Path.{_≡_, refl, ap, sym, _∙_}
+use mathlib.Core.Bool.{true}
 use mathlib.Core.List.{List, [], _∷_, map, map-append, map-id}
 use Prim.Native.Nat.{ℕ, suc, _+_, _-_, _*_, _/_, _≤_, _<_, min, max}
 use native.Mathlib.Omega.{arith}
 use lib.Dec.{ltb, leb}
-use lib.ListN.{length, getD, List·getD-map}
+use lib.ListN.{length, getD, take, List·getD-map}
 use borrow.Author.Tests.{ltb-false, leb-true, leb-false}
 use Rattle.lists.specs.Pick.{pick-map}
 use Rattle.lists.specs.Equal.{equal, equal-true}
-use Rattle.lists.specs.Cells.{tab, tab-more, tab-none}
+use Rattle.lists.specs.Cells.{tab, tab-more, tab-none, tab-take, tab-cong}
 use Rattle.lists.specs.Maps.{map-set, map-without}
 use Rattle.filesystem.specs.Tables.{Node, noNode, nodeAt, pagesFor}
 use Rattle.filesystem.specs.Image.{divide}
-use Rattle.rules.specs.Pages.{pageAt, pageOf, bytesAt, Change, first, last, fetches, fill, cuts, bytesAfter, FitsSize}
-use Rattle.rules.specs.PageLaws.{first-last, fill-page, fill-blank, bytesAt-more}
+use Rattle.rules.specs.Pages.{pageAt, pageOf, bytesAt, Change, first, last, fetches, fill, cuts, bytesAfter, FitsSize, storesMore, before}
+use Rattle.rules.specs.PageLaws.{first-last, fill-page, fill-blank, bytesAt-more, before-first, before-last, before-page}
+use Rattle.rules.specs.FullLaws.{before-change}
 use Rattle.rules.specs.Requests.{asked, Pending, idle, reading, fetching, storing, cutting}
 use Rattle.rules.specs.Skeleton.{Config, Event}
-use Rattle.rules.specs.Rules.{Move, refuse, halt, send, finish, add, delete, remap, readPage, begin, fillPage, stored, cutDone, saving, loading}
+use Rattle.rules.specs.Rules.{Move, refuse, halt, send, finish, add, delete, remap, readPage, begin, fillPage, stored, cutDone, keepPages, giveUp, saving, loading}
 use Rattle.machine.specs.Machine.{Files, State, Result, files, readOn, finishChange, pagesStored, askStore, onPage, pagesFrom, loaded, apply, guard}
-use Rattle.rules.specs.Valid.{ReadingFits, FetchFits, Starts, sizes, Fits, fRefuse, fHalt, fSend, fFinish, fAdd, fDelete, fRemap, fReadPage, fBegin, fFillPage, fStored, fCutDone, fSaving, fLoading}
+use Rattle.rules.specs.Valid.{ReadingFits, FetchFits, Starts, sizes, Fits, fRefuse, fHalt, fSend, fFinish, fAdd, fDelete, fRemap, fReadPage, fBegin, fFillPage, fStored, fCutDone, fKeepPages, fGiveUp, fSaving, fLoading}
 use Rattle.machine.specs.Tree.{guardWith, lookup, goBack, digestsOf, tree, sentDigests, progressOf, guardOf}
 use Rattle.machine.specs.DigestLaws.{digests-blank, digest-at, digests-at, replaced-digests}
 
@@ -48,6 +50,8 @@ module _ (c : Config) where
   Agree t (fillPage k o q i r) = SamePage r (pageOf (getD (t .contents) k []) i)
   Agree t (stored k o q i) = Unit {0}
   Agree t (cutDone k o q) = Unit {0}
+  Agree t (keepPages k o q i) = Unit {0}
+  Agree t giveUp = Unit {0}
   Agree t saving = Unit {0}
   Agree t (loading i d) =
       _≡_ {A = Files (List (List ℕ))} (record { nodes = i .0; contents = divide (i .0) (i .1) }) (filesOf (goBack (lookup (t .saves) d) (files c (tree c) t)))
@@ -160,12 +164,21 @@ module _ (c : Config) where
   unfolding sentDigests
   bare b q = tab-none (first q) _
 
+  -- of the pages sent, those before i are those of the write of the bytes before it
+  kept-digests : (b : List ℕ) (q : Change) (i : ℕ) → storesMore q ≡ true → first q < i → i < last q
+      → take (i - first q) (sentDigests c b q (suc i)) ≡ sentDigests c b (before q i) (last (before q i))
+  unfolding sentDigests
+  kept-digests b q i s l m =
+      tab-take (i - first q) (suc i - first q) (λ j. c .digest (pageOf (bytesAfter q b) (first q + j))) (omega arith)
+      ∙ rw (before-last q i s l m, before-first q i)
+      (tab-cong (i - first q) _ _ (λ j h. ap (c .digest) (sym (before-page q i b (first q + j) s l m (omega arith)))))
+
   -- One move.
   pub commute : (t : State (tree c)) → Aligned (t .skeleton .tables .nodes) (t .contents) → {m : Move} {e : Event} → Fits c (t .skeleton) e m → Agree t m
       → apply c (guard c) (guardOf c t) m ≡ resultOf (apply c (tree c) t m)
   unfolding apply guardOf resultOf progressOf filesOf
-  commute t al fRefuse g = refl
-  commute t al (fHalt h f) g = refl
+  commute t al (fRefuse f) g = refl
+  commute t al (fHalt h n f) g = refl
   commute t al (fSend {p = p} h s k) g = rw (starts-bare (t .contents) p s)
   commute t al (fFinish pl v s) g = refl
   commute t al (fAdd pl s v) g = rw (map-append (digestsOf c) (t .contents) ([] ∷ []), digests-blank c)
@@ -183,5 +196,10 @@ module _ (c : Config) where
       ∙ pages-same t k o q (suc i) al (h .change .fits) (let z = h .from in omega arith) (let z = h .to in omega arith)
   commute t al (fCutDone {k = k} {o = o} {q = q} pl w h) g =
       ap (λ s. apply c (guard c) s (cutDone k o q)) (guard-is t w) ∙ finish-same t k o q al (h .fits)
+  commute t al (fKeepPages {k = k} {o = o} {q = q} {i = i} pl w h s l) g =
+      ap (λ s. apply c (guard c) s (keepPages k o q i)) (guard-is t w)
+      ∙ (ap (λ ds. finishChange c (guard c) (beside t [] ds) k o (before q i)) (kept-digests (bytesOf t k) q i s l (h .to))
+      ∙ finish-same t k o (before q i) al (before-change _ _ k o q i h s l .fits))
+  commute t al (fGiveUp he f) g = refl
   commute t al (fSaving he w z) g = rw (map-id (map (digestsOf c) (t .contents)))
   commute t al (fLoading he z hd hp) g = ap (λ (f : Files (List (List ℕ))). loaded c (guard c) (guardOf c t) f) g

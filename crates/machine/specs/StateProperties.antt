@@ -22,12 +22,12 @@ use Rattle.filesystem.specs.Tables.{Node, OpenFile, pagesFor, setSize}
 use Rattle.filesystem.specs.Image.{Image, flatten, divide, soundNodes, sound, print, parse}
 use Rattle.filesystem.specs.ImageLaws.{Divided, Digest, Shaped, length-flatten, divide-flatten, divided, all-flatten, parse-print, parse-was-printed}
 use Rattle.filesystem.specs.Digests.{replaced}
-use Rattle.rules.specs.Pages.{Change, first, last, fetches, cuts}
+use Rattle.rules.specs.Pages.{Change, first, last, fetches, cuts, before}
 use Rattle.rules.specs.Skeleton.{resting-same, Config, Event, load, EventBytes, done, plain, Skeleton}
 use Rattle.rules.specs.Requests.{idle}
 use Rattle.rules.specs.Rules.{Move, refuse, loading, isIdle, isNone, imageOr, eventChecks, eventAction, judge}
-use Rattle.machine.specs.Machine.{State, Result, readOn, finishChange, pagesStored, askStore, onPage, pagesFrom, cleared, imageOf, apply, step, fresh, final, zeroDigest, guard}
-use Rattle.rules.specs.Valid.{ValidNodes, Valid, sizes, Fits, fRefuse, fHalt, fSend, fFinish, fAdd, fDelete, fRemap, fReadPage, fBegin, fFillPage, fStored, fCutDone, fSaving, fLoading}
+use Rattle.machine.specs.Machine.{State, Result, readOn, finishChange, pagesStored, askStore, onPage, pagesFrom, cleared, trimmed, imageOf, apply, step, fresh, final, zeroDigest, guard}
+use Rattle.rules.specs.Valid.{ValidNodes, Valid, sizes, Fits, fRefuse, fHalt, fSend, fFinish, fAdd, fDelete, fRemap, fReadPage, fBegin, fFillPage, fStored, fCutDone, fKeepPages, fGiveUp, fSaving, fLoading}
 use Rattle.rules.specs.TableLaws.{fresh-valid}
 use Rattle.rules.specs.FitLaws.{judge-fits}
 use Rattle.machine.specs.ValidLaws.{keeps-valid}
@@ -164,8 +164,8 @@ module _ (c : Config) (digest-fits : (s : List ℕ) → Digest (c .digest s)) wh
 
   keeps-digested : (g : State (guard c)) → Digested c g → (m : Move) (e : Event) → EventBytes e → Fits c (g .skeleton) e m → Keeps c (apply c (guard c) g m)
   unfolding apply sound
-  keeps-digested g h m e b fRefuse = h
-  keeps-digested g h m e b (fHalt x f) = record { counted = h .counted; digested = h .digested; sent = none }
+  keeps-digested g h m e b (fRefuse f) = h
+  keeps-digested g h m e b (fHalt x n f) = record { counted = h .counted; digested = h .digested; sent = none }
   keeps-digested g h m e b (fSend p s k) = record { counted = h .counted; digested = h .digested; sent = none }
   keeps-digested g h m e b (fFinish {t = t} pl v z) = record { counted = same-sizes (g .skeleton .tables .nodes) (t .nodes) (g .contents) z (h .counted); digested = h .digested; sent = none }
   keeps-digested g h m e b (fAdd {n = n} pl z v) = record {
@@ -194,6 +194,9 @@ module _ (c : Config) (digest-fits : (s : List ℕ) → Digest (c .digest s)) wh
       (λ t. record { counted = h .counted; digested = h .digested; sent = none })
   keeps-digested g h m e b (fStored {k = k} {o = o} {q = q} {i = i} pl w x) = pages-digested g k o q (suc i) h
   keeps-digested g h m e b (fCutDone {k = k} {o = o} {q = q} pl w x) = finish-digested g k o q h
+  keeps-digested g h m e b (fKeepPages {k = k} {o = o} {q = q} {i = i} pl w x t l) =
+      finish-digested (trimmed c (guard c) g (i - first q)) k o (before q i) (record { counted = h .counted; digested = h .digested; sent = all-take (i - first q) (h .sent) })
+  keeps-digested g h m e b (fGiveUp he f) = record { counted = h .counted; digested = h .digested; sent = none }
   keeps-digested g h m e b (fSaving he w z) = record { counted = h .counted; digested = h .digested; sent = none }
   keeps-digested g h m e b (fLoading {i = i} {image = s} {d = d} he z hd hp) =
       let (t, x) = parsed-shape c b s d i he hp in

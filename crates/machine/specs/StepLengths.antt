@@ -1,6 +1,7 @@
 -- Buffers of the least lengths always suffice; and a read that is done gives just the bytes that it names.
 -- Assumes nothing.
 use mathlib.Core.Path.{_≡_, refl, ap, sym, _∙_, subst}
+use mathlib.Core.Bool.{true, false≢true}
 use mathlib.Core.List.{List, [], _∷_, _++_}
 use Prim.Native.Nat.{ℕ, suc, _+_, _-_, _*_, _≤_, _<_, min, max}
 use native.Mathlib.Omega.{arith}
@@ -17,9 +18,9 @@ use Rattle.filesystem.specs.ImageLaws.{Digest}
 use Rattle.rules.specs.Pages.{pageAt, pagePart, Change, writing, first, last, fetches, sizeSent, cuts, numberOf}
 use Rattle.rules.specs.Requests.{storeLength, cutRequest, reading}
 use Rattle.rules.specs.Skeleton.{Config, Event, reply, EventBytes, done, answerBytes, requestBytes, answerLength, requestLength}
-use Rattle.rules.specs.Rules.{Move, refuse, halt, send, finish, add, delete, remap, readPage, begin, fillPage, stored, cutDone, saving, loading, reasons, replyAction, eventChecks, eventAction, judge}
+use Rattle.rules.specs.Rules.{Move, refuse, halt, send, finish, add, delete, remap, readPage, begin, fillPage, stored, cutDone, keepPages, giveUp, saving, loading, reasons, replyAction, tellsFull, eventChecks, eventAction, judge}
 use Rattle.machine.specs.Machine.{Store, State, Result, Gathered, contentAt, sizeAt, descriptorAt, readOn, finishChange, pagesStored, askStore, onPage, pagesFrom, cleared, apply, step, fresh, final, guard}
-use Rattle.rules.specs.Valid.{PendingFits, ReadingFits, Valid, Plain, Fits, fRefuse, fHalt, fSend, fFinish, fAdd, fDelete, fRemap, fReadPage, fBegin, fFillPage, fStored, fCutDone, fSaving, fLoading}
+use Rattle.rules.specs.Valid.{PendingFits, ReadingFits, Valid, Plain, Fits, fRefuse, fHalt, fSend, fFinish, fAdd, fDelete, fRemap, fReadPage, fBegin, fFillPage, fStored, fCutDone, fKeepPages, fGiveUp, fSaving, fLoading}
 use Rattle.rules.specs.FitLaws.{judge-fits}
 use Rattle.machine.specs.StateProperties.{Holds, step-holds, always-holds, always-valid}
 use Rattle.rules.specs.Lengths.{Gathers, Modest, fetch-short, store-length, judge-modest, page-long, gather-more}
@@ -58,6 +59,8 @@ module _ (c : Config) (S : Store) (long : (x : S .Content) (q : Change) (i : ℕ
   move-short s (fillPage k o q i r) h = pick-ind Short (S .isPage (contentAt c S s k) i r) (λ _. store-short s k o q i r) (λ _. omega arith)
   move-short s (stored k o q i) h = pages-short s k o q (suc i)
   move-short s (cutDone k o q) h = omega arith
+  move-short s (keepPages k o q i) h = omega arith
+  move-short s giveUp h = omega arith
   move-short s saving h = omega arith
   move-short s (loading i d) h = omega arith
 
@@ -101,8 +104,8 @@ module _ (c : Config) where
 
     move-gives : (g : State (guard c)) → Reads g → {m : Move} → Modest c m → Fits c (g .skeleton) e m → Gives e (apply c (guard c) g m)
     unfolding apply finishChange askStore answerBytes
-    move-gives g h d fRefuse = silent h refl
-    move-gives g h d (fHalt he f) = silent tt refl
+    move-gives g h d (fRefuse f) = silent h refl
+    move-gives g h d (fHalt he y f) = silent tt refl
     move-gives g h d (fSend x st k) = silent (d .1) refl
     move-gives g h d (fFinish pl v z) = record { reads = tt; fits = λ _. d }
     move-gives g h d (fAdd pl z v) = silent tt refl
@@ -115,6 +118,8 @@ module _ (c : Config) where
     move-gives g h d (fFillPage he w l x) = pick-ind (Gives e) _ (λ _. silent tt refl) (λ _. silent tt refl)
     move-gives g h d (fStored {k = k} {o = o} {q = q} {i = i} pl w x) = pages-give g k o q (suc i)
     move-gives g h d (fCutDone pl w x) = silent tt refl
+    move-gives g h d (fKeepPages pl w x s l) = silent tt refl
+    move-gives g h d (fGiveUp he f) = silent tt refl
     move-gives g h d (fSaving he w z) = record { reads = tt; fits = λ pl. absurd (subst Plain he pl) }
     move-gives g h d (fLoading he z hd hp) = silent tt refl
 
@@ -152,9 +157,11 @@ module _ (c : Config) where
       read-counts r a q =
           decide-ind refuse (λ m. Counts (apply c (guard c) g m)) (eventChecks c (g .skeleton) (reply r a q)) _
           (λ j f m b e. unfold apply in absurd (let z : _≡_ {A = ℕ} 0 1 = cc in omega arith))
-          (λ _. decide-ind halt (λ m. Counts (apply c (guard c) g m)) (reasons (c .width) (g .skeleton) r) _
+          (λ _. pick-ind (λ m. Counts (apply c (guard c) g m)) (tellsFull (c .width) r (g .skeleton .pending))
+          (λ y. absurd (false≢true (subst (λ p. tellsFull (c .width) r p ≡ true) w y)))
+          (λ y. decide-ind halt (λ m. Counts (apply c (guard c) g m)) (reasons (c .width) (g .skeleton) r) _
           (λ j f m b e. unfold apply in absurd (let z : _≡_ {A = ℕ} 0 1 = cc in omega arith))
-          (λ _. subst (λ y. Counts (apply c (guard c) g (replyAction (c .width) (g .skeleton .tables) r y))) (sym w) (unfold replyAction in page-counts r)))
+          (λ _. subst (λ y. Counts (apply c (guard c) g (replyAction (c .width) (g .skeleton .tables) r y))) (sym w) (unfold replyAction in page-counts r))))
 
 pub write-counts : (c : Config) (S : Store) (s : State S) (k o p : ℕ) (d : List ℕ) → finishChange c S s k o (writing p d) .outcome .answer ≡ done (length d) []
 unfolding finishChange numberOf

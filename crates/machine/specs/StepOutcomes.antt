@@ -12,16 +12,16 @@ use borrow.Author.Tests.{leb-true}
 use Rattle.lists.specs.Pick.{pick-ind}
 use Rattle.lists.specs.Equal.{and-fst, and-snd, and-both}
 use Rattle.lists.specs.All.{Bytes, both, none as all-none, all-append}
-use Rattle.lists.specs.Search.{every}
-use Rattle.lists.specs.Checks.{First, here, decide-passed}
+use Rattle.lists.specs.Search.{every, any}
+use Rattle.lists.specs.Checks.{Passed, First, here, decide-passed}
 use Rattle.filesystem.specs.Tables.{NAME-BYTES}
 use Rattle.filesystem.specs.Paths.{componentForm}
 use Rattle.rules.specs.Calls.{create, callBytes}
 use Rattle.rules.specs.Pages.{Change, first, last, fetches, cuts}
 use Rattle.rules.specs.Skeleton.{Config, Event, call, reply, save, load, Answer, done, ask, refused, stopped, plain, answerLength, requestLength}
-use Rattle.rules.specs.Rules.{Move, refuse, halt, send, finish, add, delete, remap, readPage, begin, fillPage, stored, cutDone, saving, loading, callAction, mapChecks, eventChecks, judge}
-use Rattle.machine.specs.Machine.{Store, State, Result, contentAt, sizeAt, stopping, readOn, finishChange, pagesStored, askStore, onPage, pagesFrom, cleared, apply, step, fresh}
-use Rattle.rules.specs.Outcomes.{known, isReason, first-has, checks-known, refused-exactly, halt-reason, judge-call, fresh-create-passes}
+use Rattle.rules.specs.Rules.{Move, refuse, halt, send, finish, add, delete, remap, readPage, begin, fillPage, stored, cutDone, keepPages, giveUp, saving, loading, callAction, mapChecks, eventChecks, givesUp, judge}
+use Rattle.machine.specs.Machine.{Store, State, Result, contentAt, sizeAt, stopping, gaveUp, readOn, finishChange, pagesStored, askStore, onPage, pagesFrom, cleared, apply, step, fresh}
+use Rattle.rules.specs.Outcomes.{known, isReason, first-has, checks-known, refused-exactly, gives-up-exactly, halt-reason, judge-call, fresh-create-passes}
 
 -- What a move comes to: a refusal, a stop, or neither.
 unfoldable pub onward : Answer → Bool
@@ -35,6 +35,7 @@ module _ (c : Config) (S : Store) where
     goes : onward (r .outcome .answer) ≡ true → Came s m r
     refuses : {n : ℕ} → m ≡ refuse n → r ≡ record { outcome = plain (refused n); state = s } → Came s m r
     stops : {n : ℕ} → (m ≡ halt n) ⊎ (n ≡ 5) → r ≡ stopping c S s n → Came s m r
+    ends : m ≡ giveUp → r ≡ gaveUp c S s → Came s m r
 
   abbrev Onward : Result S → Type 0
   Onward r = onward (r .outcome .answer) ≡ true
@@ -60,17 +61,24 @@ module _ (c : Config) (S : Store) where
   came s (fillPage k o q i r) = pick-ind (Came s (fillPage k o q i r)) (S .isPage (contentAt c S s k) i r) (λ _. goes refl) (λ _. stops (inr refl) refl)
   came s (stored k o q i) = goes (pages-onward s k o q (suc i))
   came s (cutDone k o q) = goes refl
+  came s (keepPages k o q i) = goes refl
+  came s giveUp = ends refl refl
   came s saving = goes refl
   came s (loading i d) = goes refl
 
   module _ (s : State S) (m : Move) (r : Result S) (n : ℕ) where
-    came-refused : Came s m r → r .outcome .answer ≡ refused n → (m ≡ refuse n) × (r .state ≡ s)
+    came-refused : Came s m r → r .outcome .answer ≡ refused n
+        → ((m ≡ refuse n) × (r .state ≡ s)) ⊎ ((m ≡ giveUp) × (n ≡ 28) × (r ≡ gaveUp c S s))
     unfolding onward
     came-refused (goes g) e = absurd (true≢false (sym g ∙ ap onward e))
     came-refused (refuses {n = k} q x) e =
         let z : refused k ≡ refused n = sym (ap (λ y. y .outcome .answer) x) ∙ e in
         let y : k ≡ n = cc in
-        (q ∙ ap refuse y, ap (λ y. y .state) x)
+        inl (q ∙ ap refuse y, ap (λ y. y .state) x)
+    came-refused (ends q x) e =
+        let z : refused 28 ≡ refused n = sym (ap (λ y. y .outcome .answer) x) ∙ e in
+        let y : 28 ≡ n = cc in
+        inr (q, sym y, x)
     came-refused (stops {n = k} q x) e =
         let z : stopped k ≡ refused n = sym (ap (λ y. y .outcome .answer) x) ∙ e in
         absurd (let y : _≡_ {A = ℕ} 0 1 = cc in omega arith)
@@ -85,25 +93,56 @@ module _ (c : Config) (S : Store) where
         let z : stopped k ≡ stopped n = sym (ap (λ y. y .outcome .answer) x) ∙ e in
         let y : k ≡ n = cc in
         (subst (λ k. (m ≡ halt k) ⊎ (k ≡ 5)) y q, ap (λ y. y .state .skeleton .stopped) x)
+    came-stopped (ends q x) e =
+        let z : refused 28 ≡ stopped n = sym (ap (λ y. y .outcome .answer) x) ∙ e in
+        absurd (let y : _≡_ {A = ℕ} 0 1 = cc in omega arith)
 
   -- every event, whatever is kept of pages
+  module _ (s : State S) (e : Event) where
+    -- the host says that the disk is full where it may, with no page finished: the call ends
+    abbrev pub GivesUp : Type 0
+    GivesUp = Passed (eventChecks c (s .skeleton) e) × (givesUp c (s .skeleton) e ≡ true)
+
+    pub given-up : GivesUp → step c S s e ≡ gaveUp c S s
+    unfolding step apply
+    given-up g = ap (apply c S s) (gives-up-exactly c (s .skeleton) e .1 g)
+
   module _ (s : State S) (e : Event) (n : ℕ) where
-    refuses-move : step c S s e .outcome .answer ≡ refused n → (judge c (s .skeleton) e ≡ refuse n) × (step c S s e .state ≡ s)
+    refuses-move : step c S s e .outcome .answer ≡ refused n
+        → ((judge c (s .skeleton) e ≡ refuse n) × (step c S s e .state ≡ s)) ⊎ ((judge c (s .skeleton) e ≡ giveUp) × (n ≡ 28) × (step c S s e ≡ gaveUp c S s))
     unfolding step
     refuses-move q = came-refused s (judge c (s .skeleton) e) _ n (came s (judge c (s .skeleton) e)) q
 
-    pub step-refused-exactly : (step c S s e .outcome .answer ≡ refused n) ↔ First n (eventChecks c (s .skeleton) e)
+    -- refused n exactly where n is the first of the event's numbers, or n is 28 and the call is given up
+    pub step-refused-exactly : (step c S s e .outcome .answer ≡ refused n) ↔ (First n (eventChecks c (s .skeleton) e) ⊎ (GivesUp s e × (n ≡ 28)))
     unfolding step apply
-    step-refused-exactly =
-        let r = refused-exactly c (s .skeleton) e n in
-        (λ q. r .0 (refuses-move q .0), λ f. ap (λ m. apply c S s m .outcome .answer) (r .1 f))
+    step-refused-exactly = (λ q. to (refuses-move q), from)
+      where
+        to : ((judge c (s .skeleton) e ≡ refuse n) × (step c S s e .state ≡ s)) ⊎ ((judge c (s .skeleton) e ≡ giveUp) × (n ≡ 28) × (step c S s e ≡ gaveUp c S s))
+            → First n (eventChecks c (s .skeleton) e) ⊎ (GivesUp s e × (n ≡ 28))
+        to (inl (x, y)) = inl (refused-exactly c (s .skeleton) e n .0 x)
+        to (inr (x, y, z)) = inr (gives-up-exactly c (s .skeleton) e .0 x, y)
+
+        from : First n (eventChecks c (s .skeleton) e) ⊎ (GivesUp s e × (n ≡ 28)) → step c S s e .outcome .answer ≡ refused n
+        from (inl f) = ap (λ m. apply c S s m .outcome .answer) (refused-exactly c (s .skeleton) e n .1 f)
+        from (inr (g, y)) = ap (λ m. apply c S s m .outcome .answer) (gives-up-exactly c (s .skeleton) e .1 g) ∙ ap refused (sym y)
 
     pub refused-known : step c S s e .outcome .answer ≡ refused n → known n ≡ true
-    refused-known q = first-has (checks-known c (s .skeleton) e) (step-refused-exactly .0 q)
+    unfolding known any
+    refused-known q = go (step-refused-exactly .0 q)
+      where
+        go : First n (eventChecks c (s .skeleton) e) ⊎ (GivesUp s e × (n ≡ 28)) → known n ≡ true
+        go (inl f) = first-has (checks-known c (s .skeleton) e) f
+        go (inr (g, y)) = rw y
 
-    -- a refusal changes nothing (SPECIFICATION 7.2)
-    pub refused-unchanged : step c S s e .outcome .answer ≡ refused n → step c S s e .state ≡ s
-    refused-unchanged q = refuses-move q .1
+    -- a refusal changes nothing (SPECIFICATION 7.2), but where a call is given up: then the request is gone, and all else is as it was
+    pub refused-unchanged : step c S s e .outcome .answer ≡ refused n → givesUp c (s .skeleton) e ≡ false → step c S s e .state ≡ s
+    refused-unchanged q g = go (refuses-move q)
+      where
+        go : ((judge c (s .skeleton) e ≡ refuse n) × (step c S s e .state ≡ s)) ⊎ ((judge c (s .skeleton) e ≡ giveUp) × (n ≡ 28) × (step c S s e ≡ gaveUp c S s))
+            → step c S s e .state ≡ s
+        go (inl (x, y)) = y
+        go (inr (x, y, z)) = absurd (true≢false (sym (gives-up-exactly c (s .skeleton) e .0 x .1) ∙ g))
 
     pub stopped-reason : step c S s e .outcome .answer ≡ stopped n → (1 ≤ n) × (n ≤ 8)
     unfolding step isReason

@@ -45,6 +45,7 @@ module _ (c : Config) where
     gathered = λ b p n a. bytesAt b p n;
     pageFor = λ b q i r. pageOf (bytesAfter q b) i;
     sent = λ a p. tt;
+    upTo = λ a n. tt;
     changed = λ b q size a. bytesAfter q b;
     digests = digestsOf;
     keep = λ e d f. record { digest = d; files = f } ∷ e;

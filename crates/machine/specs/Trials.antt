@@ -21,7 +21,7 @@ use Rattle.rules.specs.Calls.{callBytes, byPath, byNumberAndPath, byHandle, byH
 use Rattle.rules.specs.Pages.{pageAt, overlay, first, last, fetches, fill, sizeSent, cuts, sizeAfter, cursorAfter, numberOf}
 use Rattle.rules.specs.Requests.{storeLength, closeRequest, fetchRequest, storeRequest}
 use Rattle.rules.specs.Skeleton.{Config, Event, call, reply, Answer, done, ask, refused, stopped, answerLength, requestLength}
-use Rattle.rules.specs.Rules.{noRoom, callChecks, readAction, callAction, isNumber, isDescriptor, entryForm, sameEntry, isListing, replyChecks, replyAction, mapChecks, mapReasons, reasons, isIdle, callOr, isNone, eventChecks, eventAction, judge}
+use Rattle.rules.specs.Rules.{noRoom, callChecks, readAction, callAction, isNumber, isDescriptor, entryForm, sameEntry, isListing, replyChecks, replyAction, saysFull, isFull, mapChecks, mapReasons, reasons, isIdle, callOr, isNone, eventChecks, eventAction, judge}
 use Rattle.machine.specs.Machine.{readOn, finishChange, pagesStored, askStore, onPage, pagesFrom, apply, step, fresh, outcomes, guard}
 
 -- the letters c and r of the desk, with buffers long enough
@@ -119,5 +119,5 @@ module _ (digest : List ℕ → List ℕ) where
   answers es = map (λ o. o .answer) (outcomes config (guard config) (fresh config (guard config)) es)
 
   pub trials : map (λ row. answers (row .0)) table ≡ map (λ row. row .1) table
-  unfolding answers outcomes step judge eventChecks eventAction callChecks callAction readAction replyChecks replyAction isIdle callOr isNone decide pick noRoom apply readOn finishChange pagesStored askStore onPage pagesFrom answerLength requestLength storeLength signed isNumber isDescriptor entryForm sameEntry isRearranged isListing closeRequest fetchRequest storeRequest pageAt overlay first last fetches fill sizeSent cuts sizeAfter cursorAfter numberOf callBytes byPath byNumberAndPath byHandle byHandleAndNumber byHandleAndBytes readFields readCall joined pathBytes componentForm onto split afterSlash readPath tooLong childAt walk walkChecks parentChecks parentOf lastOf coverTable covers pagesFor pageTotal nodeAt openAt findId findChild children findHandle findDescriptor setMode setSize setCursor bind front get₂ get-as get-all ended whole encode decode every any place select without tab equal mapChecks mapReasons reasons byNumber
+  unfolding answers outcomes step judge eventChecks eventAction callChecks callAction readAction replyChecks replyAction saysFull isFull isIdle callOr isNone decide pick noRoom apply readOn finishChange pagesStored askStore onPage pagesFrom answerLength requestLength storeLength signed isNumber isDescriptor entryForm sameEntry isRearranged isListing closeRequest fetchRequest storeRequest pageAt overlay first last fetches fill sizeSent cuts sizeAfter cursorAfter numberOf callBytes byPath byNumberAndPath byHandle byHandleAndNumber byHandleAndBytes readFields readCall joined pathBytes componentForm onto split afterSlash readPath tooLong childAt walk walkChecks parentChecks parentOf lastOf coverTable covers pagesFor pageTotal nodeAt openAt findId findChild children findHandle findDescriptor setMode setSize setCursor bind front get₂ get-as get-all ended whole encode decode every any place select without tab equal mapChecks mapReasons reasons byNumber
   trials = refl

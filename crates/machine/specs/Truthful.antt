@@ -1,12 +1,16 @@
--- The honest host can always answer: a reply that is right for the tree, whatever request stands (ids of two bytes at least: with one they run out).
--- And right replies differ only in a new id, a descriptor or the order of a listing: the tree takes nothing else from the host.
+-- The honest host can always answer: a reply that is right for the tree, whatever request stands (where ids run out, that its disk is full).
+-- And right replies differ only in a new id, a descriptor, the order of a listing or a full disk: the tree takes nothing else from the host.
 use mathlib.Core.Path.{_≡_, refl, ap, sym, _∙_}
 use mathlib.Core.List.{List, [], _∷_, _++_, map}
-use Prim.Native.Nat.{ℕ, _^_, _≤_}
+use Prim.Native.Nat.{ℕ, _-_, _^_, _≤_, _<_}
+use mathlib.Core.Logic.{_⊎_, inl, inr}
+use mathlib.Core.Bool.{true}
 use native.Mathlib.Omega.{arith}
-use native.Mathlib.Nat.{pow-le-pow-right}
+use lib.Dec.{ltb}
+use borrow.Author.Tests.{ltb-true}
 use lib.IntN.{pos}
 use lib.ListN.{length, getD, replicate, length-map}
+use Rattle.lists.specs.Pick.{pick, pick-ind}
 use Rattle.lists.specs.All.{All, both, none, Bytes, all-map}
 use Rattle.lists.specs.Free.{free, Free, free-new}
 use Rattle.lists.specs.Signed.{signed-low}
@@ -14,12 +18,12 @@ use Rattle.lists.specs.LittleEndian.{encode, decode, length-encode, decode-enco
 use Rattle.lists.specs.Form.{put-all}
 use Rattle.lists.specs.Rearranged.{Rearranged, rearranged-self, rearranged-sym, rearranged-trans}
 use Rattle.filesystem.specs.Tables.{Node, OpenFile, Tables, nodeAt, children}
-use Rattle.filesystem.specs.Sound.{to-sound}
-use Rattle.rules.specs.Pages.{pageOf}
+use Rattle.rules.specs.Pages.{pageOf, storesMore, cutsMore}
 use Rattle.rules.specs.Requests.{asked, Pending, idle, creating, opening, closing, removing, changing, listing, stating, mapping, unmapping, reading, fetching, storing, cutting}
+use Rattle.rules.specs.FullLaws.{fullBytes, full-bytes, full-is}
 use Rattle.rules.specs.Skeleton.{Config, Event, EventBytes}
 use Rattle.rules.specs.Rules.{Entry, entryForm, entryOf, statBytes}
-use Rattle.rules.specs.RightReplies.{RightId, RightDescriptor}
+use Rattle.rules.specs.RightReplies.{Full, RightId, RightDescriptor}
 use Rattle.machine.specs.Machine.{State, fresh, final}
 use Rattle.rules.specs.Valid.{ValidTables, Valid}
 use Rattle.machine.specs.Tree.{tree}
@@ -37,10 +41,14 @@ freeId ns = free (length ns) 1 (map (λ n. n .id) ns)
 unfoldable pub freeDescriptor : List OpenFile → ℕ
 freeDescriptor os = free (length os) 0 (map (λ o. o .descriptor) os)
 
+-- a new id, if there is one below -28
+unfoldable pub newId : (w x : ℕ) → List ℕ
+newId w x = pick (ltb x (256 ^ w - 28)) (encode w x) (fullBytes w)
+
 module _ (c : Config) (t : State (tree c)) where
   unfoldable pub truthfulFor : Pending → List ℕ
   truthfulFor idle = []
-  truthfulFor (asked (creating p k m name)) = encode (c .width) (freeId (t .skeleton .tables .nodes))
+  truthfulFor (asked (creating p k m name)) = newId (c .width) (freeId (t .skeleton .tables .nodes))
   truthfulFor (asked (opening k rights)) = encode 4 (freeDescriptor (t .skeleton .tables .opens))
   truthfulFor (asked (closing o)) = encode 4 0
   truthfulFor (asked (removing k)) = encode 4 0
@@ -67,19 +75,17 @@ module _ {A : Type 0} (f : A → ℕ) (a : ℕ) (xs : List A) where
   found = free-new (length xs) a (map f xs) (let e = length-map xs f in omega arith)
 
 module _ (w : ℕ) (t : Tables) (v : ValidTables w t) where
-  id-right : 2 ≤ w → RightId w t (encode w (freeId (t .nodes)))
+  id-right : freeId (t .nodes) < 256 ^ w - 28 → RightId w t (encode w (freeId (t .nodes)))
   unfolding freeId
   id-right h =
       let x = freeId (t .nodes) in
       let r = found (λ n. n .id) 1 (t .nodes) in
       let lo : 1 ≤ x = r .from in
-      let hi = r .to in
-      let few = to-sound w (t .nodes) (v .nodes-valid .sound) .count in
-      let wide : 256 ^ 2 ≤ 256 ^ w = pow-le-pow-right (omega arith) h in
       let e : decode (encode w x) ≡ x = decode-encode w x (omega arith) in
       record {
         long = length-encode w x;
         not-zero = λ z. omega arith;
+        not-full = λ z. let y : decode (encode w x) ≡ 256 ^ w - 28 = full-is w (decode (encode w x)) (omega arith) z in omega arith;
         not-held = all-map (λ n d q. d (q ∙ e)) (all-under (λ n. n .id) (t .nodes) (r .new));
       }
 
@@ -99,11 +105,14 @@ module _ (w : ℕ) (t : Tables) (v : ValidTables w t) where
         not-held = all-under (λ o. o .descriptor) (t .opens) (r .new);
       }
 
-module _ (c : Config) (t : State (tree c)) (v : Valid (c .width) (t .skeleton)) (m : MapsValid (t .skeleton)) (wide : 2 ≤ c .width) where
+module _ (c : Config) (t : State (tree c)) (v : Valid (c .width) (t .skeleton)) (m : MapsValid (t .skeleton)) (wide : 1 ≤ c .width) where
   for-right : (p : Pending) → MapFits (t .skeleton .maps) p → RightFor c t (truthfulFor c t p) p
   unfolding RightFor truthfulFor
   for-right idle f = tt
-  for-right (asked (creating p k m name)) f = id-right (c .width) (t .skeleton .tables) (v .tables) wide
+  for-right (asked (creating p k m name)) f =
+      let x = freeId (t .skeleton .tables .nodes) in
+      unfold newId in pick-ind (λ r. RightId (c .width) (t .skeleton .tables) r ⊎ Full (c .width) r) (ltb x (256 ^ c .width - 28))
+      (λ e. inl (id-right (c .width) (t .skeleton .tables) (v .tables) (ltb-true _ _ e))) (λ _. inr (full-bytes (c .width) wide))
   for-right (asked (opening k rights)) f = descriptor-right (c .width) (t .skeleton .tables) (v .tables)
   for-right (asked (closing o)) f = refl
   for-right (asked (removing k)) f = refl
@@ -114,23 +123,23 @@ module _ (c : Config) (t : State (tree c)) (v : Valid (c .width) (t .skeleton)) 
   for-right (asked (unmapping a)) f = refl
   for-right (reading k o p n i) f = refl
   for-right (fetching k o q i) f = refl
-  for-right (storing k o q i) f = refl
-  for-right (cutting k o q) f = refl
+  for-right (storing k o q i) f = inl refl
+  for-right (cutting k o q) f = inl refl
 
   pub truthful-right : Right c t (truthful c t)
   unfolding Right truthful
   truthful-right = for-right (t .skeleton .pending) (m .pending)
 
 -- along every run of the tree
-pub always-truthful : (c : Config) → Fit c → 2 ≤ c .width → (es : List Event) → All EventBytes es
+pub always-truthful : (c : Config) → Fit c → (es : List Event) → All EventBytes es
     → Right c (final c (tree c) (fresh c (tree c)) es) (truthful c (final c (tree c) (fresh c (tree c)) es))
-always-truthful c fit wide es a = truthful-right c _ (tree-valid c fit es a) (always-maps c (tree c) es a) wide
+always-truthful c fit es a = truthful-right c _ (tree-valid c fit es a) (always-maps c (tree c) es a) (fit .wide)
 
 -- Two right replies to one request.
 module _ (c : Config) (t : State (tree c)) (r s : List ℕ) where
   abbrev pub SameBut : Pending → Type 0
   SameBut idle = Unit {0}
-  -- each is one id; each is one descriptor
+  -- each is one id, or -28 at its width; each is one descriptor
   SameBut (asked (creating p k m name)) = (r ≡ encode (c .width) (decode r)) × (s ≡ encode (c .width) (decode s))
   SameBut (asked (opening k rights)) = (r ≡ encode 4 (decode r)) × (s ≡ encode 4 (decode s))
   SameBut (asked (closing o)) = r ≡ s
@@ -145,13 +154,26 @@ module _ (c : Config) (t : State (tree c)) (r s : List ℕ) where
   SameBut (asked (unmapping a)) = r ≡ s
   SameBut (reading k o p n i) = r ≡ s
   SameBut (fetching k o q i) = r ≡ s
-  SameBut (storing k o q i) = r ≡ s
-  SameBut (cutting k o q) = r ≡ s
+  -- the same, or one says that the disk is full
+  SameBut (storing k o q i) = (r ≡ s) ⊎ ((storesMore q ≡ true) × (Full 4 r ⊎ Full 4 s))
+  SameBut (cutting k o q) = (r ≡ s) ⊎ ((cutsMore q ≡ true) × (Full 4 r ⊎ Full 4 s))
+
+  whole : {w : ℕ} (r : List ℕ) → Bytes r → length r ≡ w → r ≡ encode w (decode r)
+  whole r a e = sym (ap (λ w. encode w (decode r)) (sym e) ∙ encode-decode r a)
+
+  wide : {r : List ℕ} → RightId (c .width) (t .skeleton .tables) r ⊎ Full (c .width) r → length r ≡ c .width
+  wide (inl x) = x .long
+  wide (inr x) = x .0
+
+  same-status : {A : Type 0} {z : List ℕ} → (r ≡ z) ⊎ (A × Full 4 r) → (s ≡ z) ⊎ (A × Full 4 s) → (r ≡ s) ⊎ (A × (Full 4 r ⊎ Full 4 s))
+  same-status (inl x) (inl y) = inl (x ∙ sym y)
+  same-status (inr (a, x)) y = inr (a, inl x)
+  same-status (inl x) (inr (a, y)) = inr (a, inr y)
 
   same-for : Bytes r → Bytes s → (p : Pending) → RightFor c t r p → RightFor c t s p → SameBut p
   unfolding RightFor
   same-for a b idle x y = tt
-  same-for a b (asked (creating p k m name)) x y = (sym (ap (λ w. encode w (decode r)) (sym (x .long)) ∙ encode-decode r a), sym (ap (λ w. encode w (decode s)) (sym (y .long)) ∙ encode-decode s b))
+  same-for a b (asked (creating p k m name)) x y = (whole r a (wide x), whole s b (wide y))
   same-for a b (asked (opening k rights)) x y = (sym (ap (λ w. encode w (decode r)) (sym (x .long)) ∙ encode-decode r a), sym (ap (λ w. encode w (decode s)) (sym (y .long)) ∙ encode-decode s b))
   same-for a b (asked (closing o)) x y = x ∙ sym y
   same-for a b (asked (removing k)) x y = x ∙ sym y
@@ -162,8 +184,8 @@ module _ (c : Config) (t : State (tree c)) (r s : List ℕ) where
   same-for a b (asked (unmapping k)) x y = x ∙ sym y
   same-for a b (reading k o p n i) x y = x ∙ sym y
   same-for a b (fetching k o q i) x y = x ∙ sym y
-  same-for a b (storing k o q i) x y = x ∙ sym y
-  same-for a b (cutting k o q) x y = x ∙ sym y
+  same-for a b (storing k o q i) x y = same-status x y
+  same-for a b (cutting k o q) x y = same-status x y
 
   pub right-same : Bytes r → Bytes s → Right c t r → Right c t s → SameBut (t .skeleton .pending)
   unfolding Right

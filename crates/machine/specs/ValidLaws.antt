@@ -2,18 +2,19 @@
 -- Assumes nothing.
 use mathlib.Core.Path.{_≡_, refl, sym, subst}
 use mathlib.Core.List.{List, []}
-use Prim.Native.Nat.{ℕ, suc, _+_, _*_, _≤_, _<_}
+use Prim.Native.Nat.{ℕ, suc, _+_, _-_, _*_, _≤_, _<_}
 use native.Mathlib.Omega.{arith}
 use lib.Dec.{ltb, leb}
 use borrow.Author.Tests.{ltb-true, leb-false}
 use Rattle.lists.specs.Pick.{pick-ind}
 use Rattle.filesystem.specs.Image.{Image}
-use Rattle.rules.specs.Pages.{Change, first, last, fetches, cuts}
+use Rattle.rules.specs.Pages.{Change, first, last, fetches, cuts, before}
 use Rattle.rules.specs.PageLaws.{fetch-in}
+use Rattle.rules.specs.FullLaws.{before-change}
 use Rattle.rules.specs.Skeleton.{Config, Event}
 use Rattle.rules.specs.Rules.{Move, loading}
-use Rattle.machine.specs.Machine.{Store, State, Result, files, contentAt, sizeAt, readOn, finishChange, pagesStored, askStore, onPage, pagesFrom, cleared, apply}
-use Rattle.rules.specs.Valid.{ValidNodes, ValidTables, ReadingFits, ChangeFits, PageFits, Valid, Fits, fRefuse, fHalt, fSend, fFinish, fAdd, fDelete, fRemap, fReadPage, fBegin, fFillPage, fStored, fCutDone, fSaving, fLoading}
+use Rattle.machine.specs.Machine.{Store, State, Result, files, contentAt, sizeAt, readOn, finishChange, pagesStored, askStore, onPage, pagesFrom, cleared, trimmed, apply}
+use Rattle.rules.specs.Valid.{ValidNodes, ValidTables, ReadingFits, ChangeFits, PageFits, Valid, Fits, fRefuse, fHalt, fSend, fFinish, fAdd, fDelete, fRemap, fReadPage, fBegin, fFillPage, fStored, fCutDone, fKeepPages, fGiveUp, fSaving, fLoading}
 use Rattle.rules.specs.TableLaws.{cursor-valid, change-valid, bare-valid}
 
 module _ (c : Config) (S : Store) where
@@ -66,8 +67,8 @@ module _ (c : Config) (S : Store) where
 pub keeps-valid : (c : Config) (S : Store) (s : State S) → Valid (c .width) (s .skeleton) → (m : Move) (e : Event) → Fits c (s .skeleton) e m
     → ((i : Image) (d : List ℕ) → m ≡ loading i d → ValidNodes (c .width) (S .restore (s .saves) i d (files c S s) .nodes)) → Valid (c .width) (apply c S s m .state .skeleton)
 unfolding apply
-keeps-valid c S s v m e fRefuse l = v
-keeps-valid c S s v m e (fHalt h f) l = record { tables = v .tables; pending = tt }
+keeps-valid c S s v m e (fRefuse f) l = v
+keeps-valid c S s v m e (fHalt h n f) l = record { tables = v .tables; pending = tt }
 keeps-valid c S s v m e (fSend p st k) l = record { tables = v .tables; pending = p }
 keeps-valid c S s v m e (fFinish pl t z) l = record { tables = t; pending = tt }
 keeps-valid c S s v m e (fAdd pl z t) l = record { tables = t; pending = tt }
@@ -80,6 +81,9 @@ keeps-valid c S s v m e (fFillPage {k = k} {o = o} {q = q} {i = i} {r = r} he w 
     pick-ind (Keeps c S) (S .isPage (contentAt c S s k) i r) (λ t. store-valid c S s k o q i r (v .tables) (x .page)) (λ t. record { tables = v .tables; pending = tt })
 keeps-valid c S s v m e (fStored {k = k} {o = o} {q = q} {i = i} pl w x) l = pages-valid c S s k o q (suc i) (v .tables) (x .change) (let h = x .from in omega arith)
 keeps-valid c S s v m e (fCutDone {k = k} {o = o} {q = q} pl w x) l = finish-valid c S s k o q (v .tables) x
+keeps-valid c S s v m e (fKeepPages {k = k} {o = o} {q = q} {i = i} pl w x t h) l =
+    finish-valid c S (trimmed c S s (i - first q)) k o (before q i) (v .tables) (before-change _ _ k o q i x t h)
+keeps-valid c S s v m e (fGiveUp he f) l = record { tables = v .tables; pending = tt }
 keeps-valid c S s v m e (fSaving he w z) l = record { tables = v .tables; pending = tt }
 keeps-valid c S s v m e (fLoading {i = i} {d = d} he z hd hp) l = record {
   tables = subst (λ os. ValidTables (c .width) (record { nodes = S .restore (s .saves) i d (files c S s) .nodes; opens = os })) (sym z) (bare-valid (c .width) _ (l i d refl));

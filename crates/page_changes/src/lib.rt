@@ -8,7 +8,7 @@ ghost use Rattle.filesystem.specs.Tables.{PAGE-BYTES};
 ghost use Rattle.rules.specs.Pages.{Change};
 ghost use Rattle.rules.specs.Requests.{fetchRequest, storeLength};
 ghost use Rattle.rules.specs.Skeleton.{Config};
-ghost use Rattle.machine.specs.Machine.{descriptorAt, asking, finishChange, guard as digestStore};
+ghost use Rattle.machine.specs.Machine.{descriptorAt, asking, trimmed, finishChange, guard as digestStore};
 ghost use Rattle.numbers.specs.Slices.{KeepsLength};
 ghost use Rattle.digest.specs.Sha256.{sha256};
 ghost use Rattle.memory.specs.Layout.{openRows, newDigests};
@@ -79,9 +79,8 @@ pub fn send_store(m: &mut [u8], call: u64, page: usize, request: &[u8]) -> outco
     outcomes::Outcome::Ask(requests::STORE_LENGTH)
 }
 
-// The file has its size and its new digests, the open file its cursor, and the call is done. Where the tables cannot
-// take the change, no valid call
-// is pending.
+// The file has its size and the first `count` of its new digests, the open file its cursor, and the call is done. Where
+// the tables cannot take the change, no valid call is pending.
 pub fn end_change(
     m: &mut [u8],
     node: usize,
@@ -94,8 +93,8 @@ pub fn end_change(
 ) -> outcomes::Outcome
     requires { ⌜ (opened < openRows) × IsMemory m ⌝ }
     ensures { λ r. ⌜ ((c : Config) (q : Change) → Ended c (now (m .entry)) q node opened size cursor from count number
-        → (b : List ℕ) → Sends c (finishChange c (digestStore c) (stateOf c (now (m .entry))) node opened q) r
-        (now (m .exit)) b b) ⌝ }
+        → (b : List ℕ) → Sends c (finishChange c (digestStore c)
+        (trimmed c (digestStore c) (stateOf c (now (m .entry))) count) node opened q) r (now (m .exit)) b b) ⌝ }
     ensures { λ _. ⌜ KeepsLength m ⌝ }
 {
     let g = Guard::load(m);

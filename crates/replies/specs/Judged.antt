@@ -28,7 +28,7 @@ unfoldable pub isNegative : ℕ → ℤ → Bool
 isNegative n (pos m) = false
 isNegative n (negsuc m) = eqb m n
 
--- the same of any number that may be expected: no request expects a negative one
+-- the same of any number; -28 is what a full disk says
 abbrev pub statusOf : List ℕ → (expected : ℤ) → ℕ
 statusOf r (pos n) = statusReason r n
 statusOf r (negsuc n) =

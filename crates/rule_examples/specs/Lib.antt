@@ -16,6 +16,7 @@ pub mod Handles
 pub mod Reads
 pub mod Writes
 pub mod Truncations
+pub mod FullDisk
 pub mod Replies
 pub mod Maps
 pub mod SaveLoad

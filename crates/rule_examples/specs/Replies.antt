@@ -57,7 +57,6 @@ rows =
     ∷ answered "stop 3: the root's id" (create 7 "/n") (gives 1) (isStopped 3)
     ∷ answered "stop 3: the last node's id" (mkdir 7 "/n") (gives 6) (isStopped 3)
     ∷ answered "an id that no node has" (create 7 "/n") (gives 7) (isDone 7 nothing)
-    ∷ answered "id 2^32 - 28" (create 7 "/n") (saysMinus 28) (isDone 4294967268 nothing)
     ∷ answered "the largest id" (mkdir 7 "/n") (gives 4294967295) (isDone 4294967295 nothing)
     -- open: a descriptor 0 to 1,023 that no open file has; it is signed
     ∷ answered "stop 1: a descriptor of 3 bytes" (openFor 1 "/c") (replies (1 ∷ 0 ∷ 0 ∷ [])) (isStopped 1)

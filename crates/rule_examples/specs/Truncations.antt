@@ -82,7 +82,6 @@ rows =
     then says 0 ⇒ isDone 0 nothing
     then truncate 2 6 ⇒ cutsTo 5 6 then says 0 ⇒ isDone 0 nothing then left (file 2 1 7 "a" (1 ∷ 2 ∷ 0 ∷ 0 ∷ 0 ∷ 0 ∷ [])) 2 then end)
     ∷ row "stop 2: a growing cut answered 1" (writer three 2) (truncate 2 9 ⇒ cutsTo 5 9 then says 1 ⇒ isStopped 2 then left three 2 then end)
-    ∷ row "stop 2: a growing cut answered -28" (writer three 2) (truncate 2 9 ⇒ cutsTo 5 9 then saysMinus 28 ⇒ isStopped 2 then left three 2 then end)
     ∷ row "stop 2: a growing cut answered by its size" (writer three 2) (truncate 2 9 ⇒ cutsTo 5 9 then says 9 ⇒ isStopped 2 then end)
     ∷ row "stop 1: a growing cut answered by 5 bytes" (writer three 2)
     (truncate 2 9 ⇒ cutsTo 5 9 then replies (many 5 0) ⇒ isStopped 1 then left three 2 then end)

@@ -28,11 +28,11 @@ use Rattle.filesystem.specs.Sound.{gone, Sound, to-sound, limits-at, by-kind, f
 use Rattle.filesystem.specs.SoundLaws.{root-parent-length, file-children}
 use Rattle.rules.specs.Calls.{Call, create, mkdir, openAs, close, seek, read, write, truncate, remove, rmdir, chmod, readdir, stat, callBytes, readCall, mapMemory, unmap}
 use Rattle.rules.specs.CallLaws.{PathFits, CallFits, call-was-written}
-use Rattle.rules.specs.Pages.{pageAt, writing, truncating, sizeAfter}
+use Rattle.rules.specs.Pages.{pageAt, writing, truncating, first, sizeAfter}
 use Rattle.rules.specs.Requests.{asked, closeRequest, fetchRequest, isFetch, Pending, idle, creating, opening, closing, removing, changing, listing, stating, reading, fetching, storing, cutting, mapping, unmapping}
 use Rattle.rules.specs.Skeleton.{Config, Event, call, reply, save, load, EventBytes, Skeleton}
-use Rattle.rules.specs.Rules.{Move, refuse, halt, loading, target, holder, isOpen, openPlace, filePlace, opened, file, noRoom, newChecks, callChecks, readAction, callAction, signedOf, isDescriptor, replyChecks, replyAction, isIdle, callOr, imageOr, isNone, eventChecks, eventAction, judge, mapReasons, reasons}
-use Rattle.rules.specs.Valid.{ValidOpen, ValidTables, Valid, CreatingFits, OpeningFits, RemovingFits, Opened, ChangeFits, PendingFits, sizes, Plain, Fits, fRefuse, fHalt, fSend, fFinish, fAdd, fDelete, fReadPage, fBegin, fFillPage, fStored, fCutDone, fSaving, fLoading, fRemap}
+use Rattle.rules.specs.Rules.{Move, refuse, halt, giveUp, loading, target, holder, isOpen, openPlace, filePlace, opened, file, noRoom, newChecks, callChecks, readAction, callAction, signedOf, isDescriptor, replyChecks, replyAction, tellsFull, finished, fullAction, isIdle, callOr, imageOr, isNone, eventChecks, eventAction, givesUp, judge, mapReasons, reasons}
+use Rattle.rules.specs.Valid.{ValidOpen, ValidTables, Valid, CreatingFits, OpeningFits, RemovingFits, Opened, ChangeFits, PendingFits, sizes, Plain, Fits, fRefuse, fHalt, fSend, fFinish, fAdd, fDelete, fReadPage, fBegin, fFillPage, fStored, fCutDone, fKeepPages, fGiveUp, fSaving, fLoading, fRemap}
 use Rattle.rules.specs.Positions.{seek-exactly}
 use Rattle.rules.specs.TableLaws.{cursor-valid, open-valid, close-valid, mode-valid, add-valid, delete-valid}
 
@@ -295,20 +295,39 @@ module _ (c : Config) (sk : Skeleton) (v : Valid (c .width) sk) where
   loading-fits image d z h none e i = absurd (true≢false i)
   loading-fits image d z h (some j) e i = fLoading refl z h e
 
+  -- a full disk
+  gives-up : (r : List ℕ) (a b : ℕ) (p : Pending) → sk .pending ≡ p → tellsFull (c .width) r p ≡ true → finished p ≡ false → Fits c sk (reply r a b) giveUp
+  unfolding givesUp
+  gives-up r a b p e y f = fGiveUp refl (rw e (rw (y, f)))
+
+  full-fits : (r : List ℕ) (a b : ℕ) (p : Pending) → sk .pending ≡ p → PendingFits (sk .tables .nodes) (sk .tables .opens) p → tellsFull (c .width) r p ≡ true
+      → Fits c sk (reply r a b) (fullAction p)
+  unfolding fullAction
+  full-fits r a b idle e f y = gives-up r a b idle e y refl
+  full-fits r a b (asked x) e f y = gives-up r a b (asked x) e y refl
+  full-fits r a b (reading k o p n i) e f y = gives-up r a b (reading k o p n i) e y refl
+  full-fits r a b (fetching k o q i) e f y = gives-up r a b (fetching k o q i) e y refl
+  full-fits r a b (storing k o q i) e f y =
+      pick-ind (Fits c sk (reply r a b)) (ltb (first q) i)
+      (λ z. fKeepPages tt e f (and-fst _ _ y) (ltb-true _ _ z))
+      (λ z. gives-up r a b (storing k o q i) e y z)
+  full-fits r a b (cutting k o q) e f y = gives-up r a b (cutting k o q) e y refl
+
   action-fits : (e : Event) → EventBytes e → Passed (eventChecks c sk e) → Fits c sk e (eventAction c sk e)
   unfolding eventChecks eventAction EventBytes
   action-fits (call s a b) bs (both _ (both _ (both _ (both n p)))) = read-call-fits s a b bs (readCall (c .width) s) refl n (all-left _ _ p)
   action-fits (reply r a b) bs (both _ (both i _)) =
-      decide-ind halt (Fits c sk (reply r a b)) (reasons (c .width) sk r) _ (λ n f. fHalt refl f)
+      pick-ind (Fits c sk (reply r a b)) (tellsFull (c .width) r (sk .pending)) (λ y. full-fits r a b (sk .pending) refl (v .pending) y)
+      (λ y. decide-ind halt (Fits c sk (reply r a b)) (reasons (c .width) sk r) _ (λ n f. fHalt refl y f)
       (λ p. reply-fits c sk (v .tables) r a b bs (sk .pending) refl i (v .pending)
-      (unfold reasons in all-left (replyChecks (c .width) (sk .tables) r (sk .pending)) (mapReasons (sk .maps) r (sk .pending)) p))
+      (unfold reasons in all-left (replyChecks (c .width) (sk .tables) r (sk .pending)) (mapReasons (sk .maps) r (sk .pending)) p)))
   action-fits (save n) bs (both _ (both i (both o _))) = fSaving refl (is-idle (sk .pending) (not-false _ i)) (none-open _ o)
   action-fits (load image d) bs (both _ (both i (both o (both h (both p _))))) =
       loading-fits image d (none-open _ o) (equal-true _ _ (not-false _ h)) (parse (c .width) image) refl p
 
   fits-here : (e : Event) → EventBytes e → Fits c sk e (judge c sk e)
   unfolding judge
-  fits-here e b = decide-ind refuse (Fits c sk e) (eventChecks c sk e) (eventAction c sk e) (λ n f. fRefuse) (action-fits e b)
+  fits-here e b = decide-ind refuse (Fits c sk e) (eventChecks c sk e) (eventAction c sk e) (λ n f. fRefuse f) (action-fits e b)
 
 pub judge-fits : (c : Config) (sk : Skeleton) → Valid (c .width) sk → (e : Event) → EventBytes e → Fits c sk e (judge c sk e)
 judge-fits c sk v e b = fits-here c sk v e b

@@ -26,10 +26,10 @@ use Rattle.filesystem.specs.LongestImage.{leafName, leaf, full, full-sound, ful
 use Rattle.filesystem.specs.Sound.{Sound, to-sound, limits-at, root-parent, name-short}
 use Rattle.rules.specs.Calls.{Call, create, mkdir, openAs, close, seek, read, write, truncate, remove, rmdir, chmod, readdir, stat, callBytes, readCall, mapMemory, unmap}
 use Rattle.rules.specs.CallLaws.{CallFits, call-was-written}
-use Rattle.rules.specs.Pages.{pageAt, bytesAt, pagePart, overlay, Change, writing, shrinking, growing, fill}
+use Rattle.rules.specs.Pages.{pageAt, bytesAt, pagePart, overlay, Change, writing, shrinking, growing, first, fill}
 use Rattle.rules.specs.Requests.{storeLength, asked, closeRequest, fetchRequest, storeRequest, Pending, idle, creating, opening, closing, removing, changing, listing, stating, reading, fetching, storing, cutting, mapping, unmapping}
 use Rattle.rules.specs.Skeleton.{Config, Event, call, reply, save, load, EventBytes, answerLength, requestLength, Skeleton}
-use Rattle.rules.specs.Rules.{Move, refuse, halt, send, finish, add, delete, readPage, begin, fillPage, stored, cutDone, saving, loading, openPlace, filePlace, opened, file, Entry, entryForm, entryOf, callChecks, readAction, callAction, replyChecks, replyAction, callOr, isNone, eventChecks, eventAction, judge, remap, mapReasons, reasons}
+use Rattle.rules.specs.Rules.{Move, refuse, halt, send, finish, add, delete, readPage, begin, fillPage, stored, cutDone, keepPages, giveUp, saving, loading, openPlace, filePlace, opened, file, Entry, entryForm, entryOf, callChecks, readAction, callAction, replyChecks, replyAction, tellsFull, fullAction, callOr, isNone, eventChecks, eventAction, judge, remap, mapReasons, reasons}
 use Rattle.rules.specs.RightReplies.{RightListing}
 use Rattle.rules.specs.Valid.{ValidNodes, ValidTables, PendingFits, Valid}
 use Rattle.rules.specs.TableLaws.{bare-valid}
@@ -116,6 +116,8 @@ Modest c (begin k o q) = Unit {0}
 Modest c (fillPage k o q i r) = Unit {0}
 Modest c (stored k o q i) = Unit {0}
 Modest c (cutDone k o q) = Unit {0}
+Modest c (keepPages k o q i) = Unit {0}
+Modest c giveUp = Unit {0}
 Modest c saving = Unit {0}
 Modest c (loading i d) = Unit {0}
 
@@ -184,13 +186,23 @@ module _ (c : Config) (sk : Skeleton) (v : Valid (c .width) sk) where
   read-modest s b none e i p = absurd (true≢false i)
   read-modest s b (some q) e i p = call-modest c (sk .tables) q (call-was-written (c .width) s q b e .1) p
 
+  full-modest : (p : Pending) → Modest c (fullAction p)
+  unfolding fullAction
+  full-modest idle = tt
+  full-modest (asked x) = tt
+  full-modest (reading k o p n i) = tt
+  full-modest (fetching k o q i) = tt
+  full-modest (storing k o q i) = pick-ind (Modest c) (ltb (first q) i) (λ _. tt) (λ _. tt)
+  full-modest (cutting k o q) = tt
+
   action-modest : (e : Event) → EventBytes e → Passed (eventChecks c sk e) → Modest c (eventAction c sk e)
   unfolding eventChecks eventAction EventBytes
   action-modest (call s a q) b (both _ (both _ (both _ (both n p)))) = read-modest s b (readCall (c .width) s) refl n (all-left _ _ p)
   action-modest (reply r a q) b _ =
-      decide-ind halt (Modest c) (reasons (c .width) sk r) _ (λ n f. tt)
+      pick-ind (Modest c) (tellsFull (c .width) r (sk .pending)) (λ _. full-modest (sk .pending))
+      (λ _. decide-ind halt (Modest c) (reasons (c .width) sk r) _ (λ n f. tt)
       (λ p. reply-modest c (sk .tables) r b (v .tables .nodes-valid) (sk .pending) (v .pending)
-      (unfold reasons in all-left (replyChecks (c .width) (sk .tables) r (sk .pending)) (mapReasons (sk .maps) r (sk .pending)) p))
+      (unfold reasons in all-left (replyChecks (c .width) (sk .tables) r (sk .pending)) (mapReasons (sk .maps) r (sk .pending)) p)))
   action-modest (save n) b p = tt
   action-modest (load i d) b p = tt
 

@@ -10,6 +10,7 @@ pub mod RightReplies
 pub mod Positions
 pub mod Valid
 pub mod TableLaws
+pub mod FullLaws
 pub mod FitLaws
 pub mod ReplyLaws
 pub mod MapLaws

@@ -21,7 +21,7 @@ use Rattle.rules.specs.Calls.{Call, create, mkdir, openAs, close, seek, 
 use Rattle.rules.specs.CallLaws.{CallFits, call-was-written}
 use Rattle.rules.specs.Requests.{asked, Pending, idle, creating, opening, closing, removing, changing, listing, stating, mapping, unmapping, reading, fetching, storing, cutting}
 use Rattle.rules.specs.Skeleton.{Config, Event, call, reply, save, load, EventBytes, Skeleton}
-use Rattle.rules.specs.Rules.{Move, refuse, halt, send, finish, add, delete, remap, readPage, begin, fillPage, stored, cutDone, saving, loading, callChecks, readAction, callAction, replyChecks, replyAction, mapChecks, mapReasons, reasons, callOr, isNone, eventChecks, eventAction, judge}
+use Rattle.rules.specs.Rules.{Move, refuse, halt, send, finish, add, delete, remap, readPage, begin, fillPage, stored, cutDone, keepPages, giveUp, saving, loading, callChecks, readAction, callAction, replyChecks, replyAction, mapChecks, mapReasons, reasons, tellsFull, fullAction, callOr, isNone, eventChecks, eventAction, judge}
 
 -- of the pending call: a map that is asked for has its room, one that is to end lives
 abbrev pub MapFits : List Map → Pending → Type 0
@@ -58,6 +58,8 @@ MapMove ms (begin k o q) = Unit {0}
 MapMove ms (fillPage k o q i r) = Unit {0}
 MapMove ms (stored k o q i) = Unit {0}
 MapMove ms (cutDone k o q) = Unit {0}
+MapMove ms (keepPages k o q i) = Unit {0}
+MapMove ms giveUp = Unit {0}
 MapMove ms saving = Unit {0}
 MapMove ms (loading i d) = Unit {0}
 
@@ -97,6 +99,15 @@ reply-maps ms w t r (fetching k o q i) v f a = tt
 reply-maps ms w t r (storing k o q i) v f a = tt
 reply-maps ms w t r (cutting k o q) v f a = tt
 
+full-maps : (ms : List Map) (p : Pending) → MapMove ms (fullAction p)
+unfolding fullAction
+full-maps ms idle = tt
+full-maps ms (asked x) = tt
+full-maps ms (reading k o p n i) = tt
+full-maps ms (fetching k o q i) = tt
+full-maps ms (storing k o q i) = pick-ind (MapMove ms) _ (λ _. tt) (λ _. tt)
+full-maps ms (cutting k o q) = tt
+
 module _ (c : Config) where
   read-maps : (sk : Skeleton) (s : List ℕ) → Bytes s → (o : Option Call) → readCall (c .width) s ≡ o → isNone o ≡ false → Passed (mapChecks (sk .maps) (callOr o))
       → MapMove (sk .maps) (callAction (sk .tables) (c .width) (callOr o))
@@ -109,9 +120,10 @@ module _ (c : Config) where
   action-maps sk v (call s a q) b (both _ (both _ (both _ (both n p)))) =
       read-maps sk s b (readCall (c .width) s) refl n (all-right (callChecks (sk .tables) (callOr (readCall (c .width) s))) _ p)
   action-maps sk v (reply r a q) b p =
-      decide-ind halt (MapMove (sk .maps)) (reasons (c .width) sk r) _ (λ _ _. tt)
+      pick-ind (MapMove (sk .maps)) (tellsFull (c .width) r (sk .pending)) (λ _. full-maps (sk .maps) (sk .pending))
+      (λ _. decide-ind halt (MapMove (sk .maps)) (reasons (c .width) sk r) _ (λ _ _. tt)
       (λ x. reply-maps (sk .maps) (c .width) (sk .tables) r (sk .pending) (v .valid) (v .pending)
-      (unfold reasons in all-right (replyChecks (c .width) (sk .tables) r (sk .pending)) (mapReasons (sk .maps) r (sk .pending)) x))
+      (unfold reasons in all-right (replyChecks (c .width) (sk .tables) r (sk .pending)) (mapReasons (sk .maps) r (sk .pending)) x)))
   action-maps sk v (save n) b p = tt
   action-maps sk v (load i d) b p = tt
 

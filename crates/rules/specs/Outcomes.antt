@@ -1,16 +1,16 @@
 -- Which numbers and reasons there are, when a number comes, and what SPECIFICATION 13.3 asks of single calls.
 -- Assumes nothing.
-use mathlib.Core.Path.{_≡_, refl, ap, _∙_, subst}
+use mathlib.Core.Path.{_≡_, refl, ap, sym, _∙_, subst}
 use mathlib.Core.Logic.{_↔_}
 use mathlib.Core.Bool.{Bool, true, false, _&&_, not, true≢false}
 use mathlib.Core.List.{List, [], _∷_, _++_}
 use Prim.Native.Nat.{ℕ, suc, _≤_}
 use native.Mathlib.Omega.{arith}
-use lib.Dec.{eqb, leb}
+use lib.Dec.{eqb, ltb, leb}
 use lib.ListN.{length, length-append}
 use borrow.Author.Tests.{leb-true, le-ltb}
-use Rattle.lists.specs.Pick.{pick, pick-false, pick-ind}
-use Rattle.lists.specs.Equal.{or-both}
+use Rattle.lists.specs.Pick.{pick, pick-true, pick-false, pick-ind}
+use Rattle.lists.specs.Equal.{Is, isT, isF, is, and-fst, and-snd, and-both, or-both}
 use Rattle.lists.specs.All.{All, both, none as all-none, all-append}
 use Rattle.lists.specs.Search.{any, place}
 use Rattle.lists.specs.Checks.{Check, Passed, First, here, decide, decide-passed, decide-ind, decide-exactly}
@@ -21,8 +21,9 @@ use Rattle.rules.specs.CallLaws.{CallFits, call-read-back}
 use Rattle.filesystem.specs.MemoryMaps.{Map}
 use Rattle.rules.specs.MapRules.{mapFaults}
 use Rattle.rules.specs.Requests.{asked, Pending, idle, creating, opening, closing, removing, changing, listing, stating, mapping, unmapping, reading, fetching, storing, cutting}
+use Rattle.rules.specs.Pages.{first}
 use Rattle.rules.specs.Skeleton.{Config, Event, call, reply, save, load, stopped, answerLength, requestLength, Skeleton}
-use Rattle.rules.specs.Rules.{Move, refuse, halt, send, finish, add, delete, remap, readPage, begin, fillPage, stored, cutDone, saving, loading, callChecks, readAction, callAction, replyChecks, replyAction, mapChecks, mapReasons, reasons, isIdle, callOr, isNone, eventChecks, eventAction, judge}
+use Rattle.rules.specs.Rules.{Move, refuse, halt, send, finish, add, delete, remap, readPage, begin, fillPage, stored, cutDone, keepPages, giveUp, saving, loading, callChecks, readAction, callAction, replyChecks, replyAction, tellsFull, finished, fullAction, givesUp, mapChecks, mapReasons, reasons, isIdle, callOr, isNone, eventChecks, eventAction, judge}
 
 -- SPECIFICATION 7.1
 abbrev pub numbers : List ℕ
@@ -128,6 +129,8 @@ Acts (begin k o q) = Unit {0}
 Acts (fillPage k o q i r) = Unit {0}
 Acts (stored k o q i) = Unit {0}
 Acts (cutDone k o q) = Unit {0}
+Acts (keepPages k o q i) = Unit {0}
+Acts giveUp = Unit {0}
 Acts saving = Unit {0}
 Acts (loading i d) = Unit {0}
 
@@ -201,14 +204,82 @@ module _ (w : ℕ) (t : Tables) (r : List ℕ) where
   reply-acts (storing k o q i) e = tt
   reply-acts (cutting k o q) e = tt
 
+full-acts : (p : Pending) → Acts (fullAction p)
+unfolding fullAction
+full-acts idle = tt
+full-acts (asked x) = tt
+full-acts (reading k o p n i) = tt
+full-acts (fetching k o q i) = tt
+full-acts (storing k o q i) = pick-ind Acts (ltb (first q) i) (λ _. tt) (λ _. tt)
+full-acts (cutting k o q) = tt
+
+-- every move but a call given up
+abbrev NoGive : Move → Type 0
+NoGive (refuse n) = Unit {0}
+NoGive (halt n) = Unit {0}
+NoGive (send p q) = Unit {0}
+NoGive (finish t n b) = Unit {0}
+NoGive (add n) = Unit {0}
+NoGive (delete k) = Unit {0}
+NoGive (remap x) = Unit {0}
+NoGive (readPage k o p n i r) = Unit {0}
+NoGive (begin k o q) = Unit {0}
+NoGive (fillPage k o q i r) = Unit {0}
+NoGive (stored k o q i) = Unit {0}
+NoGive (cutDone k o q) = Unit {0}
+NoGive (keepPages k o q i) = Unit {0}
+NoGive giveUp = ⊥
+NoGive saving = Unit {0}
+NoGive (loading i d) = Unit {0}
+
+call-no-give : (t : Tables) (w : ℕ) (q : Call) → NoGive (callAction t w q)
+unfolding callAction readAction
+call-no-give t w (create m p) = tt
+call-no-give t w (mkdir m p) = tt
+call-no-give t w (openAs r p) = tt
+call-no-give t w (close h) = tt
+call-no-give t w (seek h n) = tt
+call-no-give t w (read h n) = pick-ind NoGive _ (λ _. tt) (λ _. tt)
+call-no-give t w (write h d) = pick-ind NoGive _ (λ _. tt) (λ _. tt)
+call-no-give t w (truncate h n) = pick-ind NoGive _ (λ _. tt) (λ _. tt)
+call-no-give t w (remove p) = tt
+call-no-give t w (rmdir p) = tt
+call-no-give t w (chmod m p) = tt
+call-no-give t w (readdir p) = tt
+call-no-give t w (stat p) = tt
+call-no-give t w (mapMemory n) = tt
+call-no-give t w (unmap a) = tt
+
+reply-no-give : (w : ℕ) (t : Tables) (r : List ℕ) (p : Pending) → NoGive (replyAction w t r p)
+unfolding replyAction
+reply-no-give w t r idle = tt
+reply-no-give w t r (asked (creating p k m name)) = tt
+reply-no-give w t r (asked (opening k rights)) = tt
+reply-no-give w t r (asked (closing o)) = tt
+reply-no-give w t r (asked (removing k)) = tt
+reply-no-give w t r (asked (changing k m)) = tt
+reply-no-give w t r (asked (listing k)) = tt
+reply-no-give w t r (asked (stating k)) = tt
+reply-no-give w t r (asked (mapping n)) = tt
+reply-no-give w t r (asked (unmapping a)) = tt
+reply-no-give w t r (reading k o p n i) = tt
+reply-no-give w t r (fetching k o q i) = tt
+reply-no-give w t r (storing k o q i) = tt
+reply-no-give w t r (cutting k o q) = tt
+
+not-true : (b : Bool) → not b ≡ true → b ≡ false
+not-true true e = absurd (true≢false (sym e))
+not-true false e = refl
+
 module _ (c : Config) (sk : Skeleton) where
   action-acts : (e : Event) → Passed (eventChecks c sk e) → Acts (eventAction c sk e)
   unfolding eventChecks eventAction reasons
   action-acts (call s a q) p = call-acts (sk .tables) (c .width) (callOr (readCall (c .width) s))
   action-acts (reply r a q) (both _ (both i _)) =
-      decide-ind halt Acts (reasons (c .width) sk r) _
+      pick-ind Acts (tellsFull (c .width) r (sk .pending)) (λ _. full-acts (sk .pending))
+      (λ _. decide-ind halt Acts (reasons (c .width) sk r) _
       (λ n f. first-has (all-append (reply-reasons (c .width) (sk .tables) r (sk .pending)) (map-reasons (c .width) (sk .tables) r (sk .maps) (sk .pending))) f)
-      (λ _. reply-acts (c .width) (sk .tables) r (sk .pending) i)
+      (λ _. reply-acts (c .width) (sk .tables) r (sk .pending) i))
   action-acts (save n) p = tt
   action-acts (load i d) p = tt
 
@@ -217,18 +288,62 @@ module _ (c : Config) (sk : Skeleton) where
   unfolding judge
   refused-exactly e n = decide-exactly refuse (eventChecks c sk e) (eventAction c sk e) n (λ p m q. subst Acts q (action-acts e p)) (λ m k q. cc)
 
+  -- a call is given up exactly where no number holds, the host says that the disk is full where it may, and no page is finished
+  full-gives : (p : Pending) → (fullAction p ≡ giveUp) ↔ (finished p ≡ false)
+  unfolding fullAction
+  full-gives idle = (λ _. refl, λ _. refl)
+  full-gives (asked x) = (λ _. refl, λ _. refl)
+  full-gives (reading k o p n i) = (λ _. refl, λ _. refl)
+  full-gives (fetching k o q i) = (λ _. refl, λ _. refl)
+  full-gives (storing k o q i) = go (is (ltb (first q) i))
+    where
+      go : Is (ltb (first q) i) → (pick (ltb (first q) i) (keepPages k o q i) giveUp ≡ giveUp) ↔ (ltb (first q) i ≡ false)
+      go (isT e) = (λ x. absurd (subst NoGive (sym (pick-true _ _ _ e) ∙ x) tt), λ x. absurd (true≢false (sym e ∙ x)))
+      go (isF e) = (λ _. e, λ _. pick-false _ _ _ e)
+  full-gives (cutting k o q) = (λ _. refl, λ _. refl)
+
+  up-to : (e : Event) → Passed (eventChecks c sk e) → eventAction c sk e ≡ giveUp → givesUp c sk e ≡ true
+  unfolding eventChecks eventAction givesUp
+  up-to (call s a q) p x = absurd (subst NoGive x (call-no-give (sk .tables) (c .width) (callOr (readCall (c .width) s))))
+  up-to (reply r a q) (both _ (both i _)) x = go (is (tellsFull (c .width) r (sk .pending)))
+    where
+      go : Is (tellsFull (c .width) r (sk .pending)) → (tellsFull (c .width) r (sk .pending) && not (finished (sk .pending))) ≡ true
+      go (isT e) = and-both _ _ e (ap not (full-gives (sk .pending) .0 (sym (pick-true _ _ _ e) ∙ x)))
+      go (isF e) = absurd (subst NoGive (sym (pick-false _ _ _ e) ∙ x)
+          (decide-ind halt NoGive (reasons (c .width) sk r) _ (λ n f. tt) (λ _. reply-no-give (c .width) (sk .tables) r (sk .pending))))
+  up-to (save n) p x = absurd (subst NoGive x tt)
+  up-to (load i d) p x = absurd (subst NoGive x tt)
+
+  up-from : (e : Event) → givesUp c sk e ≡ true → eventAction c sk e ≡ giveUp
+  unfolding eventAction givesUp
+  up-from (call s a q) g = absurd (true≢false (sym g))
+  up-from (reply r a q) g =
+      let f = and-fst (tellsFull (c .width) r (sk .pending)) _ g in
+      let n = and-snd (tellsFull (c .width) r (sk .pending)) _ g in
+      pick-true _ _ _ f ∙ full-gives (sk .pending) .1 (not-true _ n)
+  up-from (save n) g = absurd (true≢false (sym g))
+  up-from (load i d) g = absurd (true≢false (sym g))
+
+  pub gives-up-exactly : (e : Event) → (judge c sk e ≡ giveUp) ↔ (Passed (eventChecks c sk e) × (givesUp c sk e ≡ true))
+  unfolding judge
+  gives-up-exactly e = (
+    decide-ind refuse (λ m. m ≡ giveUp → Passed (eventChecks c sk e) × (givesUp c sk e ≡ true)) (eventChecks c sk e) (eventAction c sk e)
+        (λ n f x. absurd (subst NoGive x tt)) (λ p x. (p, up-to e p x)),
+    λ (p, g). decide-passed refuse _ _ p ∙ up-from e g,
+  )
+
   pub halt-reason : (e : Event) (n : ℕ) → judge c sk e ≡ halt n → isReason n ≡ true
   unfolding judge
   halt-reason e n =
       decide-ind refuse (λ m. m ≡ halt n → isReason n ≡ true) (eventChecks c sk e) (eventAction c sk e)
       (λ m f q. absurd (let z : _≡_ {A = ℕ} 0 1 = cc in omega arith)) (λ p q. subst Acts q (action-acts e p))
 
--- SPECIFICATION 13.3: a reply that no reason stops is acted on.
+-- SPECIFICATION 13.3: a reply that no reason stops is acted on, where it does not say that the disk is full.
 pub reply-goes : (c : Config) (sk : Skeleton) (r : List ℕ) (a q : ℕ) → Passed (eventChecks c sk (reply r a q))
-    → Passed (reasons (c .width) sk r)
+    → tellsFull (c .width) r (sk .pending) ≡ false → Passed (reasons (c .width) sk r)
     → judge c sk (reply r a q) ≡ replyAction (c .width) (sk .tables) r (sk .pending)
 unfolding judge eventAction
-reply-goes c sk r a q p h = decide-passed refuse _ _ p ∙ decide-passed halt _ _ h
+reply-goes c sk r a q p f h = decide-passed refuse _ _ p ∙ (pick-false _ _ _ f ∙ decide-passed halt _ _ h)
 
 -- SPECIFICATION 13.3: no false 28 or 24, and seek.
 module _ (t : Tables) where

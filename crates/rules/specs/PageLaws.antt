@@ -1,20 +1,21 @@
 -- Laws of pages and of the calls that change them: what a change stores is what it leaves.
 -- Assumes nothing.
-use mathlib.Core.Path.{_≡_, ap, sym, _∙_}
+use mathlib.Core.Path.{_≡_, refl, ap, sym, _∙_}
 use mathlib.Core.Logic.{_⊎_, inl, inr}
-use mathlib.Core.Bool.{true≢false, true, false}
+use mathlib.Core.Bool.{true≢false, false≢true, true, false, _&&_, _||_}
 use mathlib.Core.List.{List, [], _∷_, _++_}
 use Prim.Native.Nat.{ℕ, suc, _+_, _-_, _*_, _/_, _≤_, _<_, min, max}
 use native.Mathlib.Omega.{arith}
 use lib.Dec.{ltb}
-use lib.ListN.{length, getD, List·getD-eq-default}
-use borrow.Author.Tests.{ltb-true, ltb-false, lt-ltb}
+use lib.ListN.{length, getD, take, List·getD-eq-default}
+use lib.Seq.{length-take-le, getD-take}
+use borrow.Author.Tests.{ltb-true, ltb-false, lt-ltb, le-ltb}
 use Rattle.lists.specs.Pick.{pick, pick-true, pick-false}
 use Rattle.lists.specs.Equal.{Is, isT, isF, is, and-fst}
 pub use Rattle.lists.specs.Cells.{Where, low, mid, high, range}
 use Rattle.lists.specs.Cells.{inside, tab, length-tab, getD-tab, tab-cong, tab-append}
 use Rattle.filesystem.specs.Tables.{pagesFor}
-use Rattle.rules.specs.Pages.{pageAt, pageOf, bytesAt, resized, splice, overlay, pagePart, Change, writing, shrinking, growing, first, last, fetches, fill, bytesAfter, sizeAfter, FitsSize, addedBy}
+use Rattle.rules.specs.Pages.{pageAt, pageOf, bytesAt, resized, splice, overlay, pagePart, Change, writing, shrinking, growing, first, last, fetches, fill, sizeSent, cuts, bytesAfter, sizeAfter, FitsSize, addedBy, storesMore, before}
 
 -- a cell of a list of cells, zero past its end
 pub getD-cells : (n : ℕ) (f : ℕ → ℕ) (j : ℕ) → getD (tab n f) j 0 ≡ pick (ltb j n) (f j) 0
@@ -173,3 +174,96 @@ unfolding pagePart pageAt
 bytesAt-more b p n i l h =
     bytesAt-from b p i (max p (i * 1024)) (min (p + n) (i * 1024 + 1024)) (omega arith) (omega arith) (omega arith)
     ∙ ap (bytesAt b p) (omega arith)
+
+-- A write of the bytes before page i, which the write of all would store later than its first.
+module _ (p : ℕ) (d : List ℕ) (i : ℕ) (from : pageAt p < i) (to : i < pagesFor (p + length d)) where
+  abbrev part : List ℕ
+  part = take (i * 1024 - p) d
+
+  part-length : length part ≡ i * 1024 - p
+  part-length = unfold pagesFor in length-take-le (i * 1024 - p) d (omega arith)
+
+  -- before page i it puts the same bytes over the old ones
+  part-cell : (y z : ℕ) → y < i * 1024 → pick (inside p (length part) y) (getD part (y - p) 0) z ≡ pick (inside p (length d) y) (getD d (y - p) 0) z
+  unfolding pagesFor pageAt
+  part-cell y z h = go (range p (length d) y) (range p (length part) y)
+    where
+      e : length part ≡ i * 1024 - p
+      e = part-length
+
+      go : Where p (length d) y → Where p (length part) y
+          → pick (inside p (length part) y) (getD part (y - p) 0) z ≡ pick (inside p (length d) y) (getD d (y - p) 0) z
+      go (low a u) (low a₂ u₂) = pick-false _ _ _ u₂ ∙ sym (pick-false _ _ _ u)
+      go (low a u) (high a₂ b₂ u₂) = pick-false _ _ _ u₂ ∙ sym (pick-false _ _ _ u)
+      go (low a u) (mid a₂ b₂ u₂) = absurd (omega arith)
+      go (mid a v u) (mid a₂ b₂ u₂) = pick-true _ _ _ u₂ ∙ (getD-take (i * 1024 - p) d (y - p) 0 (omega arith) ∙ sym (pick-true _ _ _ u))
+      go (mid a v u) (low a₂ u₂) = absurd (omega arith)
+      go (mid a v u) (high a₂ b₂ u₂) = let e₂ = e in absurd (omega arith)
+      go (high a v u) (mid a₂ b₂ u₂) = let e₂ = e in absurd (omega arith)
+      go (high a v u) (low a₂ u₂) = absurd (omega arith)
+      go (high a v u) (high a₂ b₂ u₂) = pick-false _ _ _ u₂ ∙ sym (pick-false _ _ _ u)
+
+pub before-first : (q : Change) (i : ℕ) → first (before q i) ≡ first q
+unfolding first before
+before-first (writing p d) i = refl
+before-first (shrinking n) i = refl
+before-first (growing n) i = refl
+
+pub before-last : (q : Change) (i : ℕ) → storesMore q ≡ true → first q < i → i < last q → last (before q i) ≡ i
+unfolding first last before pagesFor pageAt
+before-last (writing p d) i s l m = let e = part-length p d i l m in omega arith
+before-last (shrinking n) i s l m = absurd (false≢true s)
+before-last (growing n) i s l m = absurd (false≢true s)
+
+pub before-fits : (q : Change) (i size : ℕ) → storesMore q ≡ true → first q < i → i < last q → FitsSize q size → FitsSize (before q i) size
+unfolding first last before pagesFor pageAt
+before-fits (writing p d) i size s l m (f, h) = let e = part-length p d i l m in (f, omega arith)
+before-fits (shrinking n) i size s l m f = absurd (false≢true s)
+before-fits (growing n) i size s l m f = absurd (false≢true s)
+
+pub before-less : (q : Change) (i size : ℕ) → storesMore q ≡ true → first q < i → i < last q → sizeAfter (before q i) size ≤ sizeAfter q size
+unfolding first last before pagesFor pageAt sizeAfter
+before-less (writing p d) i size s l m = let e = part-length p d i l m in omega arith
+before-less (shrinking n) i size s l m = absurd (false≢true s)
+before-less (growing n) i size s l m = absurd (false≢true s)
+
+-- the pages before i are the same, as they are left and as they are stored
+pub before-page : (q : Change) (i : ℕ) (b : List ℕ) (j : ℕ) → storesMore q ≡ true → first q < i → i < last q → j < i
+    → pageOf (bytesAfter (before q i) b) j ≡ pageOf (bytesAfter q b) j
+unfolding first last before bytesAfter pageOf
+before-page (writing p d) i b j s l m h =
+    tab-cong 1024 _ _ (λ x k.
+    getD-splice b p (take (i * 1024 - p) d) (j * 1024 + x)
+    ∙ (part-cell p d i l m (j * 1024 + x) (getD b (j * 1024 + x) 0) (omega arith) ∙ sym (getD-splice b p d (j * 1024 + x))))
+before-page (shrinking n) i b j s l m h = absurd (false≢true s)
+before-page (growing n) i b j s l m h = absurd (false≢true s)
+
+pub before-fill : (q : Change) (i : ℕ) (page : List ℕ) (j : ℕ) → storesMore q ≡ true → first q < i → i < last q → j < i
+    → fill (before q i) j page ≡ fill q j page
+unfolding first last before fill overlay
+before-fill (writing p d) i page j s l m h = tab-cong 1024 _ _ (λ x k. part-cell p d i l m (j * 1024 + x) (getD page x 0) (omega arith))
+before-fill (shrinking n) i page j s l m h = absurd (false≢true s)
+before-fill (growing n) i page j s l m h = absurd (false≢true s)
+
+-- a write is not cut
+pub before-uncut : (q : Change) (i : ℕ) → storesMore q ≡ true → cuts (before q i) ≡ false
+unfolding before cuts
+before-uncut (writing p d) i s = refl
+before-uncut (shrinking n) i s = absurd (false≢true s)
+before-uncut (growing n) i s = absurd (false≢true s)
+
+-- Up to page i both writes ask the same: the same pages are fetched, and stored with the same bytes and the same size.
+pub before-fetches : (q : Change) (i size j : ℕ) → storesMore q ≡ true → first q < i → i < last q → j < i → fetches (before q i) size j ≡ fetches q size j
+unfolding first last before pagesFor pageAt fetches
+before-fetches (writing p d) i size j s l m h =
+    let e = part-length p d i l m in
+    ap (λ x. ltb (j * 1024) size && (ltb (j * 1024) p || x))
+    (le-ltb (p + length (take (i * 1024 - p) d)) (min size (j * 1024 + 1024)) (omega arith) ∙ sym (le-ltb (p + length d) (min size (j * 1024 + 1024)) (omega arith)))
+before-fetches (shrinking n) i size j s l m h = absurd (false≢true s)
+before-fetches (growing n) i size j s l m h = absurd (false≢true s)
+
+pub before-size : (q : Change) (i size j : ℕ) → storesMore q ≡ true → first q < i → i < last q → j < i → sizeSent (before q i) size j ≡ sizeSent q size j
+unfolding first last before pagesFor pageAt sizeSent
+before-size (writing p d) i size j s l m h = let e = part-length p d i l m in omega arith
+before-size (shrinking n) i size j s l m h = absurd (false≢true s)
+before-size (growing n) i size j s l m h = absurd (false≢true s)

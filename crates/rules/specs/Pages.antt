@@ -4,7 +4,7 @@ use mathlib.Core.Bool.{Bool, true, false, _&&_, _||_}
 use mathlib.Core.List.{List, [], _∷_}
 use Prim.Native.Nat.{ℕ, _+_, _-_, _*_, _/_, _≤_, _<_, min, max}
 use lib.Dec.{ltb}
-use lib.ListN.{length, getD}
+use lib.ListN.{length, getD, take}
 use Rattle.lists.specs.Pick.{pick}
 use Rattle.lists.specs.Cells.{inside, tab}
 use Rattle.filesystem.specs.Tables.{PAGE-BYTES, pagesFor}
@@ -117,3 +117,20 @@ unfoldable pub addedBy : Change → (size : ℕ) → List (List ℕ)
 addedBy (writing p d) size = []
 addedBy (shrinking n) size = []
 addedBy (growing n) size = pick (ltb (pagesFor size) (pagesFor n)) (pageOf [] 0 ∷ []) []
+
+-- A full disk (SPECIFICATION 5.5): a write's store may meet one, and a growing cut; no other request of a change.
+abbrev pub storesMore : Change → Bool
+storesMore (writing p d) = true
+storesMore (shrinking n) = false
+storesMore (growing n) = false
+
+abbrev pub cutsMore : Change → Bool
+cutsMore (writing p d) = false
+cutsMore (shrinking n) = false
+cutsMore (growing n) = true
+
+-- the write of the bytes before page i
+unfoldable pub before : Change → ℕ → Change
+before (writing p d) i = writing p (take (i * PAGE-BYTES - p) d)
+before (shrinking n) i = shrinking n
+before (growing n) i = growing n

@@ -2,7 +2,7 @@
 -- (Pages apart: the checks ask only their length, the machine their digest.)
 -- Assumes nothing.
 use mathlib.Core.Path.{_≡_, refl, ap, ap₂, sym, _∙_, subst}
-use mathlib.Core.Bool.{Bool, true, false, not, false≢true}
+use mathlib.Core.Bool.{Bool, true, false, not, false≢true, true≢false}
 use mathlib.Core.List.{List, map}
 use mathlib.Core.Option.{Option, some, none}
 use Prim.Native.Nat.{ℕ, _+_, _*_, _^_, _≤_, _<_}
@@ -27,7 +27,7 @@ use Rattle.filesystem.specs.Tables.{Node, Tables, noNode, noOpenFile, hasId, ha
 use Rattle.filesystem.specs.Image.{sameId}
 use Rattle.filesystem.specs.Sound.{gone, Sound, to-sound, limits-at, name-short, by-kind}
 use Rattle.rules.specs.Requests.{asked, creating, opening, listing, stating}
-use Rattle.rules.specs.Rules.{signedOf, isNumber, isDescriptor, Entry, entryForm, entryOf, sameEntry, isListing, statBytes, statusChecks, replyChecks}
+use Rattle.rules.specs.Rules.{signedOf, isNumber, isFull, saysFull, isDescriptor, Entry, entryForm, entryOf, sameEntry, isListing, statBytes, statusChecks, replyChecks, tellsFull}
 use Rattle.rules.specs.Valid.{ValidNodes}
 use Rattle.rules.specs.RightReplies.{RightId, RightDescriptor, RightListing}
 
@@ -71,9 +71,11 @@ module _ (w : ℕ) (t : Tables) (r : List ℕ) where
       both (ap not (eq-eqb _ _ (ap length e ∙ length-encode 4 n))) (both (ap not (ap (isNumber n) (is-signed r n d h) ∙ eq-eqb n n refl)) all-none)
 
   -- An id.
-  pub id-right : (p k m : ℕ) (name : List ℕ) → Passed (replyChecks w t r (asked (creating p k m name))) → RightId w t r
-  unfolding replyChecks findId
-  id-right p k m name (both l (both x _)) = record {
+  pub id-right : (p k m : ℕ) (name : List ℕ) → tellsFull w r (asked (creating p k m name)) ≡ false → Passed (replyChecks w t r (asked (creating p k m name)))
+      → RightId w t r
+  unfolding replyChecks findId saysFull isFull
+  id-right p k m name f (both l (both x _)) = record {
+    not-full = λ z. true≢false (sym (and-both (eqb (length r) w) (isFull (signed w (decode r))) (not-false _ l) (ap isFull z)) ∙ f);
     long = eqb-true _ _ (not-false _ l);
     not-zero = eqb-false _ _ (or-fst _ _ x);
     not-held = at-all noNode (t .nodes) (λ i h. eqb-false (getD (t .nodes) i noNode .id) (decode r)

@@ -5,9 +5,10 @@ use mathlib.Core.Logic.{_⊎_}
 use mathlib.Core.List.{List, map, _++_}
 use Prim.Native.Nat.{ℕ, _+_, _*_, _<_, _≤_}
 use lib.ListN.{length, replicate}
-use lib.IntN.{pos}
+use lib.IntN.{pos, negsuc}
 use Rattle.lists.specs.All.{All}
 use Rattle.lists.specs.LittleEndian.{encode, decode}
+use Rattle.lists.specs.Signed.{signed}
 use Rattle.lists.specs.Form.{put-all}
 use Rattle.lists.specs.Rearranged.{Rearranged}
 use Rattle.filesystem.specs.Tables.{DESCRIPTORS, Node, OpenFile, Tables, nodeAt, children}
@@ -15,10 +16,15 @@ use Rattle.filesystem.specs.MemoryMaps.{Map, MAP-UNIT}
 use Rattle.rules.specs.MapRules.{ADDRESSES}
 use Rattle.rules.specs.Rules.{signedOf, Entry, entryForm, entryOf}
 
--- an id that is not 0 and that no node has
+-- -28 as a signed number of this width: no room on the disk
+abbrev pub Full : ℕ → List ℕ → Type 0
+Full w r = (length r ≡ w) × (signed w (decode r) ≡ negsuc 27)
+
+-- an id that is not 0, that is not -28, and that no node has
 pub record RightId (w : ℕ) (t : Tables) (r : List ℕ) : Type 0 where
   pub long : length r ≡ w
   pub not-zero : decode r ≡ 0 → ⊥
+  pub not-full : signed w (decode r) ≡ negsuc 27 → ⊥
   pub not-held : All (λ (n : Node). n .id ≡ decode r → ⊥) (t .nodes)
 
 -- a descriptor 0 to 1,023 that no open file has

@@ -26,7 +26,7 @@ use Rattle.filesystem.specs.Image.{Image, imageLength, parse}
 use Rattle.filesystem.specs.MemoryMaps.{Map, MAPS}
 use Rattle.rules.specs.MapRules.{MapChange, begins, ends, mapIn, findMap, mapFaults}
 use Rattle.rules.specs.Calls.{Call, create, mkdir, openAs, close, seek, read, write, truncate, remove, rmdir, chmod, readdir, stat, callBytes, readCall, mapMemory, unmap}
-use Rattle.rules.specs.Pages.{pageAt, Change, writing, truncating}
+use Rattle.rules.specs.Pages.{pageAt, Change, writing, truncating, first, storesMore, cutsMore}
 use Rattle.rules.specs.Requests.{asked, closeRequest, fetchRequest, Pending, idle, creating, opening, closing, removing, changing, listing, stating, reading, fetching, storing, cutting, mapping, unmapping}
 use Rattle.rules.specs.Skeleton.{Config, Event, call, reply, save, load, answerLength, requestLength, Skeleton}
 
@@ -47,6 +47,9 @@ pub data Move : Type 0 where
   fillPage : (k o : ℕ) → Change → (i : ℕ) → List ℕ → Move
   stored : (k o : ℕ) → Change → (i : ℕ) → Move
   cutDone : (k o : ℕ) → Change → Move
+  -- the disk is full: a write keeps the pages before i, which are stored; the call is refused 28
+  keepPages : (k o : ℕ) → Change → (i : ℕ) → Move
+  giveUp : Move
   saving : Move
   loading : Image → (digest : List ℕ) → Move
 
@@ -186,6 +189,15 @@ unfoldable pub isNumber : ℕ → ℤ → Bool
 isNumber n (pos m) = eqb m n
 isNumber n (negsuc m) = false
 
+-- -28: no room on the disk
+unfoldable pub isFull : ℤ → Bool
+isFull (pos m) = false
+isFull (negsuc m) = eqb m 27
+
+-- said as a status of w bytes
+unfoldable pub saysFull : ℕ → List ℕ → Bool
+saysFull w r = eqb (length r) w && isFull (signed w (decode r))
+
 -- a descriptor is 0 to 1,023
 unfoldable pub isDescriptor : ℤ → Bool
 isDescriptor (pos m) = ltb m DESCRIPTORS
@@ -276,6 +288,41 @@ mapReasons ms r (cutting k o q) = []
 unfoldable pub reasons : ℕ → Skeleton → List ℕ → List Check
 reasons w sk r = replyChecks w (sk .tables) r (sk .pending) ++ mapReasons (sk .maps) r (sk .pending)
 
+-- A reply that says the disk is full, where it may: to a create or mkdir at the width of ids, to a write's store, to a growing cut.
+abbrev pub tellsFull : (w : ℕ) → List ℕ → Pending → Bool
+tellsFull w r idle = false
+tellsFull w r (asked (creating p k m name)) = saysFull w r
+tellsFull w r (asked (opening k rights)) = false
+tellsFull w r (asked (closing o)) = false
+tellsFull w r (asked (removing k)) = false
+tellsFull w r (asked (changing k m)) = false
+tellsFull w r (asked (listing k)) = false
+tellsFull w r (asked (stating k)) = false
+tellsFull w r (asked (mapping n)) = false
+tellsFull w r (asked (unmapping a)) = false
+tellsFull w r (reading k o p n i) = false
+tellsFull w r (fetching k o q i) = false
+tellsFull w r (storing k o q i) = storesMore q && saysFull 4 r
+tellsFull w r (cutting k o q) = cutsMore q && saysFull 4 r
+
+-- has the pending call finished a page?
+abbrev pub finished : Pending → Bool
+finished idle = false
+finished (asked x) = false
+finished (reading k o p n i) = false
+finished (fetching k o q i) = false
+finished (storing k o q i) = ltb (first q) i
+finished (cutting k o q) = false
+
+-- then the pages before the one that met it are kept; else the call is given up
+unfoldable pub fullAction : Pending → Move
+fullAction idle = giveUp
+fullAction (asked x) = giveUp
+fullAction (reading k o p n i) = giveUp
+fullAction (fetching k o q i) = giveUp
+fullAction (storing k o q i) = pick (finished (storing k o q i)) (keepPages k o q i) giveUp
+fullAction (cutting k o q) = giveUp
+
 -- Every event: the one list of its numbers, and what it leads to.
 unfoldable pub isIdle : Pending → Bool
 isIdle idle = true
@@ -323,9 +370,17 @@ module _ (c : Config) (sk : Skeleton) where
   unfoldable pub eventAction : Event → Move
   eventAction (call s answer request) = callAction (sk .tables) (c .width) (callOr (readCall (c .width) s))
   eventAction (reply r answer request) =
-      decide halt (reasons (c .width) sk r) (replyAction (c .width) (sk .tables) r (sk .pending))
+      pick (tellsFull (c .width) r (sk .pending)) (fullAction (sk .pending))
+      (decide halt (reasons (c .width) sk r) (replyAction (c .width) (sk .tables) r (sk .pending)))
   eventAction (save buffer) = saving
   eventAction (load image digest) = loading (imageOr (parse (c .width) image)) digest
 
   unfoldable pub judge : Event → Move
   judge e = decide refuse (eventChecks e) (eventAction e)
+
+  -- a reply ends its call with a refusal: the disk is full, and no page is finished
+  unfoldable pub givesUp : Event → Bool
+  givesUp (call s answer request) = false
+  givesUp (reply r answer request) = tellsFull (c .width) r (sk .pending) && not (finished (sk .pending))
+  givesUp (save buffer) = false
+  givesUp (load image digest) = false

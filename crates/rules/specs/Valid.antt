@@ -15,11 +15,11 @@ use Rattle.lists.specs.Checks.{First}
 use Rattle.filesystem.specs.Tables.{NODES, OPEN-FILES, PAGES, PAGE-BYTES, FILE-BYTES, NAME-BYTES, PATH-BYTES, DESCRIPTORS, Node, OpenFile, Tables, isFile, isDirectory, pageTotal, nodeAt, openAt, findId, findChild, findHandle, children, setSize}
 use Rattle.filesystem.specs.Paths.{componentForm}
 use Rattle.filesystem.specs.Image.{Image, soundNodes, pathLength, parse}
-use Rattle.rules.specs.Pages.{pageAt, Change, first, last, sizeAfter, FitsSize}
+use Rattle.rules.specs.Pages.{pageAt, Change, first, last, sizeAfter, FitsSize, storesMore}
 use Rattle.rules.specs.Requests.{isFetch, asked, Pending, idle, creating, opening, closing, removing, changing, listing, stating, mapping, unmapping, reading, fetching, storing, cutting}
 use Rattle.rules.specs.MapRules.{MapChange}
 use Rattle.rules.specs.Skeleton.{Config, Event, call, reply, save, load, Skeleton}
-use Rattle.rules.specs.Rules.{Move, refuse, halt, send, finish, add, delete, remap, readPage, begin, fillPage, stored, cutDone, saving, loading, reasons}
+use Rattle.rules.specs.Rules.{Move, refuse, halt, send, finish, add, delete, remap, readPage, begin, fillPage, stored, cutDone, keepPages, giveUp, saving, loading, tellsFull, eventChecks, givesUp, reasons}
 
 -- an open file is a file of the tables; its cursor lies between 0 and the size, its descriptor in 0 to 1,023
 pub record ValidOpen (ns : List Node) (o : OpenFile) : Type 0 where
@@ -160,14 +160,15 @@ Plain (load i d) = ⊥
 
 -- What holds of the move that the rules come to.
 pub data Fits (c : Config) (sk : Skeleton) (e : Event) : Move → Type 0 where
-  fRefuse : {n : ℕ} → Fits c sk e (refuse n)
-  fHalt : {n : ℕ} {r : List ℕ} {a q : ℕ} → e ≡ reply r a q → First n (reasons (c .width) sk r) → Fits c sk e (halt n)
+  fRefuse : {n : ℕ} → First n (eventChecks c sk e) → Fits c sk e (refuse n)
+  fHalt : {n : ℕ} {r : List ℕ} {a q : ℕ} → e ≡ reply r a q → tellsFull (c .width) r (sk .pending) ≡ false → First n (reasons (c .width) sk r)
+      → Fits c sk e (halt n)
   fSend : {p : Pending} {q : List ℕ} → PendingFits (sk .tables .nodes) (sk .tables .opens) p → Starts p → Asks p q → Fits c sk e (send p q)
   fFinish : {t : Tables} {n : ℕ} {b : List ℕ} → Plain e → ValidTables (c .width) t → sizes (t .nodes) ≡ sizes (sk .tables .nodes) → Fits c sk e (finish t n b)
   fAdd : {n : Node} → Plain e → n .size ≡ 0
       → ValidTables (c .width) (record { nodes = sk .tables .nodes ++ (n ∷ []); opens = sk .tables .opens }) → Fits c sk e (add n)
   fDelete : {k : ℕ} → Plain e → ValidTables (c .width) (record { nodes = without k (sk .tables .nodes); opens = sk .tables .opens }) → Fits c sk e (delete k)
-  -- that the maps stay valid is a law of its own (MapLaws)
+  -- that the maps stay valid is a law of its own (MapMoves)
   fRemap : {x : MapChange} → Plain e → Fits c sk e (remap x)
   fReadPage : {k o p n i : ℕ} {r : List ℕ} {a q : ℕ} → e ≡ reply r a q → sk .pending ≡ reading k o p n i → length r ≡ PAGE-BYTES
       → ReadingFits (sk .tables .nodes) (sk .tables .opens) k o p n i → Fits c sk e (readPage k o p n i r)
@@ -178,6 +179,9 @@ pub data Fits (c : Config) (sk : Skeleton) (e : Event) : Move → Type 0 where
       → Fits c sk e (stored k o q i)
   fCutDone : {k o : ℕ} {q : Change} → Plain e → sk .pending ≡ cutting k o q → ChangeFits (sk .tables .nodes) (sk .tables .opens) k o q
       → Fits c sk e (cutDone k o q)
+  fKeepPages : {k o : ℕ} {q : Change} {i : ℕ} → Plain e → sk .pending ≡ storing k o q i → PageFits (sk .tables .nodes) (sk .tables .opens) k o q i
+      → storesMore q ≡ true → first q < i → Fits c sk e (keepPages k o q i)
+  fGiveUp : {r : List ℕ} {a q : ℕ} → e ≡ reply r a q → givesUp c sk e ≡ true → Fits c sk e giveUp
   fSaving : {n : ℕ} → e ≡ save n → sk .pending ≡ idle → sk .tables .opens ≡ [] → Fits c sk e saving
   fLoading : {i : Image} {image d : List ℕ} → e ≡ load image d → sk .tables .opens ≡ [] → c .digest image ≡ d → parse (c .width) image ≡ some i
       → Fits c sk e (loading i d)

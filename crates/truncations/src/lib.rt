@@ -181,13 +181,17 @@ pub fn accept_stored(m: &mut [u8], reply: &[u8], request: &mut [u8]) -> outcomes
     ask_cut(m, request)
 }
 
-// The file is cut to more bytes: its added pages are zero, the cursor stays, the truncation is done.
+// The file is cut to more bytes: its added pages are zero, the cursor stays, the truncation is done; or the disk is
+// full.
 pub fn accept_growth(m: &mut [u8], reply: &[u8]) -> outcomes::Outcome
     requires { ⌜ (numbersIn m .call ≡ GROWING) × IsMemory m ⌝ }
     ensures { λ r. ⌜ Accepts m reply r ⌝ }
 {
     let b = replies::judge_status(reply, 0);
     if b != 0 {
+        if replies::is_full(reply) {
+            return replies::give_up(m);
+        }
         return outcomes::Outcome::Stopped(b);
     }
     let g = Guard::load(m);

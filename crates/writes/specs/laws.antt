@@ -1,3 +1,4 @@
+pub mod EndLaws
 pub mod FetchLaws
 pub mod JudgedLaws
 pub mod PageLaws

@@ -1,14 +1,18 @@
 // A write by handle: begun, its pages fetched where a byte of them stays, made, stored in rising order; done when the
-// last status came.
+// last status came, or with the pages that are stored where the disk is full.
 ghost use mathlib.Core.List.{List};
 ghost use mathlib.Core.Path.{_≡_};
-ghost use Prim.Native.Nat.{ℕ, _<_, _≤_, _+_, _*_};
+ghost use Prim.Native.Nat.{ℕ, _<_, _≤_, _+_};
 ghost use lib.ListN.{length};
-ghost use Rattle.filesystem.specs.Tables.{NODES, PAGE-BYTES, DATA-BYTES};
+ghost use Rattle.filesystem.specs.Tables.{NODES, PAGE-BYTES, FILE-BYTES, DATA-BYTES};
 ghost use Rattle.rules.specs.Calls.{write};
 ghost use Rattle.rules.specs.Pages.{writing, fetches};
+ghost use Rattle.rules.specs.Requests.{storing};
+ghost use Rattle.rules.specs.Rules.{fullAction};
 ghost use Rattle.rules.specs.Skeleton.{Config};
-ghost use Rattle.machine.specs.Machine.{guard as digestStore, askStore, onPage, pagesFrom, finishChange};
+ghost use Rattle.machine.specs.Consistent.{Consistent};
+ghost use Rattle.machine.specs.Machine.{guard as digestStore, askStore, onPage, pagesFrom, trimmed};
+ghost use Rattle.machine.specs.Machine.{finishChange, apply};
 ghost use Rattle.numbers.specs.Slices.{KeepsLength};
 ghost use Rattle.memory.specs.Layout.{openRows, newDigests};
 ghost use Rattle.memory.specs.Memories.{IsMemory};
@@ -19,8 +23,7 @@ ghost use Rattle.outcomes.specs.Sent.{Sends};
 ghost use Rattle.requests.specs.Room.{HoldsRequest};
 ghost use Rattle.handle_calls.specs.Judged.{Judgement};
 ghost use Rattle.page_changes.specs.Contracts.{Goes, StartsAt};
-ghost use Rattle.page_changes.specs.Sending.{Sending};
-ghost use Rattle.writes.specs.Writing.{Writing, writeIn};
+ghost use Rattle.writes.specs.Writing.{Writing, writeIn, EndsAt};
 use guard_state::Guard;
 
 const FILE_PAGES: usize = Guard::FILE_BYTES / Guard::PAGE_BYTES;
@@ -82,28 +85,46 @@ fn store_page(m: &mut [u8], page: usize, fetched: &[u8], request: &mut [u8]) -> 
     page_changes::send_store(m, guard_state::calls::STORING, page, request)
 }
 
-// The pending write is done: the file's size, its digests and the cursor.
-fn end_write(m: &mut [u8]) -> outcomes::Outcome
-    requires { ⌜ Writing (numbersIn m .call) × IsMemory m ⌝ }
-    ensures { λ r. ⌜ ((c : Config) (i : ℕ) → Sending c (now (m .entry)) (writeIn (now (m .entry))) i
-        → numbersIn (m .entry) .position + numbersIn (m .entry) .bytes ≤ i * PAGE-BYTES → (b : List ℕ)
-        → Sends c (finishChange c (digestStore c) (stateOf c (now (m .entry))) (numbersIn (m .entry) .node)
-        (numbersIn (m .entry) .opened) (writeIn (now (m .entry)))) r (now (m .exit)) b b) ⌝ }
+// The pending write is done with its bytes before `end`: the file's size, the digests of `count` pages and the cursor.
+fn end_write(m: &mut [u8], end: usize, count: usize) -> outcomes::Outcome
+    requires { ⌜ (numbersIn m .position ≤ end) × (end ≤ FILE-BYTES + DATA-BYTES) × IsMemory m ⌝ }
+    ensures { λ r. ⌜ ((c : Config) (d : List ℕ) → EndsAt c (now (m .entry)) d end count → (b : List ℕ)
+        → Sends c (finishChange c (digestStore c) (trimmed c (digestStore c) (stateOf c (now (m .entry))) count)
+        (numbersIn (m .entry) .node) (numbersIn (m .entry) .opened) (writing (numbersIn (m .entry) .position) d)) r
+        (now (m .exit)) b b) ⌝ }
     ensures { λ _. ⌜ KeepsLength m ⌝ }
 {
     let g = Guard::load(m);
-    let end = (g.position + g.bytes) as u32;
-    let size = numbers::larger(memory::node_size(m, g.node), end);
+    let cursor = end as u32;
+    let size = numbers::larger(memory::node_size(m, g.node), cursor);
     page_changes::end_change(
         m,
         g.node,
         g.opened,
         size,
-        end,
+        cursor,
         g.position / Guard::PAGE_BYTES,
-        g.digests,
-        g.bytes as u64,
+        count,
+        (end - g.position) as u64,
     )
+}
+
+// The disk is full where a page of the pending write was to be stored: the write is done with the pages before it, and
+// without one it is refused.
+fn keep_pages(m: &mut [u8]) -> outcomes::Outcome
+    requires { ⌜ (numbersIn m .call ≡ STORING) × IsMemory m ⌝ }
+    ensures { λ r. ⌜ ((c : Config) → Consistent c (stateOf c (now (m .entry))) → (b : List ℕ)
+        → Sends c (apply c (digestStore c) (stateOf c (now (m .entry))) (fullAction
+        (storing (numbersIn (m .entry) .node) (numbersIn (m .entry) .opened) (writeIn (now (m .entry)))
+        (numbersIn (m .entry) .page)))) r (now (m .exit)) b b) ⌝ }
+    ensures { λ _. ⌜ KeepsLength m ⌝ }
+{
+    let g = Guard::load(m);
+    let first = g.position / Guard::PAGE_BYTES;
+    if g.page <= first {
+        return replies::give_up(m);
+    }
+    end_write(m, g.page * Guard::PAGE_BYTES, g.page - first)
 }
 
 // A page of the pending write: it is fetched, or goes out at once.
@@ -128,7 +149,7 @@ fn carry_on(m: &mut [u8], page: usize, request: &mut [u8]) -> outcomes::Outcome
 {
     let g = Guard::load(m);
     if g.position + g.bytes <= page * Guard::PAGE_BYTES {
-        return end_write(m);
+        return end_write(m, g.position + g.bytes, g.digests);
     }
     if memory::NEW_DIGESTS <= g.digests {
         return outcomes::Outcome::Stopped(2);
@@ -194,13 +215,16 @@ pub fn accept_fetched(m: &mut [u8], reply: &[u8], request: &mut [u8]) -> outcome
     store_page(m, g.page, reply, request)
 }
 
-// The page that the write stored is taken: 1,024 bytes of it.
+// The page that the write stored is taken: 1,024 bytes of it; or the disk is full.
 pub fn accept_stored(m: &mut [u8], reply: &[u8], request: &mut [u8]) -> outcomes::Outcome
     requires { ⌜ (numbersIn m .call ≡ STORING) × IsMemory m × HoldsRequest request ⌝ }
     ensures { λ r. ⌜ AcceptsAsking m reply request r ⌝ }
 {
     let b = replies::judge_status(reply, Guard::PAGE_BYTES as i32);
     if b != 0 {
+        if replies::is_full(reply) {
+            return keep_pages(m);
+        }
         return outcomes::Outcome::Stopped(b);
     }
     let g = Guard::load(m);

@@ -22,7 +22,8 @@ returns c =
     let b = j .before .before .before in
     let a = b .args in (
       λ d sha w held q.
-          answer-stops d w (stateOf d (a .m .now)) (a .reply .now) _ (chmod-pending d (a .m .now) (b .pre .0)) _ _ q
+          answer-stops d w (stateOf d (a .m .now)) (a .reply .now) _
+          (chmod-pending d (a .m .now) (b .pre .0)) refl _ _ q
           (j .judge-status .ensures ∙ sym (changing-reason (stateOf d (a .m .now) .skeleton .tables) (a .reply .now) _
           _)) (omega (arith, c .if1 .taken)) refl,
       refl,
@@ -51,8 +52,8 @@ returns-2 c =
     let z : g .load .result .mode ≡ n .mode = ap (λ (x : Guard). x .mode) (g .load .ensures) in (
       λ d sha w held q.
           let fits = chmod-premises d (a .m .now) held (b .pre .0) in
-          answer-finishes d w (stateOf d (a .m .now)) (a .reply .now) _ (chmod-pending d (a .m .now) (b .pre .0)) _ 0 _
-          q
+          answer-finishes d w (stateOf d (a .m .now)) (a .reply .now) _
+          (chmod-pending d (a .m .now) (b .pre .0)) refl _ 0 _ q
           (sym (g .before .before .if1 .left) ∙ j .judge-status .ensures
           ∙ sym (changing-reason (stateOf d (a .m .now) .skeleton .tables) (a .reply .now) _ _)) refl
           (f .finish .ensures .0 d

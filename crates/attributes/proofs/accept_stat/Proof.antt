@@ -42,7 +42,7 @@ returns-2 c =
     let b = g .before .before .before .before .before in
     let a = b .args in (
       λ d sha w held f.
-          stop-fills d w (stateOf d (a .m .now)) (a .reply .now) _ (stat-pending d (a .m .now) (b .pre .0)) _ _
+          stop-fills d w (stateOf d (a .m .now)) (a .reply .now) _ (stat-pending d (a .m .now) (b .pre .0)) refl _ _
           (a .answer .now)
           (j .judge-stat .ensures (g .load .result .opens) ∙ reason-loaded d (a .m .now) _ (g .load .ensures)
           (λ i. asked (stating i)) (a .reply .now))
@@ -105,7 +105,7 @@ returns-4 c =
           z .node-size .ensures ∙ ap (λ (i : ℕ). nodeAt (memOf (a .m .now) .nodes) i .size) k
           ∙ ap (λ (x : Node). x .size) (node-there (a .m .now) d (n .node)
           (stat-premises d (a .m .now) held (b .pre .0))) in
-          answer-fills d w s (a .reply .now) _ (stat-pending d (a .m .now) (b .pre .0)) (s .skeleton .tables)
+          answer-fills d w s (a .reply .now) _ (stat-pending d (a .m .now) (b .pre .0)) refl (s .skeleton .tables)
           (z .node-size .result) _ (a .reply .now) _ (a .answer .now) _
           h (ap (λ (i : ℕ). finish (s .skeleton .tables) i (a .reply .now)) (sym q)) (f .finish .ensures .0 d)
           (p .put .ensures) refl (omega (arith, e .if3 .left)),

@@ -16,6 +16,16 @@ use Rattle.tables.specs.laws.ContentLaws.{front-kept}
 use Rattle.guard_state.specs.declared.Guard.{Guard}
 use Rattle.guard_state.specs.State.{stagedBytes}
 
+-- the first k of n digests
+pub digests-fewer : (s : List ℕ) → length s ≡ stagingSize → (k n : ℕ) → k ≤ n → n ≤ newDigests
+    → take k (stagedDigests n s) ≡ stagedDigests k s
+unfolding stagedDigests part
+digests-fewer s full k n h f =
+    let b = part dataSize (n * digestWidth) s in
+    let l : length b ≡ n * digestWidth = length-part dataSize (n * digestWidth) s (omega arith) in
+    sym (rows-part digestWidth n b 0 k (omega arith) (omega arith))
+    ∙ ap (rows digestWidth k) (part-part dataSize (n * digestWidth) (0 * digestWidth) (k * digestWidth) s (omega arith))
+
 module _ (s : List ℕ) (full : length s ≡ stagingSize) (x : List ℕ) where
   -- bytes behind the first n
   pub bytes-more : (n : ℕ) → n + length x ≤ dataSize → take (n + length x) (overwrite s n x) ≡ take n s ++ x
@@ -40,9 +50,7 @@ module _ (s : List ℕ) (full : length s ≡ stagingSize) (x : List ℕ) where
       let n : length b ≡ (k + 1) * digestWidth = length-part dataSize ((k + 1) * digestWidth) s (omega arith) in
       let l : length (rows digestWidth (k + 1) b) ≡ k + 1 = length-rows digestWidth (k + 1) b in
       let front : take k (rows digestWidth (k + 1) b) ≡ rows digestWidth k (part dataSize (k * digestWidth) s) =
-      sym (rows-part digestWidth (k + 1) b 0 k (omega arith) (omega arith))
-      ∙ ap (rows digestWidth k) (part-part dataSize ((k + 1) * digestWidth) (0 * digestWidth) (k * digestWidth) s
-      (omega arith)) in
+      digests-fewer s full k (k + 1) (omega arith) (omega arith) in
       ap (rows digestWidth (k + 1)) (part-within s (dataSize + k * digestWidth) x dataSize ((k + 1) * digestWidth)
       (k * digestWidth) refl (omega arith) (omega arith))
       ∙ rows-set digestWidth (k + 1) b k x e (omega arith) (omega arith)

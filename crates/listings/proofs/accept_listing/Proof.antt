@@ -42,7 +42,7 @@ returns c =
     let a = b .args in (
       λ d sha w held f.
           let fits = listing-premises d (a .m .now) held w (b .pre .0) in
-          stop-fills d w (stateOf d (a .m .now)) (a .reply .now) _ (listing-pending d (a .m .now) (b .pre .0)) _ _
+          stop-fills d w (stateOf d (a .m .now)) (a .reply .now) _ (listing-pending d (a .m .now) (b .pre .0)) refl _ _
           (a .answer .now)
           (listing-reason d (a .m .now) _ (g .load .ensures) (fits .1) _ (i .node-id .ensures) _ (a .reply .now)
           (fits .0) (j .judge-listing .ensures))
@@ -100,7 +100,7 @@ returns-3 c =
           (i .node-id .ensures) _ (a .reply .now) (fits .0) (j .judge-listing .ensures) in
           let q = z .count-children .ensures ∙ listing-count d (a .m .now) _ (g .load .ensures) (fits .1) _
           (i .node-id .ensures) in
-          answer-fills d w s (a .reply .now) _ (listing-pending d (a .m .now) (b .pre .0)) (s .skeleton .tables)
+          answer-fills d w s (a .reply .now) _ (listing-pending d (a .m .now) (b .pre .0)) refl (s .skeleton .tables)
           (z .count-children .result) _ (a .reply .now) _ (a .answer .now) _
           h (ap (λ (k : ℕ). finish (s .skeleton .tables) k (a .reply .now)) (sym q)) (f .finish .ensures .0 d)
           (p .put .ensures) refl (omega (arith, e .if2 .left)),

@@ -28,7 +28,7 @@ returns c =
       λ d sha w h q.
           let s = stateOf d (a .m .now) in
           let p = unmap-pending d (a .m .now) (b .pre .0) in
-          answer-stops d w s (a .reply .now) _ p _ _ q
+          answer-stops d w s (a .reply .now) _ p refl _ _ q
           (c .before .judge-status .ensures ∙ sym (unmap-reason d w s (a .reply .now) _ p)) (omega arith) refl,
       refl,
     )

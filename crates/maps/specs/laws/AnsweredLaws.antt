@@ -103,7 +103,7 @@ module _ (c : Config) (wide : c .width ≡ ID-BYTES) (s : State (digestStore c))
     map-taken : taken c s r ≡ decide halt ((1, not (eqb (length r) (8 + n))) ∷ mapFaults (s .skeleton .maps) n r)
         (remap (begins (mapIn n r)))
     unfolding replyChecks mapReasons replyAction decide
-    map-taken = at-width c wide s r (asked (mapping n)) waiting
+    map-taken = at-width c wide s r (asked (mapping n)) waiting refl
 
     pub map-stops : (b : ℕ) (m q : List ℕ) → b ≡ mapReason (s .skeleton .maps) n r → 0 < b → stateOf c m ≡ s
         → Sends c (answered c s r) (Stopped b) m q q
@@ -127,7 +127,7 @@ module _ (c : Config) (wide : c .width ≡ ID-BYTES) (s : State (digestStore c))
         → stateOf c m ≡ remaps c s (without (findMap (s .skeleton .maps) a) (s .skeleton .maps))
         → Sends c (answered c s r) (Done 0 0) m q q
     unfolding answered mapReasons replyAction decide mapsAfter mapNumber
-    map-leaves m q e g = remap-sends c s _ (ends a) m q (taken-on c wide s r (asked (unmapping a)) waiting e) g
+    map-leaves m q e g = remap-sends c s _ (ends a) m q (taken-on c wide s r (asked (unmapping a)) waiting refl e) g
 
 -- the rows of maps say nothing of the files
 pub over-maps : (c : Config) (m x : List ℕ) (rows ms : List Map) → memOf x ≡ withMaps rows (memOf m)

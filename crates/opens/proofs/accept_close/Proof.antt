@@ -22,7 +22,7 @@ returns c =
     let b = j .before .before .before in
     let a = b .args in (
       λ d sha w held q. answer-stops d w (stateOf d (a .m .now)) (a .reply .now) _
-          (close-pending d (a .m .now) (b .pre .0)) _ _ q (j .judge-status .ensures
+          (close-pending d (a .m .now) (b .pre .0)) refl _ _ q (j .judge-status .ensures
           ∙ sym (closing-reason (stateOf d (a .m .now) .skeleton .tables) (a .reply .now) _))
           (omega (arith, c .if1 .taken)) refl,
       refl,
@@ -63,8 +63,8 @@ returns-3 c =
     let b = j .before .before .before in
     let a = b .args in (
       λ d sha w held q.
-          answer-finishes d w (stateOf d (a .m .now)) (a .reply .now) _ (close-pending d (a .m .now) (b .pre .0)) _ 0 _
-          q
+          answer-finishes d w (stateOf d (a .m .now)) (a .reply .now) _
+          (close-pending d (a .m .now) (b .pre .0)) refl _ 0 _ q
           (sym (g .before .before .if1 .left) ∙ j .judge-status .ensures
           ∙ sym (closing-reason (stateOf d (a .m .now) .skeleton .tables) (a .reply .now) _)) refl
           (r .rest .ensures .0 d

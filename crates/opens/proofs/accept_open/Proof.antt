@@ -38,7 +38,7 @@ returns c =
     let a = b .args in
     let n = numbersOf (memOf (a .m .now) .head) in (
       λ d sha w held q.
-          answer-stops d w (stateOf d (a .m .now)) (a .reply .now) _ (open-pending d (a .m .now) (b .pre .0)) _ _ q
+          answer-stops d w (stateOf d (a .m .now)) (a .reply .now) _ (open-pending d (a .m .now) (b .pre .0)) refl _ _ q
           (j .judge-descriptor .ensures (n .node) (n .rights) (g .load .result .nodes)
           ∙ ap (λ (x : Tables). reasonFor x (a .reply .now) (asked (opening (n .node) (n .rights))))
           (tables-loaded (a .m .now) _ (g .load .ensures) d))
@@ -124,7 +124,8 @@ returns-3 c =
             opens = s .skeleton .tables .opens
                 ++ (file ∷ []);
           } in
-          answer-finishes d e s (a .reply .now) _ (open-pending d (a .m .now) (b .pre .0)) after (i .node-id .result) _
+          answer-finishes d e s (a .reply .now) _ (open-pending d (a .m .now) (b .pre .0)) refl after
+          (i .node-id .result) _
           q h (ap (λ (v : ℕ). finish after v []) (sym p))
           (r .rest .ensures .0 d
           ∙ ap (λ (v : View). restingState d v) (v .add-open .ensures .0 (g .load .result .nodes))

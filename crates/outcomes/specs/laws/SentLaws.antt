@@ -12,7 +12,7 @@ use Rattle.rules.specs.Requests.{Pending}
 use Rattle.rules.specs.Skeleton.{Config, Answer, done, ask, answerBytes, requestBytes, atFront}
 use Rattle.rules.specs.MapRules.{MapChange, mapsAfter, mapNumber}
 use Rattle.rules.specs.Rules.{Move, refuse, halt, send, finish, remap}
-use Rattle.machine.specs.Machine.{State, Result, Gathered, asking, ending, apply, guard as digestStore}
+use Rattle.machine.specs.Machine.{State, Result, Gathered, asking, ending, gaveUp, apply, guard as digestStore}
 use Rattle.guard_state.specs.State.{stateOf, gatheredNone}
 use Rattle.guard_state.specs.Waits.{waits, ends, stops, remaps}
 use Rattle.outcomes.specs.declared.Outcome.{Outcome}
@@ -75,6 +75,13 @@ asking-sends c s y p x a m q q′ o z g u e h = record {
   count = ap lengthOf e ∙ ap (λ d. bytesIn (d .outcome .answer)) (sym z);
   request = u ∙ ap (λ d. atFront (requestBytes (d .outcome .answer)) q) (sym z);
 }
+
+-- a full disk ends the call: refused, and nothing is pending
+pub gave-up-sends : (c : Config) (s : State (digestStore c)) (m q : List ℕ)
+    → stateOf c m ≡ ends c s (s .skeleton .tables) (s .contents)
+    → Sends c (gaveUp c (digestStore c) s) (Refused 28) m q q
+unfolding answerIn lengthOf bytesIn settled requestBytes overwrite ends
+gave-up-sends c s m q g = record { state = g; answer = λ a. refl; count = refl; request = refl }
 
 -- a move that is known: a refusal changes nothing, a stop is for good, a request goes out and the call waits, a call is
 -- done

@@ -10,7 +10,7 @@ use Rattle.tables.specs.laws.ViewLaws.{view-cursor}
 use Rattle.filesystem.specs.Tables.{setCursor}
 use Rattle.rules.specs.Pages.{Change}
 use Rattle.rules.specs.Skeleton.{Config, done, requestBytes}
-use Rattle.machine.specs.Machine.{State, finishChange, zeroDigest, guard as digestStore}
+use Rattle.machine.specs.Machine.{State, trimmed, finishChange, zeroDigest, guard as digestStore}
 use Rattle.guard_state.specs.declared.Guard.{Guard}
 use Rattle.guard_state.specs.State.{numbersOf, stateIn, stateOf}
 use Rattle.guard_state.specs.Waits.{restingState}
@@ -30,7 +30,7 @@ module _ (c : Config) (m : List ℕ) (q : Change) (k o size cursor from count nu
   change-rests : restingState c
       (cursorAt o cursor (withChange (zeroDigest c) k size from (stagedDigests count (memOf m .staged))
       (viewOf (g .nodes) (g .opens) (memOf m))))
-      ≡ finishChange c (digestStore c) s k o q .state
+      ≡ finishChange c (digestStore c) (trimmed c (digestStore c) s count) k o q .state
   unfolding restingState withChange viewOf stateOf stateIn finishChange
   change-rests = λ i. finishState (h .sized i) (h .moved i) (h .begins i) (sym (h .staged) i)
     where
@@ -44,7 +44,7 @@ module _ (c : Config) (m : List ℕ) (q : Change) (k o size cursor from count nu
       (viewOf n p (memOf m))
       → memOf m₂ ≡ withOpens (setCursor (memOf m₁ .opens) o cursor) (memOf m₁)
       → stateOf c m₃ ≡ restingState c (viewOf n p (memOf m₂))
-      → Sends c (finishChange c (digestStore c) s k o q) (Done number 0) m₃ b b
+      → Sends c (finishChange c (digestStore c) (trimmed c (digestStore c) s count) k o q) (Done number 0) m₃ b b
   unfolding finishChange answerIn lengthOf bytesIn settled requestBytes overwrite
   change-sends n p m₁ m₂ m₃ b e f v w r =
       let l : o < p = rw f (h .opened) in

@@ -15,10 +15,11 @@ use Rattle.digest.specs.Sha256.{sha256}
 use Rattle.filesystem.specs.Tables.{PAGE-BYTES, ID-BYTES, Node, pagesFor, nodeAt}
 use Rattle.memory.specs.Layout.{memOf}
 use Rattle.tables.specs.View.{viewOf}
-use Rattle.rules.specs.Pages.{Change, last}
+use Rattle.rules.specs.Pages.{Change, last, storesMore, cutsMore}
 use Rattle.rules.specs.Requests.{Pending, fetching, storing, cutting}
 use Rattle.rules.specs.Skeleton.{Config}
-use Rattle.rules.specs.Rules.{halt, fillPage, replyChecks, mapReasons, reasons, replyAction}
+use Rattle.rules.specs.Rules.{halt, fillPage, replyChecks, mapReasons, reasons, replyAction, tellsFull}
+use Rattle.rules.specs.Rules.{fullAction}
 use Rattle.machine.specs.Machine.{State, Result, askStore, pagesStored, pagesFrom, finishChange, apply}
 use Rattle.machine.specs.Machine.{guard as digestStore}
 use Rattle.machine.specs.Consistent.{Consistent}
@@ -31,7 +32,7 @@ use Rattle.outcomes.specs.Sent.{Sends}
 use Rattle.outcomes.specs.laws.SentLaws.{stop-sends}
 use Rattle.outcomes.specs.Answered.{taken, answered}
 use Rattle.replies.specs.Judged.{statusReason, pageReason}
-use Rattle.replies.specs.laws.JudgedLaws.{storing-reason, cutting-reason}
+use Rattle.replies.specs.laws.JudgedLaws.{storing-reason, cutting-reason, right-not-full}
 use Rattle.replies.specs.laws.TakenLaws.{taken-passes}
 use Rattle.page_changes.specs.Asked.{Changing}
 use Rattle.page_changes.specs.Fetched.{JudgedPage}
@@ -51,9 +52,10 @@ module _ (c : Config) (same : c .digest ≡ sha256) (s : State (digestStore c)) 
   kept = getD (getD (s .contents) k []) i []
 
   move : taken c s r ≡ pick (not (eqb (length r) PAGE-BYTES)) (halt 1) (fillPage k o q i r)
-  unfolding taken reasons replyChecks mapReasons replyAction decide
-  move = ap (λ (p : Pending). decide halt (replyChecks (c .width) (s .skeleton .tables) r p
-      ++ mapReasons (s .skeleton .maps) r p) (replyAction (c .width) (s .skeleton .tables) r p)) waiting
+  unfolding taken reasons replyChecks mapReasons replyAction decide pick
+  move = ap (λ (p : Pending). pick (tellsFull (c .width) r p) (fullAction p)
+      (decide halt (replyChecks (c .width) (s .skeleton .tables) r p ++ mapReasons (s .skeleton .maps) r p)
+      (replyAction (c .width) (s .skeleton .tables) r p))) waiting
 
   as-digest : equal (c .digest r) kept ≡ equal (sha256 r) kept
   as-digest = ap (λ (f : List ℕ → List ℕ). equal (f r) kept) same
@@ -88,19 +90,21 @@ module _ (c : Config) (same : c .digest ≡ sha256) (s : State (digestStore c)) 
       go (isT x) (isT y) = ap (apply c (digestStore c) s) (move ∙ pick-false _ _ _ (ap not x))
           ∙ pick-true _ _ _ (as-digest ∙ y)
 
--- a status that is right: of a page that was stored, of a cut
+-- a status that is right: of a page that was stored, of a cut; it is not -28
 module _ (c : Config) (wide : c .width ≡ ID-BYTES) (s : State (digestStore c)) (r : List ℕ) (k o : ℕ) (q : Change) where
   pub stored-goes : (i : ℕ) → s .skeleton .pending ≡ storing k o q i → 0 ≡ statusReason r PAGE-BYTES
       → answered c s r ≡ pagesFrom c (digestStore c) s k o q (suc i)
   unfolding answered apply replyAction
   stored-goes i e h =
-      ap (apply c (digestStore c) s) (taken-passes c wide s r (storing k o q i) e (h
+      ap (apply c (digestStore c) s) (taken-passes c wide s r (storing k o q i) e
+      (right-not-full r PAGE-BYTES h (storesMore q)) (h
       ∙ sym (storing-reason (s .skeleton .tables) r k o q i)) refl)
 
   pub cut-goes : s .skeleton .pending ≡ cutting k o q → 0 ≡ statusReason r 0
       → answered c s r ≡ finishChange c (digestStore c) s k o q
   unfolding answered apply replyAction
-  cut-goes e h = ap (apply c (digestStore c) s) (taken-passes c wide s r (cutting k o q) e (h
+  cut-goes e h = ap (apply c (digestStore c) s) (taken-passes c wide s r (cutting k o q) e
+      (right-not-full r 0 h (cutsMore q)) (h
       ∙ sym (cutting-reason (s .skeleton .tables) r k o q)) refl)
 
 -- a fetched page that was judged

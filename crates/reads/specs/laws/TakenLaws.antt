@@ -24,7 +24,7 @@ use Rattle.tables.specs.laws.RowsInUse.{count-opens}
 use Rattle.rules.specs.Pages.{pageAt, pagePart}
 use Rattle.rules.specs.Requests.{Pending, reading}
 use Rattle.rules.specs.Skeleton.{Config}
-use Rattle.rules.specs.Rules.{halt, readPage, replyChecks, mapReasons, reasons, replyAction}
+use Rattle.rules.specs.Rules.{halt, readPage, replyChecks, mapReasons, reasons, replyAction, tellsFull, fullAction}
 use Rattle.rules.specs.Valid.{PendingFits, ReadingFits}
 use Rattle.rules.specs.Lengths.{Gathers, gather-more}
 use Rattle.machine.specs.Machine.{State, Result, Gathered, readOn, apply, guard as digestStore}
@@ -78,11 +78,12 @@ module _ (c : Config) (hashed : c .digest ≡ sha256) (s : State (digestStore c)
   page-answered : answered c s r
       ≡ pick (eqb (length r) PAGE-BYTES) (pick (equal (sha256 r) kept) onward (apply c (digestStore c) s (halt 5)))
       (apply c (digestStore c) s (halt 1))
-  unfolding answered taken reasons replyChecks mapReasons replyAction
+  unfolding answered taken reasons replyChecks mapReasons replyAction pick
   page-answered =
       let t = s .skeleton .tables in
-      ap (λ (x : Pending). apply c (digestStore c) s (decide halt (replyChecks (c .width) t r x
-      ++ mapReasons (s .skeleton .maps) r x) (replyAction (c .width) t r x))) waiting
+      ap (λ (x : Pending). apply c (digestStore c) s (pick (tellsFull (c .width) r x) (fullAction x)
+      (decide halt (replyChecks (c .width) t r x ++ mapReasons (s .skeleton .maps) r x)
+      (replyAction (c .width) t r x)))) waiting
       ∙ page-taken (eqb (length r) PAGE-BYTES)
       ∙ ap (λ (d : List ℕ → List ℕ).
       pick (eqb (length r) PAGE-BYTES) (pick (equal (d r) kept) onward (apply c (digestStore c) s (halt 5)))

@@ -23,7 +23,8 @@ returns c =
     let b = j .before .before .before in
     let a = b .args in (
       λ d sha w held q.
-          answer-stops d w (stateOf d (a .m .now)) (a .reply .now) _ (remove-pending d (a .m .now) (b .pre .0)) _ _ q
+          answer-stops d w (stateOf d (a .m .now)) (a .reply .now) _
+          (remove-pending d (a .m .now) (b .pre .0)) refl _ _ q
           (j .judge-status .ensures ∙ sym (removing-reason (stateOf d (a .m .now) .skeleton .tables) (a .reply .now) _))
           (omega (arith, c .if1 .taken)) refl,
       refl,
@@ -96,7 +97,8 @@ returns-4 c =
     let b = j .before .before .before in
     let a = b .args in (
       λ d sha w held q.
-          answer-deletes d w (stateOf d (a .m .now)) (a .reply .now) _ (remove-pending d (a .m .now) (b .pre .0)) _ _ q
+          answer-deletes d w (stateOf d (a .m .now)) (a .reply .now) _
+          (remove-pending d (a .m .now) (b .pre .0)) refl _ _ q
           (sym (g .before .before .if1 .left) ∙ j .judge-status .ensures
           ∙ sym (removing-reason (stateOf d (a .m .now) .skeleton .tables) (a .reply .now) _)) refl
           (r .rest .ensures .0 d

@@ -1,7 +1,7 @@
 -- A reply's stop reason, check after check.
 -- Assumes nothing.
 use mathlib.Core.Path.{_≡_, refl, ap, sym, _∙_}
-use mathlib.Core.Bool.{Bool, true, false, _||_, not}
+use mathlib.Core.Bool.{Bool, true, false, _&&_, _||_, not}
 use mathlib.Core.List.{List, [], _∷_}
 use Prim.Native.Nat.{ℕ}
 use native.Mathlib.Omega.{arith}
@@ -11,16 +11,16 @@ use lib.ListN.{length}
 use lib.Seq.{take-all}
 use borrow.Author.Tests.{eq-eqb, ne-eqb}
 use Rattle.digest.specs.Sha256.{sha256}
-use Rattle.lists.specs.Pick.{pick-true, pick-false}
+use Rattle.lists.specs.Pick.{pick, pick-true, pick-false}
 use Rattle.lists.specs.Checks.{decide, check-last, check-passes, check-stops}
-use Rattle.lists.specs.Equal.{equal}
+use Rattle.lists.specs.Equal.{equal, Is, isT, isF, is}
 use Rattle.lists.specs.LittleEndian.{decode}
 use Rattle.lists.specs.Parts.{part}
 use Rattle.lists.specs.Signed.{signed}
 use Rattle.filesystem.specs.Tables.{PAGE-BYTES, Tables}
 use Rattle.rules.specs.Pages.{Change}
 use Rattle.rules.specs.Requests.{asked, closing, removing, changing, storing, cutting}
-use Rattle.rules.specs.Rules.{signedOf, isNumber, replyChecks}
+use Rattle.rules.specs.Rules.{signedOf, isNumber, isFull, saysFull, replyChecks}
 use Rattle.replies.specs.Judged.{reasonFor, statusReason, isNegative, statusOf, pageReason}
 
 -- a reply of this length is its own part
@@ -34,6 +34,10 @@ or-left a b e = rw e
 pub or-right : (a b : Bool) → b ≡ true → (a || b) ≡ true
 or-right true b e = refl
 or-right false b e = e
+
+pub and-false : (a b : Bool) → b ≡ false → (a && b) ≡ false
+and-false true b e = e
+and-false false b e = refl
 
 -- A status.
 module _ (t : Tables) (r : List ℕ) where
@@ -100,6 +104,31 @@ module _ (r : List ℕ) where
     unfolding statusReason
     status-same (pos n) e = passed (isNumber n) ∙ check-last (λ i. i) 2 _ _ (ap not (number-yes n s e))
     status-same (negsuc n) e = passed (isNegative n) ∙ check-last (λ i. i) 2 _ _ (ap not (negative-yes n s e))
+
+  -- -28, where nothing speaks against it
+  pub full-status : saysFull 4 r ≡ eqb (statusOf r (negsuc 27)) 0
+  unfolding saysFull isFull isNegative decide pick
+  full-status = go (is (eqb (length r) 4)) (is (isNegative 27 (signedOf r)))
+    where
+      same : (z : ℤ) → isFull z ≡ isNegative 27 z
+      same (pos n) = refl
+      same (negsuc n) = refl
+
+      go : Is (eqb (length r) 4) → Is (isNegative 27 (signedOf r))
+          → (eqb (length r) 4 && isFull (signedOf r)) ≡ eqb (statusOf r (negsuc 27)) 0
+      go (isF e) _ = rw e
+      go (isT e) (isF f) = rw (e, same (signedOf r) ∙ f, f)
+      go (isT e) (isT f) = rw (e, same (signedOf r) ∙ f, f)
+
+  -- a right status does not say it
+  pub right-not-full : (n : ℕ) → 0 ≡ statusReason r n → (b : Bool) → (b && saysFull 4 r) ≡ false
+  unfolding saysFull isFull isNumber statusReason decide pick
+  right-not-full n h b = and-false b _ (go (is (eqb (length r) 4)) (signedOf r) refl)
+    where
+      go : Is (eqb (length r) 4) → (z : ℤ) → signedOf r ≡ z → (eqb (length r) 4 && isFull (signedOf r)) ≡ false
+      go (isF e) z f = rw e
+      go (isT e) (pos m) f = rw (e, f)
+      go (isT e) (negsuc m) f = absurd (let w : 0 ≡ 2 = h ∙ rw (e, f) in omega arith)
 
 -- a page's stop reason, test by test
 module _ (d x : List ℕ) where

@@ -1,6 +1,6 @@
 -- What a reply comes to, by the reason that was found: a stop, or what the rules make of it.
 -- Assumes nothing.
-use mathlib.Core.Path.{_≡_, refl, ap, sym, _∙_}
+use mathlib.Core.Path.{_≡_, refl, ap, sym, _∙_, subst}
 use mathlib.Core.Bool.{Bool, true, false, not, true≢false}
 use mathlib.Core.List.{List, [], _∷_, _++_}
 use Prim.Native.Nat.{ℕ, _+_, _*_, _<_, _≤_}
@@ -8,7 +8,7 @@ use native.Mathlib.Omega.{arith}
 use lib.Dec.{ltb, eqb}
 use borrow.Author.Tests.{ltb-true, eqb-true}
 use lib.ListN.{length, take}
-use Rattle.lists.specs.Pick.{pick}
+use Rattle.lists.specs.Pick.{pick, pick-true, pick-false}
 use Rattle.lists.specs.All.{All, both, none, Bytes}
 use Rattle.lists.specs.PartLaws.{take-overwrite}
 use Rattle.lists.specs.Search.{without}
@@ -18,14 +18,16 @@ use Rattle.rules.specs.Requests.{asked, Pending, idle, creating, opening, closi
 use Rattle.rules.specs.Requests.{reading, fetching, storing, cutting, mapping, unmapping}
 use Rattle.rules.specs.Skeleton.{Config, done, answerBytes, answerLength, atFront}
 use Rattle.rules.specs.Rules.{Move, refuse, halt, send, finish, add, delete, remap, readPage, begin, fillPage, stored}
-use Rattle.rules.specs.Rules.{cutDone, saving, loading, lengthCheck, replyChecks, replyAction, mapReasons, reasons}
+use Rattle.rules.specs.Rules.{cutDone, keepPages, giveUp, saving, loading, lengthCheck, replyChecks, replyAction}
+use Rattle.rules.specs.Rules.{mapReasons, reasons, tellsFull, fullAction}
 use Rattle.filesystem.specs.MemoryMaps.{Map}
 use Rattle.rules.specs.Valid.{ValidNodes}
 use Rattle.rules.specs.ReplyLaws.{listing-right}
 use Rattle.rules.specs.Lengths.{listing-length}
-use Rattle.machine.specs.Machine.{State, apply, guard as digestStore}
+use Rattle.machine.specs.Machine.{State, Result, gaveUp, apply, guard as digestStore}
 use Rattle.guard_state.specs.State.{stateOf}
 use Rattle.guard_state.specs.Waits.{ends}
+use Rattle.outcomes.specs.declared.Outcome.{Outcome}
 use Rattle.outcomes.specs.declared.Outcome.the-variants.{Done, Stopped}
 use Rattle.outcomes.specs.Values.{lengthOf, bytesIn, answerIn}
 use Rattle.outcomes.specs.Sent.{settled, Sends, Fills}
@@ -82,6 +84,8 @@ isRemap (begin k o q) = false
 isRemap (fillPage k o q i r) = false
 isRemap (stored k o q i) = false
 isRemap (cutDone k o q) = false
+isRemap (keepPages k o q i) = false
+isRemap giveUp = false
 isRemap saving = false
 isRemap (loading i d) = false
 
@@ -106,32 +110,53 @@ no-map-reason w t ms r (cutting k o q) h = refl
 -- the move, from the pending call and the reason that was found
 module _ (c : Config) (wide : c .width ≡ ID-BYTES) (s : State (digestStore c)) (r : List ℕ) (p : Pending)
     (waiting : s .skeleton .pending ≡ p) where
+  told : tellsFull (c .width) r (s .skeleton .pending) ≡ tellsFull ID-BYTES r p
+  told = λ i. tellsFull (wide i) r (waiting i)
+
+  -- the disk is full
+  pub taken-full : tellsFull ID-BYTES r p ≡ true → taken c s r ≡ fullAction p
+  unfolding taken
+  taken-full f = pick-true _ _ _ (told ∙ f) ∙ ap fullAction waiting
+
   -- behind the reasons that the tables give, those of a map
-  pub at-width : taken c s r ≡ decide halt (replyChecks ID-BYTES (s .skeleton .tables) r p)
+  pub at-width : tellsFull ID-BYTES r p ≡ false
+      → taken c s r ≡ decide halt (replyChecks ID-BYTES (s .skeleton .tables) r p)
       (decide halt (mapReasons (s .skeleton .maps) r p) (replyAction ID-BYTES (s .skeleton .tables) r p))
   unfolding taken reasons
-  at-width =
-      decide-append halt (replyChecks (c .width) (s .skeleton .tables) r (s .skeleton .pending)) _ _
+  at-width f =
+      pick-false _ _ _ (told ∙ f)
+      ∙ decide-append halt (replyChecks (c .width) (s .skeleton .tables) r (s .skeleton .pending)) _ _
       ∙ ap (λ (x : ℕ). decide halt (replyChecks x (s .skeleton .tables) r (s .skeleton .pending))
       (decide halt (mapReasons (s .skeleton .maps) r (s .skeleton .pending)) (replyAction x (s .skeleton .tables) r (s .skeleton .pending)))) wide
       ∙ ap (λ (x : Pending). decide halt (replyChecks ID-BYTES (s .skeleton .tables) r x)
       (decide halt (mapReasons (s .skeleton .maps) r x) (replyAction ID-BYTES (s .skeleton .tables) r x))) waiting
 
-  pub taken-stops : (b : ℕ) → b ≡ reasonFor (s .skeleton .tables) r p → 0 < b → taken c s r ≡ halt b
+  pub taken-stops : tellsFull ID-BYTES r p ≡ false → (b : ℕ) → b ≡ reasonFor (s .skeleton .tables) r p → 0 < b
+      → taken c s r ≡ halt b
   unfolding reasonFor
-  taken-stops b e h = at-width ∙ stopped-by _ (replyChecks ID-BYTES (s .skeleton .tables) r p) (positive (s .skeleton .tables) r p) b e h
+  taken-stops f b e h = at-width f ∙ stopped-by _ (replyChecks ID-BYTES (s .skeleton .tables) r p)
+      (positive (s .skeleton .tables) r p) b e h
 
-  pub taken-on : 0 ≡ reasonFor (s .skeleton .tables) r p
+  pub taken-on : tellsFull ID-BYTES r p ≡ false → 0 ≡ reasonFor (s .skeleton .tables) r p
       → taken c s r ≡ decide halt (mapReasons (s .skeleton .maps) r p) (replyAction ID-BYTES (s .skeleton .tables) r p)
   unfolding reasonFor
-  taken-on e = at-width ∙ passes _ (replyChecks ID-BYTES (s .skeleton .tables) r p) (positive (s .skeleton .tables) r p) e
+  taken-on f e = at-width f ∙ passes _ (replyChecks ID-BYTES (s .skeleton .tables) r p)
+      (positive (s .skeleton .tables) r p) e
 
-  pub taken-passes : 0 ≡ reasonFor (s .skeleton .tables) r p → isRemap (replyAction ID-BYTES (s .skeleton .tables) r p) ≡ false
+  pub taken-passes : tellsFull ID-BYTES r p ≡ false → 0 ≡ reasonFor (s .skeleton .tables) r p
+      → isRemap (replyAction ID-BYTES (s .skeleton .tables) r p) ≡ false
       → taken c s r ≡ replyAction ID-BYTES (s .skeleton .tables) r p
   unfolding decide
-  taken-passes e h =
-      taken-on e ∙ ap (λ (cs : List Check). decide halt cs (replyAction ID-BYTES (s .skeleton .tables) r p))
+  taken-passes f e h =
+      taken-on f e ∙ ap (λ (cs : List Check). decide halt cs (replyAction ID-BYTES (s .skeleton .tables) r p))
       (no-map-reason ID-BYTES (s .skeleton .tables) (s .skeleton .maps) r p h)
+
+  -- the call has finished nothing
+  pub answer-gives-up : tellsFull ID-BYTES r p ≡ true → fullAction p ≡ giveUp → (o : Outcome) (m q q′ : List ℕ)
+      → Sends c (gaveUp c (digestStore c) s) o m q q′ → Sends c (answered c s r) o m q q′
+  unfolding answered apply
+  answer-gives-up f g o m q q′ = subst (λ (x : Result (digestStore c)). Sends c x o m q q′)
+      (sym (ap (apply c (digestStore c) s) (taken-full f ∙ g)))
 
 -- a reply without a reason has its length, or at most a listing's
 passed-all : (cs : List Check) → All Positive cs → 0 ≡ decide (λ n. n) cs 0 → Passed cs
@@ -175,14 +200,14 @@ answer-most c e = ap (λ (w : ℕ). 255 * (w + 34)) e
 
 -- A reply to the pending call p: it stops the guard, or the call is done.
 module _ (c : Config) (wide : c .width ≡ ID-BYTES) (s : State (digestStore c)) (r : List ℕ) (p : Pending)
-    (waiting : s .skeleton .pending ≡ p) where
+    (waiting : s .skeleton .pending ≡ p) (full : tellsFull ID-BYTES r p ≡ false) where
   abbrev t : Tables
   t = s .skeleton .tables
 
   pub answer-stops : (b : ℕ) (x q : List ℕ) → b ≡ reasonFor t r p → 0 < b → stateOf c x ≡ s
       → Sends c (answered c s r) (Stopped b) x q q
   unfolding answered
-  answer-stops b x q e h g = stop-sends c s _ b x q (taken-stops c wide s r p waiting b e h) g
+  answer-stops b x q e h g = stop-sends c s _ b x q (taken-stops c wide s r p waiting full b e h) g
 
   pub answer-finishes : (u : Tables) (n : ℕ) (x q : List ℕ) → 0 ≡ reasonFor t r p
       → replyAction ID-BYTES t r p ≡ finish u n []
@@ -190,7 +215,7 @@ module _ (c : Config) (wide : c .width ≡ ID-BYTES) (s : State (digestStore c))
       → Sends c (answered c s r) (Done n 0) x q q
   unfolding answered
   answer-finishes u n x q e f g = finish-sends c s _ u n x q
-      (taken-passes c wide s r p waiting e (ap isRemap f) ∙ f) g
+      (taken-passes c wide s r p waiting full e (ap isRemap f) ∙ f) g
 
   pub answer-deletes : (k : ℕ) (x q : List ℕ) → 0 ≡ reasonFor t r p → replyAction ID-BYTES t r p ≡ delete k
       → stateOf c x ≡ ends c s (record { nodes = without k (t .nodes); opens = t .opens }) (without k (s .contents))
@@ -198,7 +223,7 @@ module _ (c : Config) (wide : c .width ≡ ID-BYTES) (s : State (digestStore c))
   unfolding answered apply
   answer-deletes k x q e f g = done-sends c s (taken c s r) (record { nodes = without k (t .nodes); opens = t .opens })
       (without k (s .contents)) 0 x q (ap (apply c (digestStore c) s)
-      (taken-passes c wide s r p waiting e (ap isRemap f) ∙ f)) g
+      (taken-passes c wide s r p waiting full e (ap isRemap f) ∙ f)) g
 
   pub answer-adds : (n : Node) (x q : List ℕ) → 0 ≡ reasonFor t r p → replyAction ID-BYTES t r p ≡ add n
       → stateOf c x ≡ ends c s (record { nodes = t .nodes ++ (n ∷ []); opens = t .opens }) (s .contents ++ ([] ∷ []))
@@ -208,7 +233,7 @@ module _ (c : Config) (wide : c .width ≡ ID-BYTES) (s : State (digestStore c))
       done-sends c s (taken c s r) (record { nodes = t .nodes ++ (n ∷ []); opens = t .opens }) (s .contents
       ++ ([] ∷ [])) (n .id) x q
       (ap (apply c (digestStore c) s)
-      (taken-passes c wide s r p waiting e (ap isRemap f) ∙ f)) g
+      (taken-passes c wide s r p waiting full e (ap isRemap f) ∙ f)) g
 
   -- where the answer buffer is lent: a stop leaves it, and a call that is done puts its bytes at the front
   pub stop-fills : (b : ℕ) (x a : List ℕ) → b ≡ reasonFor t r p → 0 < b → stateOf c x ≡ s
@@ -228,7 +253,7 @@ module _ (c : Config) (wide : c .width ≡ ID-BYTES) (s : State (digestStore c))
       → a′ ≡ atFront y a → l ≡ length y → length y ≤ length a → Fills c (answered c s r) (Done n l) x a a′
   unfolding answered apply answerIn lengthOf bytesIn settled answerBytes ends
   answer-fills u n l y x a a′ e f g w h m =
-      let z : taken c s r ≡ finish u n y = taken-passes c wide s r p waiting e (ap isRemap f) ∙ f in
+      let z : taken c s r ≡ finish u n y = taken-passes c wide s r p waiting full e (ap isRemap f) ∙ f in
       record {
         state = g ∙ ap (λ (d : Move). apply c (digestStore c) s d .state) (sym z);
         answer = λ q.

@@ -6,6 +6,7 @@ use Rattle.replies.specs.laws.TakenLaws.{answer-stops}
 use Rattle.guard_state.specs.State.{stateOf}
 use Rattle.guard_state.specs.laws.Ranges.{in-range}
 use Rattle.truncations.specs.laws.RepliedLaws.{cut-waits, cut-ended, cut-done}
+use Rattle.truncations.specs.Shrinking.{shrinkIn}
 use borrow.Author.Needs.{needs}
 use Rattle.truncations.proofs.accept_cut.Statement.{statement}
 use Rattle.truncations.proofs.accept_cut.Tie as tie
@@ -15,7 +16,8 @@ returns c =
     let j = c .before in
     let b = j .before .before .before in
     let a = b .args in (
-      λ d sha w h q. answer-stops d w (stateOf d (a .m .now)) (a .reply .now) _ (cut-waits d (a .m .now) (b .pre .0)) _
+      λ d sha w h q. answer-stops d w (stateOf d (a .m .now)) (a .reply .now) _ (cut-waits d (a .m .now) (b .pre .0))
+          (unfold shrinkIn in refl) _
           _ q
           (j .judge-status .ensures ∙ sym (cutting-reason (stateOf d (a .m .now) .skeleton .tables) (a .reply .now) _ _
           _)) (omega (arith, c .if1 .taken)) refl,

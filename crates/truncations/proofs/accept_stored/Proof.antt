@@ -5,6 +5,7 @@ use Rattle.replies.specs.laws.JudgedLaws.{storing-reason}
 use Rattle.replies.specs.laws.TakenLaws.{answer-stops}
 use Rattle.guard_state.specs.State.{stateOf}
 use Rattle.truncations.specs.laws.RepliedLaws.{store-waits, stored-within, stored-cuts}
+use Rattle.truncations.specs.Shrinking.{shrinkIn}
 use borrow.Author.Needs.{needs}
 use Rattle.truncations.proofs.accept_stored.Statement.{statement}
 use Rattle.truncations.proofs.accept_stored.Tie as tie
@@ -14,7 +15,8 @@ returns c =
     let j = c .before in
     let b = j .before .before .before .before in
     let a = b .args in (
-      λ d sha w h. answer-stops d w (stateOf d (a .m .now)) (a .reply .now) _ (store-waits d (a .m .now) (b .pre .0)) _
+      λ d sha w h. answer-stops d w (stateOf d (a .m .now)) (a .reply .now) _ (store-waits d (a .m .now) (b .pre .0))
+          (unfold shrinkIn in refl) _
           _ (a .request .now)
           (j .judge-status .ensures ∙ sym (storing-reason (stateOf d (a .m .now) .skeleton .tables) (a .reply .now) _ _
           _ _)) (omega (arith, c .if1 .taken)) refl,

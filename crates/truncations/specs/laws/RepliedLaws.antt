@@ -11,7 +11,7 @@ use Rattle.rules.specs.Pages.{pageAt, shrinking, first, last, sizeAfter, cursor
 use Rattle.rules.specs.Requests.{fetching, storing, cutting}
 use Rattle.rules.specs.Skeleton.{Config}
 use Rattle.rules.specs.Valid.{PendingFits, PageFits}
-use Rattle.machine.specs.Machine.{Result, pagesStored, finishChange, guard as digestStore}
+use Rattle.machine.specs.Machine.{Result, pagesStored, trimmed, finishChange, guard as digestStore}
 use Rattle.machine.specs.Consistent.{Consistent}
 use Rattle.guard_state.specs.Calls.{SHRINK-FETCHING, SHRINK-STORING, CUTTING}
 use Rattle.guard_state.specs.declared.Guard.{Guard}
@@ -24,7 +24,8 @@ use Rattle.outcomes.specs.Answered.{answered}
 use Rattle.replies.specs.Judged.{statusReason}
 use Rattle.page_changes.specs.Ended.{Ended}
 use Rattle.page_changes.specs.Sending.{Sending}
-use Rattle.page_changes.specs.laws.SendingLaws.{open-within, sending-ended, fetching-sending, storing-sending}
+use Rattle.page_changes.specs.laws.SendingLaws.{open-within, sending-ended, whole-ends, fetching-sending}
+use Rattle.page_changes.specs.laws.SendingLaws.{storing-sending}
 use Rattle.page_changes.specs.laws.SendingLaws.{cutting-sending}
 use Rattle.page_changes.specs.laws.FetchedLaws.{pages-stored, stored-goes, cut-goes}
 use Rattle.truncations.specs.Shrinking.{shrinkIn}
@@ -104,10 +105,14 @@ module _ (c : Config) (m : List ℕ) where
           (b ∙ (λ t. min (u t) (n t))) refl refl)
 
       pub cut-done : c .width ≡ ID-BYTES → (r : List ℕ) (x : Outcome) (m′ b b′ : List ℕ) → 0 ≡ statusReason r 0
-          → Sends c (finishChange c (digestStore c) (stateOf c m) (l .node) (l .opened) (shrinkIn m)) x m′ b b′
+          → Sends c (finishChange c (digestStore c) (trimmed c (digestStore c) (stateOf c m) (l .digests)) (l .node)
+          (l .opened) (shrinkIn m)) x m′ b b′
           → Sends c (answered c (stateOf c m) r) x m′ b b′
       cut-done w r x m′ b b′ z y =
           subst (λ (v : Result (digestStore c)). Sends c v x m′ b b′)
-          (ap (λ (j : Guard). finishChange c (digestStore c) (stateOf c m) (j .node) (j .opened) (shrinkIn m)) loaded
+          (ap (λ (j : Guard). finishChange c (digestStore c) (trimmed c (digestStore c) (stateOf c m) (l .digests))
+          (j .node) (j .opened) (shrinkIn m)) loaded
+          ∙ whole-ends c m (omega arith, omega arith) (g .node) (g .opened) (shrinkIn m) (l .digests)
+          (ap (λ (j : Guard). j .digests) loaded)
           ∙ sym (cut-goes c w (stateOf c m) r (g .node) (g .opened) (shrinkIn m) (cut-waits e) z))
           y

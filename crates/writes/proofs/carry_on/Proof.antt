@@ -3,7 +3,7 @@ use native.Mathlib.Omega.{arith}
 use mathlib.Core.Path.{refl, ap}
 use Rattle.guard_state.specs.declared.Guard.{Guard}
 use Rattle.guard_state.specs.laws.Ranges.{in-range}
-use Rattle.writes.specs.laws.PageLaws.{from-behind, from-page, few-sent}
+use Rattle.writes.specs.laws.PageLaws.{behind-ends, from-behind, from-page, few-sent}
 use borrow.Author.Needs.{needs}
 use Rattle.writes.proofs.carry_on.Statement.{statement}
 use Rattle.writes.proofs.carry_on.Tie as tie
@@ -11,18 +11,32 @@ use Rattle.writes.proofs.carry_on.Tie as tie
 add-if1 : tie.Need-add-if1
 add-if1 c = let r = in-range _ _ (c .before .load .ensures) in omega (arith, r .position, r .bytes)
 
+add-end-write : tie.Need-add-end-write
+add-end-write c =
+    let r = in-range _ _ (c .before .before .before .before .load .ensures) in
+    omega (arith, r .position, r .bytes)
+
+end-write-requires : tie.Need-end-write-requires
+end-write-requires c κs =
+    let l = c .before .before .before .before in
+    let r = in-range _ _ (l .load .ensures) in
+    let p = ap (λ (x : Guard). x .position) (l .load .ensures) in
+    (omega (arith, p), omega (arith, r .position, r .bytes), omega arith)
+
 returns : tie.Need-returns
 returns c =
     let v = c .before .before in
-    let i = v .before .before in
+    let i = v .before .before .before in
     let l = i .before .before in
     let b = l .before .before .before .before in
     let a = b .args in
     let p = ap (λ (x : Guard). x .position) (l .load .ensures) in
     let n = ap (λ (x : Guard). x .bytes) (l .load .ensures) in (
       λ d u h.
-          from-behind d (a .m .now) (omega arith) (a .page) h (omega (arith, i .if1 .taken, p, n)) _ _ _ _
-          (v .end-write .ensures .0 d (a .page) h (omega (arith, i .if1 .taken, p, n)) (a .request .now)),
+          from-behind d (a .m .now) (omega arith) (a .page) h (omega (arith, i .if1 .taken, p, n)) (b .pre .0) _
+          (l .load .ensures) _ _ _ _
+          (v .end-write .ensures .0 d _ (behind-ends d (a .m .now) (omega arith) (a .page) h
+          (omega (arith, i .if1 .taken, p, n)) (b .pre .0) _ (l .load .ensures)) (a .request .now)),
       omega arith,
     )
 
@@ -69,6 +83,7 @@ returns-3 c =
 pub carry-on-spec : {M : Type 1} → statement M
 carry-on-spec =
     tie.close
-    (tie.spec (λ c κs. search needs) add-if1 (λ c. search needs) (λ c κs. search needs) (λ c. search needs) returns
+    (tie.spec (λ c κs. search needs) add-if1 (λ c. search needs) add-end-write end-write-requires (λ c. search needs)
+    returns
     (λ c. search needs)
     returns-2 on-page-requires (λ c. search needs) (λ c. search needs) returns-3)

@@ -4,18 +4,18 @@
 use mathlib.Core.Path.{_≡_, refl, ap, ap₂, sym, _∙_, subst}
 use mathlib.Core.Bool.{Bool, true, false}
 use mathlib.Core.List.{List, []}
-use Prim.Native.Nat.{ℕ, _+_, _-_, _*_, _/_, _<_, _≤_, max}
+use Prim.Native.Nat.{ℕ, _+_, _*_, _<_, _≤_}
 use native.Mathlib.Omega.{arith}
 use lib.ListN.{length, take}
 use borrow.Author.Tests.{lt-ltb, le-ltb}
 use Rattle.lists.specs.Pick.{pick-true, pick-false}
 use Rattle.filesystem.specs.Tables.{PAGE-BYTES, Node, nodeAt, pagesFor}
 use Rattle.memory.specs.Layout.{memOf, memorySize, newDigests}
-use Rattle.rules.specs.Pages.{pageAt, writing, first, last, fetches, cuts, sizeAfter, cursorAfter, numberOf}
+use Rattle.rules.specs.Pages.{pageAt, writing, first, last, fetches, cuts}
 use Rattle.rules.specs.Requests.{fetchRequest}
 use Rattle.rules.specs.Skeleton.{Config}
 use Rattle.machine.specs.Machine.{State, Result, descriptorAt, asking, askStore, onPage, pagesFrom, pagesStored}
-use Rattle.machine.specs.Machine.{finishChange, guard as digestStore}
+use Rattle.machine.specs.Machine.{trimmed, finishChange, guard as digestStore}
 use Rattle.guard_state.specs.declared.Guard.{Guard}
 use Rattle.guard_state.specs.State.{numbersOf, pendingIn, pendings, stagedBytes, stateOf}
 use Rattle.guard_state.specs.Onward.{goesOn}
@@ -23,11 +23,9 @@ use Rattle.guard_state.specs.laws.LoadedLaws.{node-there}
 use Rattle.guard_state.specs.laws.Ranges.{in-range, bytes-length}
 use Rattle.outcomes.specs.declared.Outcome.{Outcome}
 use Rattle.outcomes.specs.Sent.{Sends}
-use Rattle.page_changes.specs.Ended.{Ended}
 use Rattle.page_changes.specs.Sending.{Sending}
-use Rattle.page_changes.specs.laws.SendingLaws.{sending-ended, node-within}
-use Rattle.guard_state.specs.laws.Changes.{Covered}
-use Rattle.writes.specs.Writing.{Writing, writeIn}
+use Rattle.page_changes.specs.laws.SendingLaws.{node-within, all-staged, whole-ends}
+use Rattle.writes.specs.Writing.{Writing, writeIn, EndsAt}
 
 module _ (c : Config) (m : List ℕ) (long : memorySize ≤ length m) (i : ℕ) (h : Sending c m (writeIn m) i) where
   abbrev g : Guard
@@ -43,53 +41,40 @@ module _ (c : Config) (m : List ℕ) (long : memorySize ≤ length m) (i : ℕ) 
   unfolding writeIn last
   last-page = ap (λ (n : ℕ). pagesFor (g .position + n)) (bytes-length m long)
 
-  -- Behind the last page: the numbers that the write ends with.
+  -- Behind the last page.
   module _ (behind : g .position + g .bytes ≤ i * PAGE-BYTES) where
     no-page : last (writeIn m) ≤ i
     unfolding pagesFor
     no-page = omega (arith, last-page, behind)
 
-    few : last (writeIn m) - first (writeIn m) ≤ newDigests
+    -- it ends with all its bytes and digests
+    ends : Writing (g .call) → EndsAt c m (take (g .bytes) (memOf m .staged)) (g .position + g .bytes) (g .digests)
     unfolding writeIn first pageAt pagesFor
-    few = let b = in-range g (memOf m .head) refl .bytes in omega (arith, last-page, b)
+    ends (k₁, k₂) =
+        let b = in-range g (memOf m .head) refl .bytes in
+        record {
+          fits = h .fits;
+          room = h .room;
+          at = ap (λ (n : ℕ). g .position + n) (sym (bytes-length m long));
+          pages = omega (arith, h .sent, h .to, no-page);
+          few = omega (arith, h .sent, h .to, last-page, b);
+          staged = all-staged c m (k₁, omega (arith, k₂));
+        }
 
-    -- each page that it adds is one that it stores
-    covered : (size : ℕ) → Covered (writeIn m) size
-    unfolding writeIn sizeAfter last pagesFor
-    covered size = omega arith
+    pub behind-ends : Writing (g .call) → (x : Guard) → x ≡ g
+        → EndsAt c m (take (g .bytes) (memOf m .staged)) (x .position + x .bytes) (x .digests)
+    behind-ends w x e = subst (λ (y : Guard). EndsAt c m (take (g .bytes) (memOf m .staged)) (y .position + y .bytes)
+        (y .digests)) (sym e) (ends w)
 
-    ended : (size end : ℕ) → Writing (g .call) → end ≡ g .position + g .bytes
-        → size ≡ max (nodeAt (memOf m .nodes) (g .node) .size) end
-        → Ended c m (writeIn m) (g .node) (g .opened) size end (g .position / PAGE-BYTES) (g .digests) (g .bytes)
-    unfolding writeIn first pageAt sizeAfter cursorAfter numberOf
-    ended size end (a, b) e f =
-        let n = bytes-length m long in
-        sending-ended c m (writeIn m) i h size end (g .position / PAGE-BYTES) (g .bytes) (a, omega (arith, b)) no-page
-        few (covered _)
-        (f ∙ ap₂ max size-there (e ∙ ap (λ (k : ℕ). g .position + k) (sym n))) (e
-        ∙ ap (λ (k : ℕ). g .position + k) (sym n)) refl (sym n)
-
-    pub write-ended : (x : Guard) → x ≡ g → (size end : ℕ) → Writing (g .call) → end ≡ x .position + x .bytes
-        → size ≡ max (nodeAt (memOf m .nodes) (x .node) .size) end
-        → Ended c m (writeIn m) (x .node) (x .opened) size end (x .position / PAGE-BYTES) (x .digests) (x .bytes)
-    write-ended x e size end w =
-        subst (λ (y : Guard). end ≡ y .position + y .bytes → size ≡ max (nodeAt (memOf m .nodes) (y .node) .size) end
-        → Ended c m (writeIn m) (y .node) (y .opened) size end (y .position / PAGE-BYTES) (y .digests) (y .bytes))
-        (sym e) (ended size end w)
-
-    -- the places that were loaded are the pending write's
-    pub finish-loaded : (x : Guard) → x ≡ g → (r : Outcome) (m′ q : List ℕ)
-        → Sends c (finishChange c (digestStore c) s (x .node) (x .opened) (writeIn m)) r m′ q q
-        → Sends c (finishChange c (digestStore c) s (g .node) (g .opened) (writeIn m)) r m′ q q
-    finish-loaded x e r m′ q = subst (λ (y : Guard). Sends c (finishChange c (digestStore c) s (y .node) (y .opened)
-        (writeIn m)) r m′ q q) e
-
-    pub from-behind : (r : Outcome) (m′ q q′ : List ℕ)
-        → Sends c (finishChange c (digestStore c) s (g .node) (g .opened) (writeIn m)) r m′ q q′
+    pub from-behind : Writing (g .call) → (x : Guard) → x ≡ g → (r : Outcome) (m′ q q′ : List ℕ)
+        → Sends c (finishChange c (digestStore c) (trimmed c (digestStore c) s (x .digests)) (g .node) (g .opened)
+        (writing (g .position) (take (g .bytes) (memOf m .staged)))) r m′ q q′
         → Sends c (pagesFrom c (digestStore c) s (g .node) (g .opened) (writeIn m) i) r m′ q q′
     unfolding pagesFrom pagesStored cuts writeIn
-    from-behind r m′ q q′ = subst (λ (x : Result (digestStore c)). Sends c x r m′ q q′)
-        (sym (pick-false _ _ _ (le-ltb i (last (writeIn m)) no-page) ∙ pick-false _ _ _ refl))
+    from-behind (k₁, k₂) x e r m′ q q′ = subst (λ (y : Result (digestStore c)). Sends c y r m′ q q′)
+        (whole-ends c m (k₁, omega (arith, k₂)) (g .node) (g .opened) (writeIn m) (x .digests)
+        (ap (λ (y : Guard). y .digests) e)
+        ∙ sym (pick-false _ _ _ (le-ltb i (last (writeIn m)) no-page) ∙ pick-false _ _ _ refl))
 
   -- A page that is written.
   pub page-ahead : i < last (writeIn m) → i * PAGE-BYTES < g .position + g .bytes

@@ -1,6 +1,7 @@
 -- The replies that a pending write waits for, by the numbers that were loaded: its page goes out, then the next one.
 -- Assumes nothing.
 use mathlib.Core.Path.{_≡_, ap, sym, _∙_, subst}
+use mathlib.Core.Bool.{true}
 use mathlib.Core.List.{List}
 use Prim.Native.Nat.{ℕ, suc, _+_, _<_, _≤_}
 use native.Mathlib.Omega.{arith}
@@ -11,7 +12,8 @@ use Rattle.memory.specs.Layout.{memOf, memorySize, newDigests}
 use Rattle.rules.specs.Pages.{last, sizeAfter}
 use Rattle.rules.specs.Requests.{fetching, storing}
 use Rattle.rules.specs.Skeleton.{Config}
-use Rattle.machine.specs.Machine.{Result, askStore, pagesFrom, guard as digestStore}
+use Rattle.rules.specs.Rules.{saysFull, fullAction}
+use Rattle.machine.specs.Machine.{Result, askStore, pagesFrom, apply, guard as digestStore}
 use Rattle.machine.specs.Consistent.{Consistent}
 use Rattle.guard_state.specs.Calls.{FETCHING, STORING}
 use Rattle.guard_state.specs.declared.Guard.{Guard}
@@ -21,6 +23,7 @@ use Rattle.outcomes.specs.declared.Outcome.{Outcome}
 use Rattle.outcomes.specs.Sent.{Sends}
 use Rattle.outcomes.specs.Answered.{answered}
 use Rattle.replies.specs.Judged.{statusReason}
+use Rattle.replies.specs.laws.TakenLaws.{taken-full}
 use Rattle.page_changes.specs.Sending.{Sending}
 use Rattle.page_changes.specs.laws.SendingLaws.{fetching-fits, fetching-sending, storing-sending}
 use Rattle.page_changes.specs.Fetched.{JudgedPage}
@@ -42,6 +45,17 @@ module _ (c : Config) (m : List ℕ) where
       (g .page)
   unfolding writeIn
   store-waits e = store-pending c m e
+
+  -- the disk is full
+  pub store-full : g .call ≡ STORING → c .width ≡ ID-BYTES → (r : List ℕ) → saysFull 4 r ≡ true
+      → (x : Outcome) (m′ b : List ℕ)
+      → Sends c (apply c (digestStore c) (stateOf c m) (fullAction
+      (storing (g .node) (g .opened) (writeIn m) (g .page))))
+      x m′ b b
+      → Sends c (answered c (stateOf c m) r) x m′ b b
+  unfolding answered writeIn
+  store-full e w r f x m′ b = subst (λ (v : Result (digestStore c)). Sends c v x m′ b b)
+      (sym (ap (apply c (digestStore c) (stateOf c m)) (taken-full c w (stateOf c m) r _ (store-waits e) f)))
 
   module _ (h : Consistent c (stateOf c m)) (l : Guard) (loaded : l ≡ numbersOf (memOf m .head)) where
     -- its page came
