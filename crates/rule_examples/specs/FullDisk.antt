@@ -64,6 +64,8 @@ rows =
     ∷ row "stop 1: a create answered -28 by 3 bytes" bare (sendsItself (create 7 "/a") then replies (minus 2) ⇒ isStopped 1 then end)
     ∷ row "stop 1: a create answered -28 by 5 bytes" bare (sendsItself (create 7 "/a") then replies (minus 4) ⇒ isStopped 1 then end)
     ∷ row "stop 1: a mkdir answered -28 by 8 bytes" bare (sendsItself (mkdir 7 "/a") then replies (minus 7) ⇒ isStopped 1 then end)
+    ∷ row "stop 1: a create answered -28 and a byte of 0" bare
+    (sendsItself (create 7 "/a") then replies (minus 3 ++ (0 ∷ [])) ⇒ isStopped 1 then end)
     ∷ row "a create answered -27" bare (sendsItself (create 7 "/a") then saysMinus 27 ⇒ isDone 4294967269 nothing then end)
     ∷ row "a create answered -29" bare (sendsItself (create 7 "/a") then saysMinus 29 ⇒ isDone 4294967267 nothing then end)
     ∷ row "a create answered 28" bare (sendsItself (create 7 "/a") then gives 28 ⇒ isDone 28 nothing then end)
@@ -90,9 +92,9 @@ rows =
     then saysMinus 28 ⇒ isDone 1 nothing then left (sized 2 1 7 "a" 1026) 1024
     then seek 2 1023 ⇒ isDone 1023 nothing then read 2 2 ⇒ fetches 5 0 then replies last-seven ⇒ fetches 5 1
     then givesPage nothing ⇒ isDone 2 (7 ∷ 0 ∷ []) then end)
-    ∷ row "the second store, after a fetch: a page only fetched is not done" (writer (sparse 2 1 7 "a" 1027 (5 ∷ [])) 1023)
-    (write 2 (7 ∷ 8 ∷ []) ⇒ fetches 5 0 then givesPage (5 ∷ []) ⇒ stores 5 0 1027 then says 1024 ⇒ fetches 5 1
-    then givesPage nothing ⇒ stores 5 1 1027 then saysMinus 28 ⇒ isDone 1 nothing then left (sized 2 1 7 "a" 1027) 1024 then end)
+    ∷ row "the second store, after a fetch: a page only fetched is not done" (writer (sparse 2 1 7 "a" 3072 nothing) 2047)
+    (write 2 (7 ∷ 8 ∷ []) ⇒ fetches 5 1 then givesPage nothing ⇒ stores 5 1 3072 then says 1024 ⇒ fetches 5 2 then givesPage nothing ⇒ stores 5 2 3072
+    then saysMinus 28 ⇒ isDone 1 nothing then left (sparse 2 1 7 "a" 3072 (many 2047 0 ++ (7 ∷ []))) 2048 then end)
     ∷ row "stop 1: a store answered -28 by 3 bytes" (writer empty 0) (write 2 (9 ∷ []) ⇒ stores 5 0 1 then replies (minus 2) ⇒ isStopped 1 then end)
     ∷ row "stop 1: a store answered -28 by 8 bytes" (writer empty 0) (write 2 (9 ∷ []) ⇒ stores 5 0 1 then replies (minus 7) ⇒ isStopped 1 then end)
     ∷ row "stop 2: a store answered -27" (writer empty 0) (write 2 (9 ∷ []) ⇒ stores 5 0 1 then saysMinus 27 ⇒ isStopped 2 then end)
