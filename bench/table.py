@@ -53,6 +53,18 @@ EXPLAINED = {
         "284 instructions more: 140 are the search, which the reply makes again where plain C keeps the place; the"
         " other 144 are there with one map too (265 beside 121), most of them in the reply, and were not taken apart"
     ),
+    "grow by 32 pages, disk full": (
+        "1,164 of the 1,322 instructions are the call, 111 in plain C, which keeps the number of pages where the call"
+        " sums it over the nodes; the reply takes 158, 55 in plain C, and was not taken apart"
+    ),
+    "stat, eight deep, 256 nodes": (
+        "1.63 in two runs of one build, 1.24 in one of a build before, at 1.15 of the instructions; the cause was not"
+        " found"
+    ),
+    "geometric mean": (
+        "1.16 and 1.17 in two runs of one build, 1.06 in one of a build before, at 1.12 and 1.07 of the instructions; a"
+        " growth that meets a full disk is new, and has 7.96"
+    ),
     "truncate, on an edge": (
         "the digests behind the file are moved 16 bytes at a time, where the C library's memmove has vectors"
         " of 32; and pages are summed over the nodes, where plain C keeps in each node where its digests begin"
