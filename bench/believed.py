@@ -17,11 +17,15 @@ TOP = Path(__file__).resolve().parent.parent
 LIST = TOP / "docs" / "BELIEVED.md"
 
 ROOTS = {
-    "guard/Entries": ("Called", "Replied", "Saved", "Loaded", "MadeFresh"),
+    "guard/Entries": ("Called", "ReaderCalled", "Replied", "Saved", "Loaded", "MadeFresh"),
     "guard/Promise": ("Shown",),
-    "guard_guarantee/Chains": ("Link", "Begins", "FirstHalf", "SecondHalf", "FirstHalfOfLives", "SecondHalfOfLives"),
+    "guard_guarantee/Chains": (
+        "Link", "Begins", "FirstHalf", "SecondHalf", "FirstHalfOfLives", "SecondHalfOfLives", "ReadOnlyClaim",
+    ),
     "machine/Claim": ("FirstHalf", "SecondHalf"),
     "machine/Restart": ("FirstHalfOfLives", "SecondHalfOfLives"),
+    "read_only/Claim": ("ReadOnlyClaim",),
+    "read_only/Lives": ("FirstHalfOfLives", "SecondHalfOfLives"),
 }
 
 USE = re.compile(r"use Rattle·(\w+?)(?:·specs)?\.specs\.(?:laws\.)?(declared\.)?(\w+)(?:\.\w[\w-]*)?\.\{(.*)\}")

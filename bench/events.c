@@ -153,6 +153,14 @@ static void step_stat(void)
     expect(reply(stat_reply, 10), DONE, size);
 }
 
+static void step_reader_stat(void)
+{
+    uint32_t size;
+    memcpy(&size, stat_reply + 6, 4);
+    reader_call(path_call, path_length);
+    expect(reply(stat_reply, 10), DONE, size);
+}
+
 static void step_create(void)
 {
     call("\1\7/file-new0001", 15);
@@ -265,6 +273,7 @@ static void step_load(void) { expect(load(), DONE, 0); }
 
 static void step_malformed(void) { expect(call("\1\7/a/../b", 9), REFUSED, 22); }
 static void step_absent(void) { expect(call("\x09/file-absent", 13), REFUSED, 2); }
+static void step_read_only(void) { expect(reader_call("\1\7/file-new-000001", 18), REFUSED, 30); }
 static void step_handle(void) { expect(call(handle_call, POSITION_CALL), REFUSED, 9); }
 
 /* ---- the cases */
@@ -317,6 +326,8 @@ static const struct row rows[] = {
     {"load, 44,776 bytes", largest, NULL, step_load, NO_CALL, 0, 0, {1, IMAGE, IMAGE, NODES}},
     {"refused 22, a path's form", small, NULL, step_malformed, NO_CALL, 0, 0, {0, 0, 0, 1}},
     {"refused 2, absent, 256 nodes", full, NULL, step_absent, NO_CALL, 0, 0, {0, 0, 0, NODES}},
+    {"refused 30, read-only", full, NULL, step_read_only, NO_CALL, 0, 0, {0, 0, 0, 1}},
+    {"stat, read-only, 256 nodes", full, NULL, step_reader_stat, GUARD_STAT, 1, 0, {0, 0, 24, NODES}},
     {"refused 9, no such handle", full_open, NULL, step_handle, OTHER_HANDLE, 0, 0, {0, 0, 0, 1}},
 };
 enum { ROWS = sizeof rows / sizeof *rows };

@@ -1,11 +1,11 @@
-/* Two guards behind the same five functions, the archive's and the one in plain C, and the tables that they are
+/* Two guards behind the same six functions, the archive's and the one in plain C, and the tables that they are
  * measured on. */
 #ifndef EVENTS_H
 #define EVENTS_H
 
 #include "plain/guard.h"
 
-enum { FRESH, CALL, REPLY, SAVE, LOAD, ENTRIES };
+enum { FRESH, CALL, READER_CALL, REPLY, SAVE, LOAD, ENTRIES };
 enum { ARCHIVE, PLAIN, SIDES };
 
 extern const char *const side_names[SIDES], *const entry_names[ENTRIES];
@@ -17,6 +17,7 @@ extern int side;
 
 outcome fresh(void);
 outcome call(const void *bytes, size_t n);
+outcome reader_call(const void *bytes, size_t n);
 outcome reply(const void *bytes, size_t n);
 outcome save(void);
 outcome load(void);

@@ -6,7 +6,7 @@
 #include "../include/guard_sha256.h"
 
 const char *const side_names[SIDES] = {"archive", "plain"},
-    *const entry_names[ENTRIES] = {"fresh", "call", "reply", "save", "load"};
+    *const entry_names[ENTRIES] = {"fresh", "call", "reader_call", "reply", "save", "load"};
 uint8_t answer[ANSWER], request[REQUEST], image[IMAGE], digest[DIGEST], page[PAGE];
 size_t image_length;
 int side;
@@ -57,6 +57,14 @@ outcome call(const void *b, size_t n)
 {
     ENTERED(CALL, guard_call(&archive, b, n, answer, ANSWER, request, REQUEST),
             plain_call(&plain, b, n, answer, ANSWER, request, REQUEST));
+}
+
+/* A read-only guard in the same memory. */
+outcome reader_call(const void *b, size_t n)
+{
+    ENTERED(READER_CALL,
+            guard_entry_reader_call(archive.memory, sizeof archive, b, n, answer, ANSWER, request, REQUEST),
+            plain_reader_call(&plain, b, n, answer, ANSWER, request, REQUEST));
 }
 
 outcome reply(const void *b, size_t n)

@@ -1,7 +1,7 @@
 """What the guard costs, from the counts and times of bench/run: one table, the bars, and the curves as plots.
 
-    python3 table.py FOLDER PLOTS     FOLDER has callgrind's dumps (archive.*, plain.*, plain_hash.*, least.*),
-                                      `times` and `memory`
+    python3 table.py FOLDER PLOTS     FOLDER has callgrind's dumps (archive.*, reader.*, plain.*, plain_hash.*,
+                                      least.*), `times` and `memory`
 """
 
 import math
@@ -227,7 +227,9 @@ def print_reasons(over):
 
 def main():
     folder, plots = map(Path, sys.argv[1:3])
-    archive, plain, plain_hash, least = (dumps(folder, side) for side in ("archive", "plain", "plain_hash", "least"))
+    sides = "archive", "reader", "plain", "plain_hash", "least"
+    archive, reader, plain, plain_hash, least = (dumps(folder, side) for side in sides)
+    archive |= {name: counts for name, counts in reader.items() if "read-only" in name}
     times = {name: float(ratio) for name, ratio in fields(folder / "times")}
     over = print_table(archive, plain, plain_hash, least, times)
     over += print_shuffled(archive)

@@ -36,7 +36,7 @@
 extern "C" {
 #endif
 
-#define GUARD_VERSION "1.4"
+#define GUARD_VERSION "1.5"
 
 /* How the functions of these headers are compiled: inline, in each program that includes them. Whoever cannot use inline
  * functions takes libguard_client.so, which has each of them and the archive's entries as symbols (guard_exports.c,
@@ -189,6 +189,7 @@ enum {
     GUARD_SHORT_BUFFER = 34,    /* ERANGE        the answer, request or image buffer is too short */
     GUARD_MALFORMED = 22,       /* EINVAL        the form of a call or path; a seek beyond the size; an unmap of no map */
     GUARD_TOO_LONG = 36,        /* ENAMETOOLONG  a component over 32 bytes, a path over 255 */
+    GUARD_READ_ONLY = 30,       /* EROFS         a read-only guard takes no such call */
     GUARD_NOT_DIRECTORY = 20,   /* ENOTDIR       a path leads through a file; rmdir or readdir of a file */
     GUARD_BARRED = 13,          /* EACCES        the mode lacks a bit */
     GUARD_ABSENT = 2,           /* ENOENT        there is no such node */
@@ -226,10 +227,14 @@ enum {
  *   entry is refused GUARD_SHORT_BUFFER. `digest` of a save is 32 bytes.
  * - A runtime that moves memory must hold what it lends still until the entry is back. No entry calls back, allocates,
  *   blocks or keeps a pointer.
+ * - A read-only guard has guard_entry_reader_call for its calls, and the other entries for all else; its memory is never
+ *   handed to guard_entry_call.
  * - examples/python and examples/rust are such bindings. */
 guard_outcome guard_entry_fresh(uint8_t *memory, size_t memory_length);
 guard_outcome guard_entry_call(uint8_t *memory, size_t memory_length, const uint8_t *call, size_t length, uint8_t *answer,
                                size_t answer_length, uint8_t *request, size_t request_length);
+guard_outcome guard_entry_reader_call(uint8_t *memory, size_t memory_length, const uint8_t *call, size_t length,
+                                      uint8_t *answer, size_t answer_length, uint8_t *request, size_t request_length);
 guard_outcome guard_entry_reply(uint8_t *memory, size_t memory_length, const uint8_t *reply, size_t length, uint8_t *answer,
                                 size_t answer_length, uint8_t *request, size_t request_length);
 guard_outcome guard_entry_save(uint8_t *memory, size_t memory_length, uint8_t *image, size_t image_length, uint8_t *digest);
@@ -278,6 +283,51 @@ GUARD_FUNCTION guard_outcome guard_save(guard *g, uint8_t *image, size_t image_l
 GUARD_FUNCTION guard_outcome guard_load(guard *g, const uint8_t *image, size_t length, const uint8_t *digest, size_t digest_length)
 {
     return guard_entry_load(g->memory, sizeof g->memory, image, length, digest, digest_length);
+}
+
+/* A read-only guard: for a program that shows files and can never change them, such as a screen in the tasting
+ * room. Its client loads an image that another guard has saved, with the digest of that save, and reads.
+ *
+ * - It takes an open with rights 1, close, seek, read, readdir and stat. Every other call, and an open with other
+ *   rights, is refused GUARD_READ_ONLY, before any path or handle is looked up: an absent path is refused the same.
+ *   Numbers come in this order: 5, 114, 34, 22 for the form, 36, 30, then as a guard's.
+ * - In all else it is a guard: on the calls that it takes, on replies, saves and loads it gives what a guard gives, and
+ *   keeps what a guard keeps. A wrong reply stops it.
+ * - However long it runs, and whatever the host replies, each save that is done gives the image that was loaded last,
+ *   byte for byte; where none was, a fresh guard's.
+ *
+ * It has a type of its own, so that the compiler tells the two apart. The functions take what a guard's take. */
+typedef struct guard_reader { uint8_t memory[GUARD_MEMORY_LENGTH]; } guard_reader;
+
+GUARD_FUNCTION void guard_reader_fresh(guard_reader *r)
+{
+    (void)guard_entry_fresh(r->memory, sizeof r->memory);
+}
+
+GUARD_FUNCTION guard_outcome guard_reader_call(guard_reader *r, const uint8_t *call, size_t length, uint8_t *answer,
+                                               size_t answer_length, uint8_t *request, size_t request_length)
+{
+    return guard_entry_reader_call(r->memory, sizeof r->memory, call, length, answer, answer_length, request,
+                                   request_length);
+}
+
+GUARD_FUNCTION guard_outcome guard_reader_reply(guard_reader *r, const uint8_t *reply, size_t length, uint8_t *answer,
+                                                size_t answer_length, uint8_t *request, size_t request_length)
+{
+    return guard_entry_reply(r->memory, sizeof r->memory, reply, length, answer, answer_length, request,
+                             request_length);
+}
+
+GUARD_FUNCTION guard_outcome guard_reader_save(guard_reader *r, uint8_t *image, size_t image_length,
+                                               uint8_t digest[GUARD_DIGEST_LENGTH])
+{
+    return guard_entry_save(r->memory, sizeof r->memory, image, image_length, digest);
+}
+
+GUARD_FUNCTION guard_outcome guard_reader_load(guard_reader *r, const uint8_t *image, size_t length,
+                                               const uint8_t *digest, size_t digest_length)
+{
+    return guard_entry_load(r->memory, sizeof r->memory, image, length, digest, digest_length);
 }
 
 #ifdef __cplusplus

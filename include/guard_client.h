@@ -400,6 +400,7 @@ GUARD_FUNCTION const char *guard_number_text(uint64_t number)
     case GUARD_SHORT_BUFFER: return "short: a lent buffer is too short";
     case GUARD_MALFORMED: return "malformed: the form of the call or path, a seek beyond the size, or an unmap of no map";
     case GUARD_TOO_LONG: return "long: a component over 32 bytes or a path over 255";
+    case GUARD_READ_ONLY: return "read-only: a read-only guard takes no such call";
     case GUARD_NOT_DIRECTORY: return "no folder: a file where a directory is needed";
     case GUARD_BARRED: return "barred: the mode lacks a bit";
     case GUARD_ABSENT: return "absent: there is no such file or directory";
@@ -534,12 +535,23 @@ GUARD_FUNCTION guard_outcome guard_client_keep(guard_client *c, guard_outcome o,
     return o;
 }
 
+/* A call by one of the two entries for calls. */
+typedef guard_outcome guard_call_entry(uint8_t *memory, size_t memory_length, const uint8_t *call, size_t length,
+    uint8_t *answer, size_t answer_length, uint8_t *request, size_t request_length);
+
+GUARD_FUNCTION guard_outcome guard_client_enter(guard_client *c, guard_call_entry *entry, const uint8_t *call,
+    size_t length, uint8_t *request, size_t room)
+{
+    guard_outcome o = entry(c->g->memory, sizeof c->g->memory, call, length, c->answer, sizeof c->answer,
+        c->request, guard_client_room(request, room));
+    return guard_client_keep(c, o, request);
+}
+
 /* A call. A request is copied to the front of `request`, which the host may write, with at least GUARD_REQUEST_LENGTH bytes; where that is null,
  * it stands in c->request alone. */
 GUARD_FUNCTION guard_outcome guard_client_call(guard_client *c, const uint8_t *call, size_t length, uint8_t *request, size_t room)
 {
-    guard_outcome o = guard_call(c->g, call, length, c->answer, sizeof c->answer, c->request, guard_client_room(request, room));
-    return guard_client_keep(c, o, request);
+    return guard_client_enter(c, guard_entry_call, call, length, request, room);
 }
 
 /* The host's reply, in memory that the host may write. Refused GUARD_FULL, the call is over: c->request_length is 0.
@@ -567,6 +579,41 @@ GUARD_FUNCTION guard_outcome guard_client_load(guard_client *c, const uint8_t *i
 {
     size_t n = guard_client_copy(c, image, length, GUARD_IMAGE_LENGTH);
     return guard_load(c->g, c->copy, n, digest, digest_length);
+}
+
+/* ---- the client layer of a read-only guard
+ *
+ * What is kept and given out stands where a guard_client has it: r->layer.answer, .request, .request_length, .reason.
+ * Only these functions are used on it: guard_client_call on `layer` would let calls through that change something. */
+typedef struct guard_reader_client { guard_client layer; } guard_reader_client;
+
+GUARD_FUNCTION void guard_reader_client_fresh(guard_reader_client *r, guard_reader *g)
+{
+    guard_client_fresh(&r->layer, (guard *)(void *)g); /* the same bytes, and nothing but bytes */
+}
+
+GUARD_FUNCTION guard_outcome guard_reader_client_call(guard_reader_client *r, const uint8_t *call, size_t length,
+    uint8_t *request, size_t room)
+{
+    return guard_client_enter(&r->layer, guard_entry_reader_call, call, length, request, room);
+}
+
+GUARD_FUNCTION guard_outcome guard_reader_client_reply(guard_reader_client *r, const uint8_t *reply, size_t length,
+    uint8_t *request, size_t room)
+{
+    return guard_client_reply(&r->layer, reply, length, request, room);
+}
+
+GUARD_FUNCTION guard_outcome guard_reader_client_save(guard_reader_client *r, uint8_t *image, size_t room,
+    uint8_t digest[GUARD_DIGEST_LENGTH])
+{
+    return guard_client_save(&r->layer, image, room, digest);
+}
+
+GUARD_FUNCTION guard_outcome guard_reader_client_load(guard_reader_client *r, const uint8_t *image, size_t length,
+    const uint8_t *digest, size_t digest_length)
+{
+    return guard_client_load(&r->layer, image, length, digest, digest_length);
 }
 
 #ifdef __cplusplus

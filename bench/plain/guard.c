@@ -1,5 +1,5 @@
-/* The file guard in plain C (guard.h). In the specification's order: tables, paths, calls, maps, replies, saves and
- * loads. */
+/* The file guard in plain C (guard.h). In the specification's order: tables, paths, calls, maps, the read-only guard,
+ * replies, saves and loads. */
 #include "guard.h"
 #include <stdbool.h>
 #include <string.h>
@@ -10,6 +10,7 @@ enum { CREATE = 1, MKDIR, OPEN, CLOSE, SEEK, READ, WRITE, TRUNCATE, REMOVE, RMDI
 enum { IS_FILE = 1, IS_DIRECTORY = 2, MODE_READ = 4, MODE_WRITE = 2, MODE_SEARCH = 1, RIGHT_READ = 1, RIGHT_WRITE = 2 };
 
 enum { NO_SPACE = -28 }; /* the status of a full disk */
+enum { READ_ONLY = 30 };
 
 /* What is waited for, where the call's own kind does not say it. */
 enum { IDLE, WRITE_FETCH = 20, WRITE_STORE, CUT_FETCH, CUT_STORE, CUT };
@@ -434,14 +435,20 @@ static bool is_zero(const uint8_t *p, uint32_t n)
     return true;
 }
 
-static outcome call_map(struct plain_guard *g, const uint8_t *call, size_t n, uint8_t *request)
+/* 22, or 0 where the form is right. */
+static unsigned map_fault(const uint8_t *call, size_t n)
 {
     uint32_t length = n == 5 ? get4(call + 1) : 0;
-    if (length == 0 || length > MAP_BYTES || length % UNIT)
+    return length == 0 || length > MAP_BYTES || length % UNIT ? 22 : 0;
+}
+
+static outcome call_map(struct plain_guard *g, const uint8_t *call, size_t n, uint8_t *request)
+{
+    if (map_fault(call, n))
         return refused(22);
     if (g->maps == MAPS)
         return refused(12);
-    g->pending = (struct pending){.call = MAP, .bytes = length};
+    g->pending = (struct pending){.call = MAP, .bytes = get4(call + 1)};
     memcpy(request, call, n);
     return ask(n);
 }
@@ -456,16 +463,24 @@ static outcome call_unmap(struct plain_guard *g, const uint8_t *call, size_t n, 
     return ask(n);
 }
 
-outcome plain_call(struct plain_guard *g, const uint8_t *call, size_t n, uint8_t *answer, size_t a, uint8_t *request,
-    size_t q)
+/* ---- all calls */
+
+static unsigned call_fault(const struct plain_guard *g, size_t a, size_t q)
 {
-    (void)answer;
     if (!g->running)
-        return refused(5);
+        return 5;
     if (g->pending.call != IDLE)
-        return refused(114);
-    if (a < ANSWER || q < REQUEST)
-        return refused(34);
+        return 114;
+    return a < ANSWER || q < REQUEST ? 34 : 0;
+}
+
+/* Within both entries: bench/run counts from an entry on, and neither may pass through the other. */
+static inline __attribute__((always_inline)) outcome take_call(struct plain_guard *g, const uint8_t *call, size_t n,
+    size_t a, uint8_t *request, size_t q)
+{
+    unsigned fault = call_fault(g, a, q);
+    if (fault)
+        return refused(fault);
     if (n == 0)
         return refused(22);
     switch (call[0]) {
@@ -482,6 +497,48 @@ outcome plain_call(struct plain_guard *g, const uint8_t *call, size_t n, uint8_t
     default:
         return refused(22);
     }
+}
+
+outcome plain_call(struct plain_guard *g, const uint8_t *call, size_t n, uint8_t *answer, size_t a, uint8_t *request,
+    size_t q)
+{
+    (void)answer;
+    return take_call(g, call, n, a, request, q);
+}
+
+/* ---- the read-only guard */
+
+static bool is_read_only(const uint8_t *call, size_t n)
+{
+    switch (n ? call[0] : 0) {
+    case OPEN: return n > 1 && call[1] == RIGHT_READ;
+    case STAT: case READDIR: case READ: case SEEK: case CLOSE: return true;
+    default: return false;
+    }
+}
+
+/* 22, 36, or 0 where the form of a call that is no look is right. */
+static unsigned form_fault(const uint8_t *call, size_t n)
+{
+    switch (n ? call[0] : 0) {
+    case CREATE: case MKDIR: case CHMOD: return n > 1 && call[1] <= 7 ? path_fault(call + 2, n - 2) : 22;
+    case OPEN: return n > 1 && (call[1] == 2 || call[1] == 3) ? path_fault(call + 2, n - 2) : 22;
+    case REMOVE: case RMDIR: return path_fault(call + 1, n - 1);
+    case WRITE: case TRUNCATE: return handle_form(call, n) ? 0 : 22;
+    case MAP: return map_fault(call, n);
+    case UNMAP: return n == 9 ? 0 : 22;
+    default: return 22;
+    }
+}
+
+outcome plain_reader_call(struct plain_guard *g, const uint8_t *call, size_t n, uint8_t *answer, size_t a,
+    uint8_t *request, size_t q)
+{
+    (void)answer;
+    if (is_read_only(call, n))
+        return take_call(g, call, n, a, request, q);
+    unsigned early = call_fault(g, a, q), form = form_fault(call, n);
+    return refused(early ? early : form ? form : READ_ONLY);
 }
 
 /* ---- replies */

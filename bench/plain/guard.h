@@ -56,6 +56,9 @@ struct plain_guard {
 outcome plain_fresh(struct plain_guard *g);
 outcome plain_call(struct plain_guard *g, const uint8_t *call, size_t n, uint8_t *answer, size_t a, uint8_t *request,
     size_t q);
+/* The same of a read-only guard; it has no other entry of its own. */
+outcome plain_reader_call(struct plain_guard *g, const uint8_t *call, size_t n, uint8_t *answer, size_t a,
+    uint8_t *request, size_t q);
 outcome plain_reply(struct plain_guard *g, const uint8_t *reply, size_t n, uint8_t *answer, size_t a, uint8_t *request,
     size_t q);
 outcome plain_save(struct plain_guard *g, uint8_t *image, size_t n, uint8_t digest[DIGEST]);

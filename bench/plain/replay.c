@@ -9,7 +9,10 @@
 
 enum { UNTOUCHED = 0xa5, LONGEST = 2 * 50000 };
 
+typedef outcome (*entry)(struct plain_guard *, const uint8_t *, size_t, uint8_t *, size_t, uint8_t *, size_t);
+
 static struct plain_guard plain;
+static entry call_entry; /* of the guard, or of the read-only one */
 static uint8_t answer[2 * ANSWER], request[2 * REQUEST], image[60000], digest[DIGEST], given[LONGEST];
 static size_t answer_length, request_length;
 static char text[2 * LONGEST];
@@ -64,12 +67,11 @@ static void wipe(void)
     memset(digest, UNTOUCHED, sizeof digest);
 }
 
-static int hand_in(outcome (*entry)(struct plain_guard *, const uint8_t *, size_t, uint8_t *, size_t, uint8_t *,
-    size_t), const char *field)
+static int hand_in(entry enter, const char *field)
 {
     size_t n;
     bytes_of(field, given, &n);
-    outcome o = entry(&plain, given, n, answer, answer_length, request, request_length);
+    outcome o = enter(&plain, given, n, answer, answer_length, request, request_length);
     print(o, o.kind == ASK ? request : answer);
     return is_untouched(answer, o.kind == DONE ? o.length : 0, sizeof answer) &&
         is_untouched(request, o.kind == ASK ? o.length : 0, sizeof request);
@@ -101,7 +103,7 @@ static int event(char letter, const char *field)
 {
     wipe();
     switch (letter) {
-    case 'c': return hand_in(plain_call, field);
+    case 'c': return hand_in(call_entry, field);
     case 'r': return hand_in(plain_reply, field);
     case 's': return save(field);
     default: return load(field);
@@ -115,9 +117,10 @@ int main(void)
     for (ssize_t n; (n = getline(&line, &room, stdin)) > 0;) {
         number++;
         line[n - 1] = 0;
-        if (line[0] == 'f') {
+        if (line[0] == 'f' || line[0] == 'o') {
             lists++;
             plain_fresh(&plain);
+            call_entry = line[0] == 'f' ? plain_call : plain_reader_call;
             answer_length = ANSWER, request_length = REQUEST;
         } else if (line[0] == 'b') {
             sscanf(line, "b %zu %zu", &answer_length, &request_length);

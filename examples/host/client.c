@@ -2,14 +2,27 @@
 
 #include <string.h>
 
-void client_begin(client *c, client_host *ask, void *with, FILE *trace)
+static void clear(client *c, client_host *ask, void *with, FILE *trace)
 {
     memset(c, 0, sizeof *c);
     c->ask = ask;
     c->host = with;
     c->trace = trace;
+}
+
+void client_begin(client *c, client_host *ask, void *with, FILE *trace)
+{
+    clear(c, ask, with, trace);
     guard_client_fresh(&c->layer, &c->guard);
     trace_fresh(trace);
+}
+
+void client_begin_reader(client *c, client_host *ask, void *with, FILE *trace)
+{
+    clear(c, ask, with, trace);
+    c->is_reader = 1;
+    guard_reader_client_fresh(&c->reader_layer, &c->reader);
+    trace_fresh_reader(trace);
 }
 
 size_t client_ask_host(void *h, const uint8_t *request, size_t length, uint8_t reply[HOST_REPLY_LENGTH])
@@ -17,10 +30,17 @@ size_t client_ask_host(void *h, const uint8_t *request, size_t length, uint8_t r
     return host_reply(h, request, length, reply);
 }
 
+/* Replies, saves and loads are the same for both; this alone is not. */
+static guard_outcome enter(client *c, const uint8_t *call, size_t length)
+{
+    return c->is_reader ? guard_reader_client_call(&c->reader_layer, call, length, NULL, 0)
+        : guard_client_call(&c->layer, call, length, NULL, 0);
+}
+
 guard_outcome client_call(client *c, const uint8_t *call, size_t length)
 {
     trace_event(c->trace, 'c', call, length);
-    guard_outcome o = guard_client_call(&c->layer, call, length, NULL, 0);
+    guard_outcome o = enter(c, call, length);
     while (o.kind == GUARD_ASK) {
         trace_outcome(c->trace, o, c->layer.request);
         size_t n = c->ask(c->host, c->layer.request, o.length, c->reply);

@@ -14,8 +14,12 @@
 typedef size_t client_host(void *host, const uint8_t *request, size_t length, uint8_t reply[HOST_REPLY_LENGTH]);
 
 typedef struct {
-    guard guard;
-    guard_client layer; /* has the answer of a call that is done, and copies what the host can write: here, the reply */
+    union { guard guard; guard_reader reader; }; /* a guard, or a read-only one */
+    union {
+        guard_client layer; /* has the answer of a call that is done, and copies what the host can write: the reply */
+        guard_reader_client reader_layer; /* of a read-only guard; what it has stands in `layer` too */
+    };
+    int is_reader;
     client_host *ask;
     void *host;
     FILE *trace; /* where all that goes in and comes out is written (trace.h), or null */
@@ -26,6 +30,9 @@ typedef struct {
 
 /* A client with a fresh guard; `trace` may be null. */
 void client_begin(client *c, client_host *ask, void *with, FILE *trace);
+
+/* A client with a fresh read-only guard: calls that would change something are refused GUARD_READ_ONLY. */
+void client_begin_reader(client *c, client_host *ask, void *with, FILE *trace);
 
 /* The host of host.h, as a client_host. */
 size_t client_ask_host(void *host, const uint8_t *request, size_t length, uint8_t reply[HOST_REPLY_LENGTH]);

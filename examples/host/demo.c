@@ -1,6 +1,6 @@
-/* A client, the guard and a host over a directory of this machine; the disk fills up, and the client goes on; then
- * someone tampers with the disk, and the guard stops. Ends with status 1 where anything comes back that is not what is
- * told here.
+/* A client, the guard and a host over a directory of this machine; the disk fills up, and the client goes on; a
+ * read-only guard shows the files; then someone tampers with the disk, and the guard stops. Ends with status 1 where
+ * anything comes back that is not what is told here.
  *
  *     demo [--budget BYTES]       how many bytes the disk has that fills up; with another than BUDGET, what comes is
  *                                 shown, and nothing but a stop is wrong */
@@ -278,11 +278,47 @@ static void disk_fills_up(stage *s)
         client_remove(c, "/cellar/old"), client_remove(c, "/cellar/more");
 }
 
+/* ---- a read-only guard */
+
+/* What it saves is the image that was loaded. */
+static void save_loaded(stage *s)
+{
+    static uint8_t image[GUARD_IMAGE_LENGTH];
+    uint8_t digest[GUARD_DIGEST_LENGTH], kept[GUARD_DIGEST_LENGTH];
+    guard_outcome o = guard_reader_client_save(&s->client.reader_layer, image, sizeof image, digest);
+    trace_save(s->client.trace, o, image, digest);
+    row(s, o, GUARD_DONE, o.length, "save");
+    disk_read(DIGEST, 0, kept, sizeof kept);
+    int is_same = !memcmp(digest, kept, sizeof digest) && !memcmp(image, s->saves.image, o.length);
+    printf("    the image is %s that was loaded; its digest: %s\n", is_same ? "the one" : "NOT the one",
+        digits(digest, sizeof digest));
+    s->wrong |= !is_same;
+}
+
+static void read_only(stage *s)
+{
+    client *c = &s->client;
+    start(s);
+    row(s, client_readdir(c, "/cellar"), GUARD_DONE, 2, "readdir /cellar");
+    row(s, client_stat(c, "/cellar/note"), GUARD_DONE, 49, "stat /cellar/note: its size");
+    row(s, client_open(c, "/cellar/note", 1), GUARD_DONE, 4, "open /cellar/note, read");
+    guard_outcome o = client_read(c, 4, GUARD_TRANSFER_LENGTH);
+    row(s, o, GUARD_DONE, 49, "read up to 4,096 bytes");
+    show_text(s, o.length);
+    row(s, client_write(c, 4, "x", 1), GUARD_REFUSED, GUARD_READ_ONLY, "write a byte");
+    row(s, client_open(c, "/cellar/log", 3), GUARD_REFUSED, GUARD_READ_ONLY, "open /cellar/log, read and write");
+    row(s, client_create(c, "/cellar/more", 6), GUARD_REFUSED, GUARD_READ_ONLY, "create /cellar/more, mode 6");
+    row(s, client_close(c, 4), GUARD_DONE, 0, "close");
+    save_loaded(s);
+}
+
 /* ---- tampering */
 
 static void read_log(stage *s, int kind, uint64_t number)
 {
-    row(s, client_open(&s->client, "/cellar/log", 3), GUARD_DONE, 3, "open /cellar/log, read and write");
+    int is_reader = s->client.is_reader;
+    row(s, client_open(&s->client, "/cellar/log", is_reader ? 1 : 3), GUARD_DONE, 3,
+        is_reader ? "open /cellar/log, read" : "open /cellar/log, read and write");
     row(s, client_read(&s->client, 3, GUARD_TRANSFER_LENGTH), kind, number, "read up to 4,096 bytes");
 }
 
@@ -370,21 +406,30 @@ static void untouched(stage *s)
 
 /* ---- lives: each a process of its own, so that nothing goes on but what lies in files */
 
-static const struct { const char *title; void (*act)(stage *); } lives[] = {
+typedef void begin(client *c, client_host *ask, void *with, FILE *trace);
+
+static const struct { const char *title; void (*act)(stage *); begin *begin; } lives[] = {
     {"The client makes files; the guard keeps names, sizes, modes and digests, and asks the host to keep the pages.",
-        first_life},
-    {"The client is switched off and on: a new process, a fresh guard, and the image with the digest that the client kept.", second_life},
+        first_life, client_begin},
+    {"The client is switched off and on: a new process, a fresh guard, and the image with the digest that the client"
+        " kept.",
+        second_life, client_begin},
     {"The host's disk is full: a call ends, with what there was room for or with nothing, and the guard goes on.",
-        disk_fills_up},
-    {"Someone changes byte 1,500 of the log on the disk.", byte_changed},
-    {"Someone puts an old page back, after the client has written a newer one.", old_page},
-    {"Someone takes the note out of the directory.", file_hidden},
-    {"The host gives one descriptor to two files.", same_descriptor},
-    {"Someone swaps log and note on the disk.", files_swapped},
-    {"The host lends memory within memory that it has lent already.", map_overlaps},
-    {"The host lends memory again as the client has left it, what it wrote there included.", map_is_dirty},
-    {"The host hands out the image of the save before the last.", old_image},
-    {"Nobody does anything.", untouched},
+        disk_fills_up, client_begin},
+    {"A read-only guard shows the files of the last image, which it loads with its digest. It changes nothing.",
+        read_only,
+        client_begin_reader},
+    {"Someone changes byte 1,500 of the log on the disk; it is the read-only guard that meets it.", byte_changed,
+        client_begin_reader},
+    {"Someone puts an old page back, after the client has written a newer one.", old_page, client_begin},
+    {"Someone takes the note out of the directory.", file_hidden, client_begin},
+    {"The host gives one descriptor to two files.", same_descriptor, client_begin},
+    {"Someone swaps log and note on the disk.", files_swapped, client_begin},
+    {"The host lends memory within memory that it has lent already.", map_overlaps, client_begin},
+    {"The host lends memory again as the client has left it, what it wrote there included.", map_is_dirty,
+        client_begin},
+    {"The host hands out the image of the save before the last.", old_image, client_begin},
+    {"Nobody does anything.", untouched, client_begin},
 };
 
 static int live(int number)
@@ -399,7 +444,7 @@ static int live(int number)
             exit(2);
         }
         FILE *trace = getenv("GUARD_TRACE") ? fopen(getenv("GUARD_TRACE"), "a") : NULL;
-        client_begin(&s.client, ask, &s, trace);
+        lives[number].begin(&s.client, ask, &s, trace);
         s.saves = (saves){.images = "host", .own = "client", .sync = sync_host, .start = start_host, .host = s.host,
             .trace = trace};
         lives[number].act(&s);
@@ -442,6 +487,7 @@ int main(int count, char **words)
         perror("/");
     disk_clear(place);
     puts(wrong ? "\nNot everything came back as told."
-               : "\nA full disk cost a call, each of the eight was caught; what nobody touched is served.");
+               : "\nA full disk cost a call, a read-only guard changed nothing, each of the eight was caught;"
+                 " what nobody touched is served.");
     return wrong;
 }

@@ -33,8 +33,9 @@ typedef struct {
 
 enum { SAVES_FRESH = 0, SAVES_LOADED = 1 };
 
-/* At power-up, with a guard that holds nothing yet. SAVES_LOADED: the tree of the last save. SAVES_FRESH: there was no
- * save before. -1 and errno: there was one, and it cannot be gone on from; EBADMSG: no image has its digest. */
+/* At power-up, with a guard that holds nothing yet; of a read-only one, with the `layer` of its client. SAVES_LOADED:
+ * the tree of the last save. SAVES_FRESH: there was no save before. -1 and errno: there was one, and it cannot be gone
+ * on from; EBADMSG: no image has its digest. */
 int saves_start(saves *s, guard_client *c);
 
 /* All that the guard keeps, on the disk for good once this gives 0. 1: the guard refuses it, `o` says why, and

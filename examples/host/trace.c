@@ -12,6 +12,12 @@ void trace_fresh(FILE *to)
         fputs("f\n", to);
 }
 
+void trace_fresh_reader(FILE *to)
+{
+    if (to)
+        fputs("o\n", to);
+}
+
 void trace_event(FILE *to, char letter, const uint8_t *bytes, size_t length)
 {
     if (!to)

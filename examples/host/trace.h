@@ -2,11 +2,12 @@
  * explain FILE` tells it in words.
  *
  *     f              a fresh guard
+ *     o              a fresh read-only guard
  *     c CALL         a call
  *     r REPLY        the host's reply
  *     s LENGTH       a save into a buffer of this length
  *     l IMAGE DIGEST a load
- *     = ANSWER       below each but f: ask, done, refused or stopped, its number and bytes; a save's has image and digest
+ *     = ANSWER       below each but f and o: ask, done, refused or stopped, its number and bytes; a save's has image and digest
  *
  * Bytes are in hexadecimal, pages too: a log has all that the files have. Where the stream is null nothing is
  * written. */
@@ -18,6 +19,7 @@
 #include "guard_client.h"
 
 void trace_fresh(FILE *to);
+void trace_fresh_reader(FILE *to);
 
 /* An event by its letter and bytes, before it is handed in. */
 void trace_event(FILE *to, char letter, const uint8_t *bytes, size_t length);

@@ -5,6 +5,7 @@
     handle = files.open("/a", READ | WRITE)
     files.write(handle, b"bytes")
     image, digest = files.guard.save()          # the digest stays where the host cannot write
+    shown = Files(ask, Reader())                # a read-only guard, which loads such an image
 
 A refusal is an OSError with its number, a wrong reply a Stopped; a full disk is 28, or a write of fewer bytes.
 """
@@ -35,9 +36,8 @@ def load_library():
     library = ctypes.CDLL(name)
     pointer, size = ctypes.c_char_p, ctypes.c_size_t
     for name, types in {
-        "fresh": [], "call": [pointer, size] * 3, "reply": [pointer, size] * 3, "save": [pointer, size, pointer],
-        "load": [pointer, size] * 2,
-    }.items():
+        "fresh": [], "call": [pointer, size] * 3, "reader_call": [pointer, size] * 3, "reply": [pointer, size] * 3,
+        "save": [pointer, size, pointer], "load": [pointer, size] * 2}.items():
         entry = getattr(library, f"guard_entry_{name}")
         entry.argtypes, entry.restype = [pointer, size, *types], Outcome
     for name in ("version", "number_text", "stop_text"):
@@ -49,8 +49,7 @@ def load_library():
 LIBRARY = load_library()
 
 
-def version():
-    return LIBRARY.guard_version().decode()
+def version(): return LIBRARY.guard_version().decode()
 
 
 def text(kind, number):
@@ -72,11 +71,8 @@ class Guard:
         given = self.request if o.kind == ASK else self.answer
         return o.kind, o.number, given.raw[: o.length]
 
-    def call(self, data):
-        return self.enter(LIBRARY.guard_entry_call, bytes(data))
-
-    def reply(self, data):
-        return self.enter(LIBRARY.guard_entry_reply, bytes(data))
+    def call(self, data): return self.enter(LIBRARY.guard_entry_call, bytes(data))
+    def reply(self, data): return self.enter(LIBRARY.guard_entry_reply, bytes(data))
 
     def save(self):
         """The image and its digest."""
@@ -90,6 +86,12 @@ class Guard:
         checked(o.kind, o.number)
 
 
+class Reader(Guard):
+    """A read-only guard: it takes open to read, close, seek, read, readdir and stat. All else is refused 30."""
+
+    def call(self, data): return self.enter(LIBRARY.guard_entry_reader_call, bytes(data))
+
+
 def checked(kind, number, request=b""):
     if kind == REFUSED:
         raise OSError(number, text("number", number))
@@ -98,8 +100,7 @@ def checked(kind, number, request=b""):
     return number
 
 
-def four(x):
-    return x.to_bytes(4, "little")
+def four(x): return x.to_bytes(4, "little")
 
 
 class Files:
@@ -117,9 +118,7 @@ class Files:
             kind, number, given = self.guard.reply(self.ask(request))
         return checked(kind, number, request), given
 
-    def by_path(self, kind, path, *field):
-        return self.do(bytes([kind, *field]) + os.fsencode(path))
-
+    def by_path(self, kind, path, *field): return self.do(bytes([kind, *field]) + os.fsencode(path))
     def create(self, path, mode): return self.by_path(1, path, mode)[0]
     def mkdir(self, path, mode): return self.by_path(2, path, mode)[0]
     def open(self, path, rights): return self.by_path(3, path, rights)[0]

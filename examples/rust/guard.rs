@@ -5,6 +5,7 @@
 //!     let handle = files.open("/a", READ | WRITE)?;
 //!     files.write(handle, b"bytes")?;
 //!     let (image, digest) = files.guard.save()?;                      // the digest stays where the host cannot write
+//!     files.guard = Reader::fresh();                                  // a read-only guard, which loads such an image
 
 use std::fmt;
 
@@ -18,15 +19,14 @@ const DIGEST: usize = 32;
 
 #[repr(C)]
 struct Outcome { kind: i32, number: u64, length: usize }
-
 type In = *const u8;
 type Out = *mut u8;
-
 type Entry = unsafe extern "C" fn(Out, usize, In, usize, Out, usize, Out, usize) -> Outcome;
 
 extern "C" {
     fn guard_entry_fresh(m: Out, n: usize) -> Outcome;
     fn guard_entry_call(m: Out, n: usize, call: In, c: usize, answer: Out, a: usize, ask: Out, r: usize) -> Outcome;
+    fn guard_entry_reader_call(m: Out, n: usize, call: In, c: usize, to: Out, a: usize, ask: Out, r: usize) -> Outcome;
     fn guard_entry_reply(m: Out, n: usize, reply: In, c: usize, answer: Out, a: usize, ask: Out, r: usize) -> Outcome;
     fn guard_entry_save(m: Out, n: usize, image: Out, i: usize, digest: Out) -> Outcome;
     fn guard_entry_load(m: Out, n: usize, image: In, i: usize, digest: In, d: usize) -> Outcome;
@@ -52,17 +52,21 @@ impl std::error::Error for Failure {}
 
 type Or<T> = Result<T, Failure>;
 type Given = (u64, Vec<u8>);
-
 pub enum Step { Done(u64, Vec<u8>), Ask(Vec<u8>) }
 
 /// One guard. What it is lent is borrowed for the entry alone, so nobody writes it meanwhile.
-pub struct Guard { memory: Vec<u8>, answer: Vec<u8>, request: Vec<u8> }
+pub struct Guard { memory: Vec<u8>, answer: Vec<u8>, request: Vec<u8>, calls: Entry }
+
+/// A read-only guard: it takes open to read, close, seek, read, readdir and stat. All else is refused 30.
+pub struct Reader;
+impl Reader { pub fn fresh() -> Guard { Guard::with(guard_entry_reader_call) } }
 
 impl Guard {
-    pub fn fresh() -> Guard {
-        let mut g = Guard { memory: vec![0; MEMORY], answer: vec![0; ANSWER], request: vec![0; REQUEST] };
-        unsafe { guard_entry_fresh(g.memory.as_mut_ptr(), MEMORY) };
-        g
+    pub fn fresh() -> Guard { Guard::with(guard_entry_call) }
+    fn with(calls: Entry) -> Guard {
+        let (mut memory, answer, request) = (vec![0; MEMORY], vec![0; ANSWER], vec![0; REQUEST]);
+        unsafe { guard_entry_fresh(memory.as_mut_ptr(), MEMORY) };
+        Guard { memory, answer, request, calls }
     }
 
     fn enter(&mut self, entry: Entry, bytes: &[u8]) -> Or<Step> {
@@ -76,14 +80,14 @@ impl Guard {
         }
     }
 
-    pub fn call(&mut self, call: &[u8]) -> Or<Step> { self.enter(guard_entry_call, call) }
+    pub fn call(&mut self, call: &[u8]) -> Or<Step> { self.enter(self.calls, call) }
     pub fn reply(&mut self, reply: &[u8]) -> Or<Step> { self.enter(guard_entry_reply, reply) }
 
     /// The image and its digest.
     pub fn save(&mut self) -> Or<(Vec<u8>, [u8; DIGEST])> {
         let (mut image, mut digest) = (vec![0; IMAGE], [0; DIGEST]);
-        let memory = self.memory.as_mut_ptr();
-        let o = unsafe { guard_entry_save(memory, MEMORY, image.as_mut_ptr(), IMAGE, digest.as_mut_ptr()) };
+        let m = self.memory.as_mut_ptr();
+        let o = unsafe { guard_entry_save(m, MEMORY, image.as_mut_ptr(), IMAGE, digest.as_mut_ptr()) };
         image.truncate(o.length);
         if o.kind == 0 { Ok((image, digest)) } else { Err(Failure::Refused(o.number)) }
     }
@@ -118,9 +122,7 @@ impl<A: FnMut(&[u8]) -> Vec<u8>> Files<A> {
         }
     }
 
-    fn by_path(&mut self, front: &[u8], path: &str) -> Or<Given> {
-        self.call(&[front, path.as_bytes()].concat())
-    }
+    fn by_path(&mut self, front: &[u8], path: &str) -> Or<Given> { self.call(&[front, path.as_bytes()].concat()) }
 
     fn by_handle(&mut self, kind: u8, handle: u32, rest: &[u8]) -> Or<Given> {
         self.call(&[&[kind], &handle.to_le_bytes()[..], rest].concat())
@@ -134,9 +136,7 @@ impl<A: FnMut(&[u8]) -> Vec<u8>> Files<A> {
     pub fn read(&mut self, handle: u32, n: u32) -> Or<Vec<u8>> { Ok(self.by_handle(6, handle, &n.to_le_bytes())?.1) }
     /// How many bytes: on a full disk fewer than were given.
     pub fn write(&mut self, handle: u32, bytes: &[u8]) -> Or<u64> { Ok(self.by_handle(7, handle, bytes)?.0) }
-    pub fn truncate(&mut self, handle: u32, size: u64) -> Or<()> {
-        self.by_handle(8, handle, &size.to_le_bytes()).map(|_| ())
-    }
+    pub fn truncate(&mut self, h: u32, size: u64) -> Or<()> { self.by_handle(8, h, &size.to_le_bytes()).map(|_| ()) }
     pub fn remove(&mut self, path: &str) -> Or<()> { self.by_path(&[9], path).map(|_| ()) }
     pub fn rmdir(&mut self, path: &str) -> Or<()> { self.by_path(&[10], path).map(|_| ()) }
     pub fn chmod(&mut self, path: &str, mode: u8) -> Or<()> { self.by_path(&[11, mode], path).map(|_| ()) }

@@ -12,7 +12,7 @@ from model.script import Unrandom
 
 from guard import ASK, STOPPED, Guard
 
-from . import lives, outside, replies
+from . import lives, outside, readers, replies
 from .trial import A, SETUP, Differs, come_to, words_of
 
 HEAD = """# Attacks on the file interface, and what they come to
@@ -97,6 +97,16 @@ def document():
     yield "## Over saves and loads, and several guards\n"
     yield from table(
         ["from", "the host", "comes to", "not caught, by rule: what a builder does"], [life(*row) for row in lives.ROWS]
+    )
+    yield "## A read-only guard\n"
+    yield "It has loaded the save of a guard; `/a` and `/b` are closed. Calls that it does not take are refused 30.\n"
+    yield from table(
+        ["from", "the host", "the client", "comes to"],
+        [(row.source, row.does, client_words(row.calls), come_to(row)) for row in readers.ROWS],
+    )
+    yield from table(
+        ["from", "the host", "comes to", "not caught, by rule: what a builder does"],
+        [life(*row) for row in readers.LIVES],
     )
     yield "## Out of scope\n"
     yield from table(["from", "the attack", "why", "what a builder does"], outside.ROWS)

@@ -27,9 +27,9 @@ def change(run, data=b"newer"):
     return run
 
 
-def started(run, image, digest):
+def started(run, image, digest, guard=None):
     """A fresh guard in the place of the old one: the number of the refusal, or 0."""
-    run.guard, run.host.open_files, run.host.maps, run.outcomes = Guard(), {}, {}, []
+    run.guard, run.host.open_files, run.host.maps, run.outcomes = guard or Guard(), {}, {}, []
     try:
         run.guard.load(image, digest)
     except OSError as error:

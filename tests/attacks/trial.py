@@ -31,6 +31,7 @@ class Row:
     expected: str  # "now 5", "later 5", "harmless", "not caught", "refused 61", "done 2048"
     is_repeated: bool = False
     is_free: bool = False  # the host has made a choice of its own: numbers may differ
+    run: type = None  # where it is not a guard that runs
     came: str = field(default="", init=False)
 
 
@@ -84,10 +85,11 @@ class Run:
 
 def come_to(row):
     """The row's result, in words; an honest host in the same place must do no harm."""
-    right = Run().calls(row.calls)
+    of = row.run or Run
+    right = of().calls(row.calls)
     if any(kind == STOPPED for _, kind, _, _ in right.outcomes):
         raise Differs(f"{row.does}: an honest host is stopped")
-    run = Run(row.deviation, row.is_repeated).calls(row.calls)
+    run = of(row.deviation, row.is_repeated).calls(row.calls)
     if run.host.first is None and not row.expected.startswith("refused"):
         raise Differs(f"{row.does}: the host does no such thing")
     came, row.came = judged(row, run, right)

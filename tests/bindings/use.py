@@ -4,7 +4,7 @@ import sys
 import tempfile
 
 from conform.host import Host
-from guard import READ, WRITE, Files, Stopped, text, version
+from guard import READ, WRITE, Files, Reader, Stopped, text, version
 
 
 FULL = (-28).to_bytes(4, "little", signed=True)
@@ -111,12 +111,37 @@ def full_life(files, lying):
     show("close", lambda: files.close(2))
 
 
+def looked_at(files, lying, image, digest):
+    """A read-only guard over the files of the full disk; the host is honest up to the last read."""
+    lying.is_full = False
+    show("load", lambda: files.guard.load(image, digest))
+    show("open", lambda: files.open("/e", READ | WRITE))
+    show("create", lambda: files.create("/f", 7))
+    show("open", lambda: files.open("/e", 4))
+    show("map", lambda: files.map(4096))
+    show("unmap", lambda: files.unmap(4096))
+    show("open", lambda: files.open("/e", READ))
+    show("write", lambda: files.write(2, b"x"))
+    show("seek", lambda: files.seek(2, 1000))
+    show("read", lambda: files.read(2, 4096), sums)
+    show("close", lambda: files.close(2))
+    show("stat", lambda: files.stat("/e"), lambda s: [f"{s[0].to_bytes(4, 'little').hex()}{s[1]:02x}", s[2], s[3]])
+    show("listing", lambda: files.readdir("/"), listing)
+    show("remove", lambda: files.remove("/none"))
+    print("save", "same" if files.guard.save() == (image, digest) else "another")
+    show("open", lambda: files.open("/e", READ))
+    lying.lies = True
+    show("read", lambda: files.read(2, 5))
+
+
 def main():
     lying = Lying()
     image, digest = first_life(Files(lying))
     second_life(Files(lying), lying, image, digest)
     third_life(Files(lying))
-    full_life(Files(lying), lying)
+    files = Files(lying)
+    full_life(files, lying)
+    looked_at(Files(lying, Reader()), lying, *files.guard.save())
     if (version(), text("stop", 5).split(":")[0]) != (sys.argv[1], "page"):
         print("another version, or other words")
 

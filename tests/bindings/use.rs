@@ -2,7 +2,7 @@
 //! docs/INTEGRATION.md's wire form.
 mod guard;
 
-use guard::{Failure, Files, Guard, READ, WRITE};
+use guard::{Failure, Files, Guard, Reader, READ, WRITE};
 use std::cell::Cell;
 use std::io::{Read, Write};
 use std::process::{Command, Stdio};
@@ -83,6 +83,29 @@ fn full_life<A: FnMut(&[u8]) -> Vec<u8>>(f: &mut Files<A>, full: &Cell<bool>) {
     show("close", f.close(2), nothing);
 }
 
+/// A read-only guard over the files of the full disk; the host is honest up to the last read.
+fn looked_at<A: FnMut(&[u8]) -> Vec<u8>>(f: &mut Files<A>, lies: &Cell<bool>, image: &[u8], digest: &[u8]) {
+    show("load", f.guard.load(image, digest), nothing);
+    show("open", f.open("/e", READ | WRITE), number);
+    show("create", f.create("/f", 7), number);
+    show("open", f.open("/e", 4), number);
+    show("map", f.map(4096), number);
+    show("unmap", f.unmap(4096), nothing);
+    show("open", f.open("/e", READ), number);
+    show("write", f.write(2, b"x"), number);
+    show("seek", f.seek(2, 1000), number);
+    show("read", f.read(2, 4096), sums);
+    show("close", f.close(2), nothing);
+    show("stat", f.stat("/e"), stat);
+    show("listing", f.readdir("/"), listing);
+    show("remove", f.remove("/none"), nothing);
+    let saved = f.guard.save().unwrap();
+    println!("save {}", if saved.0 == image && saved.1 == digest { "same" } else { "another" });
+    show("open", f.open("/e", READ), number);
+    lies.set(true);
+    show("read", f.read(2, 5), sums);
+}
+
 fn main() {
     let words: Vec<String> = std::env::args().collect();
     let mut command = Command::new(&words[1]);
@@ -117,6 +140,10 @@ fn main() {
     files.guard = Guard::fresh();
     lies.set(false);
     full_life(&mut files, &full);
+    full.set(false);
+    let (image, digest) = files.guard.save().unwrap();
+    files.guard = Reader::fresh();
+    looked_at(&mut files, &lies, &image, &digest);
     drop(files);
     drop(frame);
     drop(to);

@@ -7,6 +7,8 @@
 
 guard_outcome __real_guard_entry_fresh(uint8_t *, size_t);
 guard_outcome __real_guard_entry_call(uint8_t *, size_t, const uint8_t *, size_t, uint8_t *, size_t, uint8_t *, size_t);
+guard_outcome __real_guard_entry_reader_call(uint8_t *, size_t, const uint8_t *, size_t, uint8_t *, size_t, uint8_t *,
+    size_t);
 guard_outcome __real_guard_entry_reply(uint8_t *, size_t, const uint8_t *, size_t, uint8_t *, size_t, uint8_t *,
     size_t);
 guard_outcome __real_guard_entry_save(uint8_t *, size_t, uint8_t *, size_t, uint8_t *);
@@ -134,6 +136,51 @@ guard_outcome __wrap_guard_entry_call(uint8_t *memory, size_t n, const uint8_t *
     to_buffers(o, answer, a, request, q);
     to_longer(answer, a, request, q);
     return shown(o, memory, n);
+}
+
+static const guard_outcome read_only = {GUARD_REFUSED, GUARD_READ_ONLY, 0};
+
+static int is_refused(guard_outcome o, uint64_t number) { return o.kind == GUARD_REFUSED && o.number == number; }
+
+/* What is wrong with the outcome of a read-only guard, or with its memory, which a guard beside it shows. */
+static guard_outcome of_reader(guard_outcome o, uint8_t *memory, size_t n)
+{
+    if (is_refused(o, GUARD_READ_ONLY) && change_is("a reader says 13"))
+        o.number = GUARD_BARRED;
+    if (is_refused(o, GUARD_MALFORMED) && change_is("a reader says 30 before 22"))
+        return read_only;
+    if (is_refused(o, GUARD_PENDING) && change_is("a reader says 30 before 114"))
+        return read_only;
+    if (is_refused(o, GUARD_SHORT_BUFFER) && change_is("a reader says 30 before 34"))
+        return read_only;
+    if (is_refused(o, GUARD_TOO_LONG) && change_is("a reader says 30 before 36"))
+        return read_only;
+    if (o.kind == GUARD_DONE && change_is("a reader refuses what it has done"))
+        return read_only;
+    if (n != GUARD_MEMORY_LENGTH)
+        return o;
+    if (is_refused(o, GUARD_READ_ONLY))
+        change("a reader writes its memory and refuses", memory + n / 2);
+    if (o.kind <= GUARD_ASK)
+        change("a reader writes its memory and takes the call", memory + n - 1);
+    return o;
+}
+
+guard_outcome __wrap_guard_entry_reader_call(uint8_t *memory, size_t n, const uint8_t *call, size_t l, uint8_t *answer,
+    size_t a, uint8_t *request, size_t q)
+{
+    if (change_is("a reader that is the guard"))
+        return __real_guard_entry_call(memory, n, call, l, answer, a, request, q);
+    guard_outcome o = __real_guard_entry_reader_call(memory, n, call, l, answer, a, request, q);
+    if (o.kind == GUARD_ASK)
+        change("a reader's request", request);
+    if (is_refused(o, GUARD_READ_ONLY)) {
+        change("a reader writes the answer and refuses", answer);
+        change("a reader writes the request and refuses", request + q - 1);
+    }
+    if (l)
+        look("a reader reads behind the call", call + l);
+    return of_reader(o, memory, n);
 }
 
 guard_outcome __wrap_guard_entry_reply(uint8_t *memory, size_t n, const uint8_t *reply, size_t l, uint8_t *answer,

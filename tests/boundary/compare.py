@@ -25,7 +25,7 @@ ENDS = "low", "high"
 # the numbers that each event may be refused with, in their order, and the stop reasons (SPECIFICATION 7, 5.10)
 EVENTS = Call, Reply, Save, Load
 NUMBERS = {
-    Call: [5, 114, 34, 22, 36, 20, 13, 2, 17, 21, 16, 39, 24, 9, 27, 28, 12],
+    Call: [5, 114, 34, 22, 36, 30, 20, 13, 2, 17, 21, 16, 39, 24, 9, 27, 28, 12],
     Reply: [5, 61, 34, 28],
     Save: [5, 114, 16, 34],
     Load: [5, 114, 16, 74, 84],
@@ -44,20 +44,24 @@ def difference(driver, lines):
     return None
 
 
-def pair_difference(driver, turns, name="shortened"):
-    return difference(driver, lists.lines_of(name, turns))
+def pair_difference(driver, turns, letters, name="shortened"):
+    return difference(driver, lists.lines_of(name, turns, letters))
 
 
 def seeds_differ(driver, seeds):
     """Of some pairs of lists: what they have, and the first pair that differs with what the driver says."""
     pairs = {seed: lists.pair(seed) for seed in seeds}
-    lines = [line for seed, turns in pairs.items() for line in lists.lines_of(f"seeds {seed} and {seed + 1}", turns)]
+    lines = [line for seed, turns in pairs.items() for line in pair_lines(seed, turns)]
     had = Counter(what(event, outcome) for turns in pairs.values() for _, event, outcome in turns)
     whole = difference(driver, lines)
     if not whole:
         return had, None
-    alone = (seed for seed, turns in pairs.items() if pair_difference(driver, turns))
+    alone = (seed for seed, turns in pairs.items() if pair_difference(driver, turns, lists.letters(seed)))
     return had, (next(alone, None), whole)
+
+
+def pair_lines(seed, turns):
+    return lists.lines_of(f"seeds {seed} and {seed + 1}", turns, lists.letters(seed))
 
 
 def what(event, outcome):
@@ -75,10 +79,11 @@ def lengths_differ(driver, number):
 def report(driver, seed):
     """The shortest pair of lists that still differs."""
     events = [(number, event) for number, event, _ in lists.pair(seed)]
-    still = lambda shorter: pair_difference(driver, lists.answered(shorter)) is not None
-    turns = lists.answered(shortened(still, events))
-    print(*lists.lines_of("shortened", turns), sep="\n")
-    print(pair_difference(driver, turns))
+    letters = lists.letters(seed)
+    still = lambda shorter: pair_difference(driver, lists.answered(shorter, letters), letters) is not None
+    turns = lists.answered(shortened(still, events), letters)
+    print(*lists.lines_of("shortened", turns, letters), sep="\n")
+    print(pair_difference(driver, turns, letters))
     print(f"repeat, in tests: python3 -m boundary.compare --first {seed} --count 2 {driver}")
 
 

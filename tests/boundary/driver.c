@@ -11,6 +11,8 @@
  *   cannot be written.
  * - Before each event the guard moves to another address, and what it leaves is overwritten.
  * - At the end of each list every entry is tried on the guard's memory cut short.
+ * - A list of a read-only guard has a guard beside it, which gets all that was not refused 30: it must come to the same
+ *   outcome and bytes, and leave the same memory.
  *
  * Ends with status 1 at the first difference. */
 #define _GNU_SOURCE
@@ -32,10 +34,14 @@ struct run {
     uint8_t kept[GUARD_MEMORY_LENGTH];
     char name[NAME];
     size_t answer, request; /* the lengths of the buffers for calls and replies */
+    int is_read_only;
+    struct place beside; /* the guard beside a read-only one */
 };
 
 static struct run runs[2], *run = runs;
 static struct place answer, request, image, digest, input, seal;
+static uint8_t answer_beside[2 * GUARD_ANSWER_LENGTH], request_beside[2 * GUARD_REQUEST_LENGTH], image_beside[1 << 16],
+    digest_beside[GUARD_DIGEST_LENGTH];
 static int is_high;
 static unsigned long line_number, events, lists;
 static char *line, last_event[120];
@@ -203,8 +209,8 @@ static guard_outcome enter(char letter)
 {
     struct place *m = &run->memory[0];
     switch (letter) {
-    case 'c': return guard_entry_call(m->at, m->length, input.at, input.length, answer.at, answer.length, request.at,
-        request.length);
+    case 'c': return (run->is_read_only ? guard_entry_reader_call : guard_entry_call)(m->at, m->length, input.at,
+        input.length, answer.at, answer.length, request.at, request.length);
     case 'r': return guard_entry_reply(m->at, m->length, input.at, input.length, answer.at, answer.length, request.at,
         request.length);
     case 's': return guard_entry_save(m->at, m->length, image.at, image.length, digest.at);
@@ -213,12 +219,50 @@ static guard_outcome enter(char letter)
     }
 }
 
+static guard_outcome enter_beside(char letter)
+{
+    struct place *m = &run->beside;
+    switch (letter) {
+    case 'c': return guard_entry_call(m->at, m->length, input.at, input.length, answer_beside, answer.length,
+        request_beside, request.length);
+    case 'r': return guard_entry_reply(m->at, m->length, input.at, input.length, answer_beside, answer.length,
+        request_beside, request.length);
+    case 's': return guard_entry_save(m->at, m->length, image_beside, image.length, digest_beside);
+    default: return guard_entry_load(m->at, m->length, input.at, input.length, seal.at, seal.length);
+    }
+}
+
+static void same_bytes(const struct place *p, const uint8_t *beside, size_t n)
+{
+    if (n && memcmp(p->at, beside, n))
+        differ("%s is not the one of the guard beside", p->name);
+}
+
+/* What a read-only guard came to, the guard beside it comes to; what it refused 30 the other never sees. */
+static void compare_beside(char letter, guard_outcome o, struct given n)
+{
+    if (letter != 'c' || o.kind != GUARD_REFUSED || o.number != GUARD_READ_ONLY) {
+        guard_outcome other = enter_beside(letter);
+        if (o.kind != other.kind || o.number != other.number || o.length != other.length)
+            differ("the guard beside comes to kind %d, number %llu, %zu bytes", other.kind,
+                (unsigned long long)other.number, other.length);
+    }
+    same_bytes(&answer, answer_beside, n.answer);
+    same_bytes(&request, request_beside, n.request);
+    same_bytes(&image, image_beside, n.image);
+    same_bytes(&digest, digest_beside, n.digest);
+    if (memcmp(run->memory[0].at, run->beside.at, GUARD_MEMORY_LENGTH))
+        differ("the memory is not the one of the guard beside");
+}
+
 /* What an event comes to, in `text`. */
 static void hand_in(char letter)
 {
     guard_outcome o = enter(letter);
     struct given n = given_by(letter, o);
     check_places(n);
+    if (run->is_read_only && letter != 'f' && run->memory[0].length == GUARD_MEMORY_LENGTH)
+        compare_beside(letter, o, n);
     write_outcome(o, n);
     restore_places(n);
     events++;
@@ -280,15 +324,24 @@ static void end_list(void)
 }
 
 /* A fresh guard, of bytes that were something else. */
-static void begin_list(const char *name)
+static void begin_list(const char *name, int is_read_only)
 {
     end_list();
     snprintf(run->name, NAME, "%s", name);
+    run->is_read_only = is_read_only;
     run->answer = GUARD_ANSWER_LENGTH;
     run->request = GUARD_REQUEST_LENGTH;
     move_guard(GUARD_MEMORY_LENGTH);
     hand_in('f');
     compare("done 0");
+    memcpy(run->beside.at, run->memory[0].at, GUARD_MEMORY_LENGTH);
+}
+
+/* Back to what was kept, and with it the guard beside, which was the same. */
+static void go_back(void)
+{
+    memcpy(run->memory[0].at, run->kept, GUARD_MEMORY_LENGTH);
+    memcpy(run->beside.at, run->kept, GUARD_MEMORY_LENGTH);
 }
 
 /* ---- the whole */
@@ -296,14 +349,14 @@ static void begin_list(const char *name)
 static void do_line(void)
 {
     switch (line[0]) {
-    case 'f': begin_list(line + 2); break;
+    case 'f': case 'o': begin_list(line + 2, line[0] == 'o'); break;
     case 'g': run = &runs[line[2] == '1']; break;
     case 'b':
         if (sscanf(line + 2, "%zu %zu", &run->answer, &run->request) != 2)
             malformed();
         break;
     case 'k': memcpy(run->kept, run->memory[0].at, GUARD_MEMORY_LENGTH); break;
-    case 'a': memcpy(run->memory[0].at, run->kept, GUARD_MEMORY_LENGTH); break;
+    case 'a': go_back(); break;
     case 'c': case 'r': case 's': case 'l': event(line[0]); break;
     case '=': compare(line + 2); break;
     default: malformed();
@@ -326,8 +379,11 @@ static void set_up(void)
         runs[i / 2].memory[i % 2] = place_for("a place of the guard", GUARD_MEMORY_LENGTH);
         place_lend(&runs[i / 2].memory[i % 2], GUARD_MEMORY_LENGTH);
     }
-    for (int i = 0; i < 2; i++)
+    for (int i = 0; i < 2; i++) {
         bytes[i] = malloc(INPUT);
+        runs[i].beside = place_for("the place of the guard beside", GUARD_MEMORY_LENGTH);
+        place_lend(&runs[i].beside, GUARD_MEMORY_LENGTH);
+    }
     text = malloc(4 * GUARD_IMAGE_LENGTH);
 }
 

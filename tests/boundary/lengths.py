@@ -7,7 +7,7 @@ goes back to it (`a`) wherever the guard did not refuse, or refused a reply for 
 
 from functools import partial
 
-from model import calls
+from model import calls, readonly
 from model.dishonest import QUESTIONS, asked
 from model.events import Call, Load, Refused, Reply
 from model.rules import ADDRESS, ANSWER, CREATE, MAP, MAX_COUNT, MAX_MAP, NO_SPACE, PAGE, REPLY, UNIT, UNMAP, WRITE, put
@@ -99,13 +99,21 @@ def unasked_events():
     return reply_events(bytes(4))
 
 
-def question_events(question):
-    return reply_events(asked(question).truth)
+def question_events(question, begin=asked):
+    return reply_events(begin(question).truth)
 
 
 def largest_map(s):
     """Whose right reply is the longest there is."""
     s.expect("ask", calls.map_(MAX_MAP))
+
+
+# a read-only guard
+
+def read_only_open(s):
+    """Handle 3, two pages, the cursor within the first."""
+    s.take(readonly.small())
+    s.do(calls.seek(s.open(b"/a/x"), 7))
 
 
 # images
@@ -128,24 +136,33 @@ STATES = [
 ]
 
 
+READ_ONLY_STATES = [
+    (fresh, call_events), (read_only_open, call_events), (pending, few_call_events), (stopped, few_call_events),
+    (fresh, load_events),
+]
+
+
 def lists():
-    """Each list's name, state and what makes its events."""
+    """Each list's name, state, what makes its events, and what brings a guard to the state."""
     asking = [(question, partial(question_events, question)) for question in (*QUESTIONS, largest_map)]
-    return [(f"lengths {i}: {state.__name__}", state, events) for i, (state, events) in enumerate(STATES + asking)]
+    looking = [(question, partial(question_events, question, readonly.asked)) for question in readonly.QUESTIONS]
+    states = [(*each, asked) for each in STATES + asking]
+    states += [(*each, readonly.asked) for each in READ_ONLY_STATES + looking]
+    return [(f"lengths {i}: {each[0].__name__}", *each) for i, each in enumerate(states)]
 
 
-def lines_of(name, state, events):
+def lines_of(name, state, events, begin):
     """The driver's lines for each of the events in this state."""
-    s = asked(state)
+    s = begin(state)
     yield "g 0"
-    yield from write_list(name, s.steps)
+    yield from write_list(name, s.steps, letter=s.letter)
     yield "k"
     for event in events():
         outcome = s.guard.step(event)
         yield packed_line(event)
         yield f"= {outcome}"
         if not isinstance(outcome, Refused) or outcome in ENDED:
-            s = asked(state)
+            s = begin(state)
             yield "a"
 
 

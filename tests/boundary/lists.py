@@ -7,15 +7,14 @@ from random import Random
 
 from model import calls
 from model.events import Call, Reply, Save
-from model.generate import generate, generate_filling, generate_growing, generate_mapping
+from model.generate import generate, generate_filling, generate_growing, generate_mapping, generate_read_only
 from model.image import LONGEST
 from model.longer import longer
 from model.rules import ANSWER, REQUEST
 from model.transcripts import event_line
-from model.tree import guard
+from model.tree import GUARDS
 
-
-MAKERS = {0: generate_growing, 1: generate_filling, 3: generate_mapping}
+MAKERS = {0: generate_growing, 1: generate_filling, 3: generate_mapping, 5: generate_read_only}
 
 
 def pair(seed):
@@ -28,11 +27,20 @@ def pair(seed):
     return turns
 
 
+def letters(seed):
+    """Which guards the two lists begin with."""
+    return ["o" if maker_of(each) is generate_read_only else "f" for each in (seed, seed + 1)]
+
+
+def maker_of(seed):
+    return MAKERS.get(seed % 6, generate)
+
+
 def generated(seed):
-    """A list from a seed, with its outcomes, one of five of growing files, one of maps, one of a full disk; now and
-    then buffers are longer.
+    """A list from a seed, with its outcomes, one of six of growing files, one of maps, one of a full disk, one of a
+    read-only guard; now and then buffers are longer.
     """
-    recording = MAKERS.get(seed % 5, generate)(seed)
+    recording = maker_of(seed)(seed)
     if not recording.guard.stopped:
         settle(recording)
     random = Random(seed)
@@ -56,16 +64,16 @@ def lent(event):
     return event.answer_len, event.request_len
 
 
-def answered(events):
+def answered(events, letters):
     """Turns of these pairs of a guard's number and an event: the outcomes are the model's, from fresh guards."""
-    guards = guard(), guard()
+    guards = [GUARDS[letter]() for letter in letters]
     return [(number, event, guards[number].step(event)) for number, event in events]
 
 
-def lines_of(name, turns):
+def lines_of(name, turns, letters):
     """The driver's lines."""
     buffers = [(ANSWER, REQUEST)] * 2
-    yield from ("g 1", f"f {name}", "g 0", f"f {name}")
+    yield from ("g 1", f"{letters[1]} {name}", "g 0", f"{letters[0]} {name}")
     for number, event, outcome in turns:
         yield f"g {number}"
         if isinstance(event, (Call, Reply)) and buffers[number] != lent(event):

@@ -24,8 +24,8 @@
 #include <sys/time.h>
 #include <unistd.h>
 
-enum { CALL = 'c', REPLY = 'r', SAVE = 's', LOAD = 'l', FRESH = 'f' };
-enum { EVENTS = 200, FOLLOWING = 12, WRITES = 8, BLOCK = 4096, LONGEST = 1 << 17 };
+enum { CALL = 'c', LOOK = 'o', REPLY = 'r', SAVE = 's', LOAD = 'l', FRESH = 'f' };
+enum { EVENTS = 250, FOLLOWING = 12, WRITES = 8, BLOCK = 4096, LONGEST = 1 << 17 };
 
 /* What is handed in, what came back, and the guard then. */
 struct event {
@@ -42,6 +42,7 @@ static struct event session[EVENTS];
 static size_t count;
 static struct place memory, answer, request, image, digest, input, seal;
 static const char *part = "session";
+static char call_letter = CALL; /* of the guard, or of the read-only one: the memory is the same */
 static unsigned long events, outcomes[4], after_stop;
 
 static void differ(const char *format, ...)
@@ -80,6 +81,8 @@ static guard_outcome enter(char letter)
     switch (letter) {
     case CALL: return guard_entry_call(m->at, m->length, input.at, input.length, answer.at, answer.length, request.at,
         request.length);
+    case LOOK: return guard_entry_reader_call(m->at, m->length, input.at, input.length, answer.at, answer.length,
+        request.at, request.length);
     case REPLY: return guard_entry_reply(m->at, m->length, input.at, input.length, answer.at, answer.length, request.at,
         request.length);
     case SAVE: return guard_entry_save(m->at, m->length, image.at, image.length, digest.at);
@@ -91,7 +94,7 @@ static guard_outcome enter(char letter)
 /* Where an outcome's bytes stand, if it may have some. */
 static const struct place *bytes_of(char letter, int kind)
 {
-    if (letter == CALL || letter == REPLY)
+    if (letter == CALL || letter == LOOK || letter == REPLY)
         return kind == GUARD_DONE ? &answer : kind == GUARD_ASK ? &request : NULL;
     return letter == SAVE && kind == GUARD_DONE ? &image : NULL;
 }
@@ -175,7 +178,7 @@ static void expect(const struct event *e, int kind)
 static uint64_t call(const uint8_t *bytes, size_t length)
 {
     uint8_t reply[GUARD_REPLY_LENGTH];
-    const struct event *e = record(CALL, bytes, length, NULL);
+    const struct event *e = record(call_letter, bytes, length, NULL);
     while (e->outcome.kind == GUARD_ASK) {
         const struct event *asked = e;
         e = record(REPLY, reply, host_reply(asked->given, asked->outcome.length, reply), NULL);
@@ -205,7 +208,7 @@ static uint64_t at_path(int kind, int number, const char *path)
 static void refused_path(int kind, int number, const char *path)
 {
     uint8_t bytes[2 + GUARD_PATH_LENGTH];
-    expect(record(CALL, bytes, path_call(bytes, kind, number, path), NULL), GUARD_REFUSED);
+    expect(record(call_letter, bytes, path_call(bytes, kind, number, path), NULL), GUARD_REFUSED);
 }
 
 /* Calls by handle: with a number of so many bytes, or with `number` bytes of data. */
@@ -264,6 +267,25 @@ static void full_growth(uint64_t handle, uint8_t pages)
     full(bytes, sizeof bytes);
 }
 
+/* A read-only guard: each kind of call that it takes, and a few that it does not. */
+static void look(uint64_t a)
+{
+    call_letter = LOOK;
+    at_path(GUARD_STAT, -1, "/d/a");
+    at_path(GUARD_READDIR, -1, "/d");
+    refused_path(GUARD_OPEN, 2, "/d/a");
+    refused_path(GUARD_CREATE, 7, "/new");
+    refused_path(GUARD_REMOVE, -1, "/b");
+    refused_path(GUARD_CHMOD, 8, "/b");
+    refused_path(GUARD_STAT, -1, "/absent");
+    at_path(GUARD_OPEN, 1, "/d/a");
+    at_handle(GUARD_SEEK, a, 1000, 8);
+    at_handle(GUARD_READ, a, 30, 4);
+    at_handle(GUARD_CLOSE, a, 0, 0);
+    expect(record(SAVE, NULL, 0, NULL), GUARD_DONE);
+    call_letter = CALL;
+}
+
 static void run_session(void)
 {
     host_begin();
@@ -301,6 +323,7 @@ static void run_session(void)
     at_path(GUARD_RMDIR, -1, "/d/e");
     expect(record(LOAD, saved->given, saved->outcome.length, saved->digest), GUARD_DONE);
     host_loaded();
+    look(a);
     at_path(GUARD_OPEN, 1, "/d/a");
     at_handle(GUARD_READ, a, 1030, 4);
     unmap(second);
@@ -348,6 +371,8 @@ static void on_zeros(size_t answer_length, size_t request_length, size_t image_l
     }
     for (int kind = 0; kind < 256; kind++) {
         refused_5(hand_in(CALL, (const uint8_t[]){(uint8_t)kind, '/'}, 2, NULL));
+        nothing_changed();
+        refused_5(hand_in(LOOK, (const uint8_t[]){(uint8_t)kind, '/'}, 2, NULL));
         nothing_changed();
     }
 }

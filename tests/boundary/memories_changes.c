@@ -7,6 +7,8 @@
 
 guard_outcome __real_guard_entry_fresh(uint8_t *, size_t);
 guard_outcome __real_guard_entry_call(uint8_t *, size_t, const uint8_t *, size_t, uint8_t *, size_t, uint8_t *, size_t);
+guard_outcome __real_guard_entry_reader_call(uint8_t *, size_t, const uint8_t *, size_t, uint8_t *, size_t, uint8_t *,
+    size_t);
 guard_outcome __real_guard_entry_reply(uint8_t *, size_t, const uint8_t *, size_t, uint8_t *, size_t, uint8_t *,
     size_t);
 guard_outcome __real_guard_entry_save(uint8_t *, size_t, uint8_t *, size_t, uint8_t *);
@@ -160,6 +162,23 @@ guard_outcome __wrap_guard_entry_call(uint8_t *memory, size_t n, const uint8_t *
     to_buffers(o, answer, a, request, q);
     o = too_long("written: a request longer than its buffer", o, GUARD_ASK, q);
     return end(memory, n, to_event("zeros: another number for a call", o, call, l));
+}
+
+guard_outcome __wrap_guard_entry_reader_call(uint8_t *memory, size_t n, const uint8_t *call, size_t l, uint8_t *answer,
+    size_t a, uint8_t *request, size_t q)
+{
+    begin(memory, n);
+    if (is_longer && change_is("longer: a reader's memory is refused"))
+        return short_buffer;
+    guard_outcome o = __real_guard_entry_reader_call(memory, n, call, l, answer, a, request, q);
+    if (o.number == GUARD_READ_ONLY && is_longer && change_is("longer: another number for a reader's call"))
+        o.number = GUARD_BARRED;
+    if (is_written) {
+        look("written: a reader reads behind the memory", memory + n);
+        change("written: a reader writes behind the request", request + q);
+    }
+    o = too_long("written: a reader's request longer than its buffer", o, GUARD_ASK, q);
+    return end(memory, n, to_event("zeros: another number for a reader's call", o, call, l));
 }
 
 guard_outcome __wrap_guard_entry_reply(uint8_t *memory, size_t n, const uint8_t *reply, size_t l, uint8_t *answer,

@@ -5,4 +5,4 @@ from . import lists
 SEEDS = range(0, 60, 2)
 
 for seed in SEEDS:
-    print(*lists.lines_of(f"seeds {seed} and {seed + 1}", lists.pair(seed)), sep="\n")
+    print(*lists.lines_of(f"seeds {seed} and {seed + 1}", lists.pair(seed), lists.letters(seed)), sep="\n")

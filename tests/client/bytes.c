@@ -326,7 +326,7 @@ static const struct { unsigned number; const char *word; } numbers[] = {
         {13, "barred"}, {2, "absent"},
     {17, "present"}, {21, "folder"}, {16, "in use"}, {39, "not empty"}, {24, "handles"}, {9, "handle"}, {27, "too big"},
         {28, "full"}, {12, "maps"}, {74, "seal"},
-    {84, "image"},
+    {84, "image"}, {30, "read-only"},
 };
 static const char *const reasons[] = {"", "length", "status", "id", "descriptor", "page", "stat", "listing",
     "map"};
@@ -348,11 +348,11 @@ static void words(void)
 {
     size_t known = 0;
     room = 0;
-    for (size_t i = 0; i < 20; i++)
+    for (size_t i = 0; i < 21; i++)
         check(begins(guard_number_text(numbers[i].number), numbers[i].word), numbers[i].word);
     for (unsigned n = 0; n < 1000; n++)
         known += strcmp(guard_number_text(n), "no number of the guard") != 0;
-    check(known == 20 && sizeof numbers / sizeof *numbers == 20, "20 numbers");
+    check(known == 21 && sizeof numbers / sizeof *numbers == 21, "21 numbers");
     for (unsigned n = 1; n <= 8; n++)
         check(begins(guard_stop_text(n), reasons[n]), reasons[n]);
     check(!strcmp(guard_stop_text(0), "no reason of the guard") && !strcmp(guard_stop_text(9), guard_stop_text(0)),

@@ -13,6 +13,8 @@
 
 static guard g;
 static guard_client c;
+static guard_reader looked;
+static guard_reader_client looker;
 static uint8_t *request, *reply, *image; /* what the host can write, each exactly as long as it must be */
 static uint8_t call[GUARD_CALL_LENGTH], digest[GUARD_DIGEST_LENGTH];
 static int checks, wrong;
@@ -64,6 +66,7 @@ static void meddle(void)
     }
 #define CARRIED (uint8_t *m, size_t n, const uint8_t *b, size_t bn, uint8_t *a, size_t an, uint8_t *r, size_t rn)
 WRAP(call, CARRIED, (m, n, b, bn, a, an, r, rn))
+WRAP(reader_call, CARRIED, (m, n, b, bn, a, an, r, rn))
 WRAP(reply, CARRIED, (m, n, b, bn, a, an, r, rn))
 WRAP(save, (uint8_t *m, size_t n, uint8_t *i, size_t in, uint8_t *d), (m, n, i, in, d))
 WRAP(load, (uint8_t *m, size_t n, const uint8_t *i, size_t in, const uint8_t *d, size_t dn), (m, n, i, in, d, dn))
@@ -94,10 +97,10 @@ static size_t put_map(size_t length)
     return guard_map_reply(reply, GUARD_REPLY_LENGTH, next_address, zeros, length);
 }
 
-static size_t host(void)
+static size_t host(const guard_client *of)
 {
     guard_request r;
-    if (!guard_get_request(request, c.request_length, &r))
+    if (!guard_get_request(request, of->request_length, &r))
         return 0;
     switch (r.kind) {
     case GUARD_CREATE: return guard_id_reply(reply, GUARD_REPLY_LENGTH, next_id++);
@@ -115,7 +118,7 @@ static size_t host(void)
 
 /* ---- what a run comes to, written down */
 
-static uint8_t records[2][1 << 17];
+static uint8_t records[2][1 << 18];
 static size_t recorded;
 
 static void record(const void *bytes, size_t n)
@@ -136,9 +139,27 @@ static guard_outcome carry(size_t n)
 {
     guard_outcome o = guard_client_call(&c, call, n, request, GUARD_REQUEST_LENGTH);
     while (recorded_outcome(o, o.kind == GUARD_ASK ? request : c.answer).kind == GUARD_ASK)
-        o = guard_client_reply(&c, reply, host(), request, GUARD_REQUEST_LENGTH);
+        o = guard_client_reply(&c, reply, host(&c), request, GUARD_REQUEST_LENGTH);
     check(o.kind != GUARD_DONE || c.request_length == 0, "done, and nothing is pending");
     return o;
+}
+
+/* The same through a read-only guard. */
+static guard_outcome look(size_t n)
+{
+    guard_outcome o = guard_reader_client_call(&looker, call, n, request, GUARD_REQUEST_LENGTH);
+    while (recorded_outcome(o, o.kind == GUARD_ASK ? request : looker.layer.answer).kind == GUARD_ASK)
+        o = guard_reader_client_reply(&looker, reply, host(&looker.layer), request, GUARD_REQUEST_LENGTH);
+    check(o.kind != GUARD_DONE || looker.layer.request_length == 0, "done, and nothing is pending");
+    return o;
+}
+
+/* A read-only guard; the host's files are those of the guard before, from the first descriptor on. */
+static guard_outcome start_looking(const uint8_t *from, size_t n)
+{
+    guard_reader_client_fresh(&looker, &looked);
+    next_descriptor = 0;
+    return guard_reader_client_load(&looker, from, n, digest, sizeof digest);
 }
 
 static void start(void)
@@ -150,10 +171,35 @@ static void start(void)
     listed = 1;
 }
 
-/* A file written over a page's edge and read, a listing, a save and a load. */
+static const char name[] = "/00000000000000000000000000000000";
+
+/* The file of `run` on a read-only guard: what it takes, what it refuses, and a save of what was loaded. */
+static void run_looking(size_t length)
+{
+    static uint8_t kept[GUARD_IMAGE_LENGTH];
+    memcpy(kept, image, length);
+    expect(recorded_outcome(start_looking(image, length), NULL), GUARD_DONE, 0, "a load to look");
+    expect(look(guard_open_call(call, sizeof call, name, GUARD_RIGHT_BOTH)), GUARD_REFUSED, GUARD_READ_ONLY,
+        "open to write");
+    expect(look(guard_open_call(call, sizeof call, name, GUARD_RIGHT_READ)), GUARD_DONE, 2, "open to look");
+    expect(look(guard_seek_call(call, sizeof call, 2, 990)), GUARD_DONE, 990, "seek to look");
+    expect(look(guard_read_call(call, sizeof call, 2, GUARD_TRANSFER_LENGTH)), GUARD_DONE, 510, "read to look");
+    check(!memcmp(looker.layer.answer, "ttttttttttover the edge of a page.t", 35), "the bytes that are shown");
+    expect(look(guard_write_call(call, sizeof call, 2, "x", 1)), GUARD_REFUSED, GUARD_READ_ONLY, "write");
+    expect(look(guard_close_call(call, sizeof call, 2)), GUARD_DONE, 0, "close what was shown");
+    expect(look(guard_readdir_call(call, sizeof call, "/")), GUARD_DONE, 1, "list what is shown");
+    expect(look(guard_create_call(call, sizeof call, "/b", 7)), GUARD_REFUSED, GUARD_READ_ONLY, "create");
+    expect(look(guard_map_call(call, sizeof call, 4096)), GUARD_REFUSED, GUARD_READ_ONLY, "map");
+    expect(recorded_outcome(guard_reader_client_save(&looker, image, GUARD_IMAGE_LENGTH, digest), image), GUARD_DONE,
+        length, "a save of what was loaded");
+    check(!memcmp(image, kept, length), "which is the same image");
+    record(digest, sizeof digest);
+    record(looked.memory, sizeof looked.memory);
+}
+
+/* A file written over a page's edge and read, a listing, a save and a load; then a read-only guard over the same. */
 static void run(void)
 {
-    static const char name[] = "/00000000000000000000000000000000";
     uint8_t bytes[1500];
     memset(bytes, 't', sizeof bytes);
     recorded = 0;
@@ -177,6 +223,7 @@ static void run(void)
     expect(carry(guard_create_call(call, sizeof call, name, 7)), GUARD_REFUSED, GUARD_PRESENT, "after the load");
     expect(carry(guard_unmap_call(call, sizeof call, UINT64_MAX - 65535)), GUARD_DONE, 0, "unmap after the load");
     record(g.memory, sizeof g.memory);
+    run_looking(guard_client_save(&c, image, GUARD_IMAGE_LENGTH, digest).length);
 }
 
 static void meddled(void)
@@ -288,6 +335,38 @@ static guard_outcome torn_load(int is_armed)
     return guard_client_load(&c, torn, o.length, digest, sizeof digest);
 }
 
+/* The file of 1,500 bytes on a read-only guard. */
+static void make_looked(void)
+{
+    make_file();
+    carry(guard_close_call(call, sizeof call, 2));
+    start_looking(image, guard_client_save(&c, image, GUARD_IMAGE_LENGTH, digest).length);
+}
+
+static guard_outcome torn_look(int is_armed)
+{
+    make_looked();
+    look(guard_open_call(call, sizeof call, "/a", GUARD_RIGHT_READ));
+    guard_reader_client_call(&looker, call, guard_read_call(call, sizeof call, 2, 1000), NULL, 0);
+    memcpy(torn, pages[0][0], GUARD_PAGE_LENGTH);
+    arm(is_armed);
+    return guard_reader_client_reply(&looker, torn, GUARD_PAGE_LENGTH, NULL, 0);
+}
+
+static guard_outcome torn_looked_save(int is_armed)
+{
+    make_looked();
+    arm(is_armed);
+    return guard_reader_client_save(&looker, torn, GUARD_IMAGE_LENGTH, digest);
+}
+
+static guard_outcome torn_looked_load(int is_armed)
+{
+    guard_outcome o = torn_save(0);
+    arm(is_armed);
+    return start_looking(torn, o.length);
+}
+
 static guard_outcome torn_map(int is_armed)
 {
     start();
@@ -302,11 +381,14 @@ static guard_outcome torn_map(int is_armed)
 static void tear(guard_outcome (*event)(int), const char *what)
 {
     static guard kept;
+    static guard_reader kept_looked;
     static uint8_t answer[GUARD_ANSWER_LENGTH];
+    const uint8_t *given = event == torn_look ? looker.layer.answer : c.answer;
     uint8_t kept_digest[GUARD_DIGEST_LENGTH];
     guard_outcome still = event(0);
     kept = g;
-    memcpy(answer, c.answer, still.length < sizeof answer ? still.length : 0);
+    kept_looked = looked;
+    memcpy(answer, given, still.length < sizeof answer ? still.length : 0);
     memcpy(kept_digest, digest, sizeof digest);
     guard_outcome o = event(1);
     check(!armed && still.kind == GUARD_DONE, "it was changed, and else it is done");
@@ -315,7 +397,8 @@ static void tear(guard_outcome (*event)(int), const char *what)
         return;
     expect(o, still.kind, still.number, what);
     check(!memcmp(&g, &kept, sizeof g) && !memcmp(digest, kept_digest, sizeof digest), what);
-    check(event != torn_reply || !memcmp(c.answer, answer, still.length), what);
+    check(!memcmp(&looked, &kept_looked, sizeof looked), what);
+    check((event != torn_reply && event != torn_look) || !memcmp(given, answer, still.length), what);
 }
 
 static void tears(void)
@@ -325,6 +408,9 @@ static void tears(void)
     tear(torn_save, "an image changed while it was saved");
     tear(torn_load, "an image changed while it was loaded");
     tear(torn_map, "a map changed under the guard");
+    tear(torn_look, "a page changed under a read-only guard");
+    tear(torn_looked_save, "an image changed while a read-only guard saved it");
+    tear(torn_looked_load, "an image changed while a read-only guard loaded it");
 }
 
 /* ---- what is kept of a stop */
@@ -350,6 +436,25 @@ static void stops(void)
         "the reason and the request are kept");
     start();
     check(c.reason == 0 && c.request_length == 0, "a fresh client");
+}
+
+/* The same of a read-only guard; and 34 comes before 30. */
+static void looked_stops(void)
+{
+    make_looked();
+    size_t n = guard_create_call(call, sizeof call, "/b", 7);
+    expect(guard_reader_client_call(&looker, call, n, request, GUARD_REQUEST_LENGTH - 1), GUARD_REFUSED,
+        GUARD_SHORT_BUFFER, "a short request buffer of a read-only guard");
+    expect(guard_reader_client_call(&looker, call, n, request, GUARD_REQUEST_LENGTH), GUARD_REFUSED, GUARD_READ_ONLY,
+        "one that is long enough");
+    n = guard_open_call(call, sizeof call, "/a", 1);
+    expect(guard_reader_client_call(&looker, call, n, NULL, 0), GUARD_ASK, 0, "an open of a read-only guard");
+    check(looker.layer.request_length == 4 && !memcmp(looker.layer.request, "\3\1/a", 4), "its request is kept");
+    expect(guard_reader_client_reply(&looker, reply, guard_descriptor_reply(reply, 4, -1), NULL, 0), GUARD_STOPPED,
+        GUARD_STOP_DESCRIPTOR, "a stop of a read-only guard");
+    check(looker.layer.reason == GUARD_STOP_DESCRIPTOR, "its reason is kept");
+    guard_reader_client_fresh(&looker, &looked);
+    check(looker.layer.reason == 0 && looker.layer.request_length == 0, "a fresh client of a read-only guard");
 }
 
 /* ---- a full disk, which ends a request */
@@ -526,6 +631,7 @@ int main(int words, char **word)
     if (words < 2 || strcmp(word[1], "torn")) {
         meddled();
         stops();
+        looked_stops();
         full_creates();
         full_writes();
         lengths();

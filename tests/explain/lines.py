@@ -11,7 +11,8 @@ from model.rules import ANSWER, REQUEST
 
 HEX = r"((?:[0-9a-f]{2})*)"
 FORMS = {
-    "f": re.compile(r"f(?: (.*))?"), "b": re.compile(r"b (\d{1,9}) (\d{1,9})"), "c": re.compile(f"c {HEX}"),
+    "f": re.compile(r"f(?: (.*))?"), "o": re.compile(r"o(?: (.*))?"),
+    "b": re.compile(r"b (\d{1,9}) (\d{1,9})"), "c": re.compile(f"c {HEX}"),
     "r": re.compile(f"r {HEX}"), "s": re.compile(r"s (\d{1,9})"), "l": re.compile(f"l {HEX} {HEX}"),
     "=": re.compile(r"= ((?:done|ask|refused|stopped)(?: .*)?|bad line)"), "p": re.compile("p .*"),
 }
@@ -24,9 +25,10 @@ class BadLine(Exception):
 
 @dataclass
 class Fresh:
-    """A fresh guard, with what the log calls it."""
+    """A fresh guard, with what the log calls it; the letter says which."""
 
     name: str
+    letter: str
 
 
 def fields_of(number, line):
@@ -44,13 +46,13 @@ def read(lines):
         line = raw.decode(errors="replace").rstrip("\n")
         line = f"= {line}" if BARE.fullmatch(line) else line
         letter, fields = line[:1], fields_of(number, line)
-        if letter in "fcrsl" and event is not None:
+        if letter in "focrsl" and event is not None:
             yield at, (event, None)
             event = None
         match letter:
-            case "f":
+            case "f" | "o":
                 buffers = ANSWER, REQUEST
-                yield number, (Fresh(fields[0] or ""), None)
+                yield number, (Fresh(fields[0] or "", letter), None)
             case "b":
                 buffers = tuple(map(int, fields))
             case "=":

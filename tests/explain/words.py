@@ -15,7 +15,7 @@ from model.rules import (
     ADDRESS, CREATE, MAP, MKDIR, NO_SPACE, OPEN, PAGE, READ, READDIR, SEEK, STAT, TRUNCATE, UNMAP, WRITE, signed,
     split_listing, unsigned,
 )
-from model.tree import guard
+from model.tree import GUARDS, guard
 
 from .lines import Fresh
 
@@ -31,6 +31,7 @@ def texts(function):
 
 MAP_CALLS = {MAP: 5, UNMAP: 1 + ADDRESS}  # how long each is
 MAY_BE_FULL = (CREATE, MKDIR, WRITE, TRUNCATE)  # the requests that may find the disk full
+KINDS = {"f": "guard", "o": "read-only guard"}
 NUMBERS, REASONS = texts("guard_number_text"), texts("guard_stop_text")
 
 
@@ -52,8 +53,8 @@ class Teller:
         """The lines of one event and its answer."""
         event, answer = entry
         if isinstance(event, Fresh):
-            self.guard = guard()
-            yield f"a fresh guard{f' ({event.name})' if event.name else ''}"
+            self.guard = GUARDS[event.letter]()
+            yield f"a fresh {KINDS[event.letter]}{f' ({event.name})' if event.name else ''}"
             return
         yield self.event_words(event)
         right = str(self.guard.step(event))

@@ -1,9 +1,12 @@
 /* Records of bytes (records.h) through the archive, each outcome held against what the specification says of every
  * outcome, whatever was handed in.
  *
+ * Each call also goes to the other kind of guard, read-only beside a guard or a guard beside a read-only one, on a copy
+ * of the memory: both give the same, or the read-only one refuses 30 and leaves everything as it was.
+ *
  * The archive has no coverage of its own: what came back to what is counted for libFuzzer in `seen`. All that is lent
  * lies against unreadable pages (tests/boundary/places.h), at the low or the high end by the input's first byte, or
- * near the low one. */
+ * near the low one; that byte also says whether the guard is a read-only one. */
 #include "guard.h"
 #include "host.h"
 #include "places.h"
@@ -21,7 +24,7 @@ enum { INPUT = GUARD_REPLY_LENGTH + 64, EVENTS = 300 };
 
 __attribute__((section("__libfuzzer_extra_counters"))) static uint8_t seen[8192];
 
-static struct place memory, elsewhere, answer, request, image, digest, input, seal;
+static struct place memory, elsewhere, twin, answer, request, image, digest, input, seal;
 
 /* What is known of the guard from its outcomes alone. */
 static struct {
@@ -35,6 +38,9 @@ static struct {
     uint8_t asked[GUARD_REQUEST_LENGTH]; /* the pending request */
     size_t asked_length;
     uint8_t image[GUARD_IMAGE_LENGTH], digest[GUARD_DIGEST_LENGTH]; /* the last save */
+    int is_reader; /* a read-only guard: it saves what was loaded last, or what a fresh guard saves */
+    uint8_t shown[GUARD_IMAGE_LENGTH];
+    size_t shown_length;
 } known;
 
 #define MUST(condition) ((condition) ? (void)0 : wrong(#condition, __LINE__))
@@ -52,11 +58,16 @@ static int same(const uint8_t *a, const uint8_t *b, size_t n)
 
 /* ---- handing in */
 
+static guard_outcome enter_call(int is_reader, const struct place *m)
+{
+    return (is_reader ? guard_entry_reader_call : guard_entry_call)(m->at, m->length, input.at, input.length,
+        answer.at, answer.length, request.at, request.length);
+}
+
 static guard_outcome enter(enum what what)
 {
     switch (what) {
-    case CALL: return guard_entry_call(memory.at, memory.length, input.at, input.length, answer.at, answer.length,
-        request.at, request.length);
+    case CALL: return enter_call(known.is_reader, &memory);
     case REPLY: return guard_entry_reply(memory.at, memory.length, input.at, input.length, answer.at, answer.length,
         request.at, request.length);
     case SAVE: return guard_entry_save(memory.at, memory.length, image.at, image.length, digest.at);
@@ -79,7 +90,8 @@ static void count(enum what what, guard_outcome o)
     size_t number = o.kind == GUARD_REFUSED || o.kind == GUARD_STOPPED ? o.number
         : bits(o.number) + 16 * bits(o.length);
     seen[(((what * 16 + kind) * 4 + (size_t)o.kind) * 251 + number * 7) % sizeof seen]++;
-    seen[(known.open_files * 61 + bits(known.call_length) * 13 + kind) % sizeof seen]++;
+    seen[(known.open_files * 61 + (size_t)known.is_reader * 4099 + bits(known.call_length) * 13 + kind) %
+        sizeof seen]++;
 }
 
 static void untouched(struct place *p, size_t first)
@@ -88,12 +100,71 @@ static void untouched(struct place *p, size_t first)
     MUST(place_untouched(p, first));
 }
 
+/* ---- the other kind of guard */
+
+/* What it gave, and the memory that both had before. */
+static struct { guard_outcome o; uint8_t bytes[GUARD_ANSWER_LENGTH], before[GUARD_MEMORY_LENGTH]; } other;
+
+static void enter_other(void)
+{
+    memcpy(other.before, memory.at, GUARD_MEMORY_LENGTH);
+    place_hold(&twin, memory.at, GUARD_MEMORY_LENGTH);
+    other.o = enter_call(!known.is_reader, &twin);
+    struct place *given = other.o.kind == GUARD_ASK ? &request : &answer;
+    untouched(given, other.o.length);
+    untouched(given == &request ? &answer : &request, 0);
+    untouched(&twin, GUARD_MEMORY_LENGTH);
+    if (other.o.length > 0)
+        memcpy(other.bytes, given->at, other.o.length);
+    place_restore(given, other.o.length);
+}
+
+/* Whether a read-only guard takes a call of this kind. */
+static int is_taken(void)
+{
+    switch (input.length ? input.at[0] : 0) {
+    case GUARD_CLOSE: case GUARD_SEEK: case GUARD_READ: case GUARD_READDIR: case GUARD_STAT: return 1;
+    case GUARD_OPEN: return input.length > 1 && input.at[1] == 1;
+    default: return 0;
+    }
+}
+
+static int is_refused(guard_outcome o, uint64_t number) { return o.kind == GUARD_REFUSED && o.number == number; }
+
+/* An unmap of right form: a guard refuses it 22 where no such map lives. */
+static int is_unmap(void) { return input.length == 9 && input.at[0] == GUARD_UNMAP; }
+
+/* A call that a read-only guard does not take is refused 30, or by a number that comes before it. */
+static int is_before_read_only(guard_outcome o)
+{
+    static const uint8_t numbers[] = {5, 114, 34, 22, 36};
+    return o.kind == GUARD_REFUSED && o.number < 256 && memchr(numbers, (int)o.number, sizeof numbers) != NULL &&
+        !(is_unmap() && o.number == GUARD_MALFORMED);
+}
+
+static void check_other(guard_outcome o)
+{
+    guard_outcome reader = known.is_reader ? o : other.o, guards = known.is_reader ? other.o : o;
+    const uint8_t *bytes = o.kind == GUARD_ASK ? request.at : answer.at;
+    if (!is_taken() && !is_before_read_only(guards)) {
+        MUST(is_refused(reader, GUARD_READ_ONLY));
+        MUST(same((known.is_reader ? memory : twin).at, other.before, GUARD_MEMORY_LENGTH));
+        return;
+    }
+    MUST(o.kind == other.o.kind && o.number == other.o.number && o.length == other.o.length);
+    MUST(same(bytes, other.bytes, o.length) && same(memory.at, twin.at, GUARD_MEMORY_LENGTH));
+}
+
+/* ---- an event */
+
 /* What the last event gave out: it stays where it is until `put_back`. */
 static struct { size_t answer, request, image, digest; } given;
 
 /* One event: no byte is touched that the outcome does not promise. */
 static guard_outcome hand_in(enum what what)
 {
+    if (what == CALL)
+        enter_other();
     guard_outcome o = enter(what);
     MUST(o.kind >= GUARD_DONE && o.kind <= GUARD_STOPPED);
     MUST(o.kind <= GUARD_ASK || o.length == 0);
@@ -108,6 +179,8 @@ static guard_outcome hand_in(enum what what)
         untouched(&digest, given.digest);
     }
     untouched(&memory, memory.length);
+    if (what == CALL)
+        check_other(o);
     count(what, o);
     return o;
 }
@@ -128,6 +201,7 @@ static void nothing_touched(void)
     untouched(&image, 0);
     untouched(&digest, 0);
     untouched(&elsewhere, 0);
+    place_clear(&twin);
 }
 
 /* ---- what the specification says of every outcome */
@@ -342,8 +416,11 @@ static void on_call(void)
     MUST(!first || (o.kind == GUARD_REFUSED && o.number == first));
     if (first)
         return;
+    if (known.is_reader && is_refused(o, GUARD_READ_ONLY))
+        return;
     MUST(o.kind != GUARD_STOPPED && (o.kind != GUARD_REFUSED || is_call_number(o.number)));
-    if (input.length > 0 && (input.at[0] == GUARD_MAP || input.at[0] == GUARD_UNMAP))
+    MUST(!known.is_reader || o.kind == GUARD_REFUSED || is_taken());
+    if (!known.is_reader && input.length > 0 && (input.at[0] == GUARD_MAP || input.at[0] == GUARD_UNMAP))
         MUST(map_number() ? o.kind == GUARD_REFUSED && o.number == map_number() : o.kind == GUARD_ASK);
     if (o.kind == GUARD_REFUSED)
         return;
@@ -422,6 +499,7 @@ static void on_save(void)
     MUST(o.kind == GUARD_DONE && o.number == o.length && o.length >= 23);
     plain_sha256(image.at, o.length, right);
     MUST(same(right, digest.at, sizeof right));
+    MUST(!known.is_reader || (o.length == known.shown_length && same(image.at, known.shown, o.length)));
     memcpy(known.image, image.at, o.length);
     memcpy(known.digest, right, sizeof right);
     known.saved_length = o.length;
@@ -453,6 +531,8 @@ static void on_load(void)
     }
     MUST(o.kind == GUARD_DONE && o.number == 0 && o.length == 0 && is_right);
     known.loaded = 1;
+    memcpy(known.shown, input.at, input.length);
+    known.shown_length = input.length;
     if (known.saved && known.saved_length == input.length && same(known.image, input.at, input.length))
         host_loaded();
     else
@@ -555,6 +635,7 @@ int LLVMFuzzerInitialize(int *n, char ***words)
     places_begin(0);
     memory = place_for("memory", GUARD_MEMORY_LENGTH);
     elsewhere = place_for("memory", GUARD_MEMORY_LENGTH);
+    twin = place_for("memory", GUARD_MEMORY_LENGTH);
     answer = place_for("answer", GUARD_ANSWER_LENGTH);
     request = place_for("request", GUARD_REQUEST_LENGTH);
     image = place_for("image", INPUT);
@@ -562,6 +643,14 @@ int LLVMFuzzerInitialize(int *n, char ***words)
     input = place_for("input", INPUT);
     seal = place_for("seal", GUARD_DIGEST_LENGTH);
     return 0;
+}
+
+/* What a fresh guard saves: one node, the root. */
+static void show_root(void)
+{
+    static const uint8_t root[] = {1, 0, 0, 0, 1, 0, 0, 0, 0, 0, 0, 0, 2, 7, 0, 0, 0, 0, 0, 0, 0, 0, 0};
+    memcpy(known.shown, root, sizeof root);
+    known.shown_length = sizeof root;
 }
 
 int LLVMFuzzerTestOneInput(const uint8_t *data, size_t size)
@@ -573,7 +662,10 @@ int LLVMFuzzerTestOneInput(const uint8_t *data, size_t size)
     put_back();
     places_turn(data[0] & 1, data[0] / 2 % 8);
     memset(&known, 0, sizeof known);
+    known.is_reader = data[0] / 16 % 2;
+    show_root();
     host_begin();
+    place_clear(&twin);
     place_clear(&memory);
     place_lend(&memory, GUARD_MEMORY_LENGTH);
     MUST(guard_entry_fresh(memory.at, memory.length).kind == GUARD_DONE);

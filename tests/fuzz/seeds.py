@@ -2,8 +2,8 @@
 
 Each list three times: with its own replies, with those that the fuzzer's host works out, and with these where each
 third store, cut and new node finds the disk full. A map's address is the list's own in all, since later calls name it.
-The guard moves now and then. Beside them a few inputs by hand, of what is read after a full disk and of replies that
-nearly say so. The form is that of records.h.
+The guard moves now and then. Each fourth list goes to a read-only guard too. Beside them a few inputs by hand, of what
+is read after a full disk, of replies that nearly say so, and of a read-only guard. The form is that of records.h.
 """
 
 import sys
@@ -20,6 +20,7 @@ CALL, REPLY, TRUE_REPLY, SAVE, LOAD, LOAD_BADLY, LOAD_SAVED, MOVE, REPLY_OVER, R
 OWN, TRUE, FULL = range(3)  # whose replies
 FILLED = [bytes([kind]) for kind in (CREATE, MKDIR, WRITE, TRUNCATE)]  # requests that a full disk may end
 MOST = 16_384  # bytes of an input
+READER = 16  # in the first byte: a read-only guard
 LONGEST = 0xFFFF  # bytes of a record
 
 
@@ -100,6 +101,41 @@ def by_hand():
             yield f"{name}-{number}", [*FILE, *before, (REPLY, nearly), *LOOK]
 
 
+# ---- a read-only guard, by hand: an image whose files are of zeros, as the fuzzer's host takes them to be
+
+def node(id, parent, kind, mode, size, name):
+    return put(id, 4) + put(parent, 4) + bytes([kind, mode]) + put(size, 4) + bytes([len(name)]) + name
+
+
+ZERO_PAGE = digest(bytes(1024))
+SHOWN = (put(4, 4) + node(1, 0, 2, 7, 0, b"") + node(2, 1, 1, 6, 2500, b"a") + node(3, 1, 2, 7, 0, b"d")
+         + node(4, 3, 1, 4, 0, b"c") + put(3, 4) + 3 * ZERO_PAGE)
+LOOK_ON = [calls.open_(1, b"/a"), TRUE_REPLY, calls.read(2, 4096), *[TRUE_REPLY] * 3, calls.seek(2, 9),
+           calls.stat(b"/d/c"), TRUE_REPLY, calls.readdir(b"/"), TRUE_REPLY, calls.close(2), TRUE_REPLY]
+NOT_TAKEN = [
+    calls.create(7, b"/n"), calls.mkdir(7, b"/n"), *(calls.open_(rights, b"/a") for rights in (0, 2, 3, 4)),
+    calls.write(2, b"x"), calls.write(2, b""), calls.truncate(2, 0), calls.remove(b"/a"), calls.remove(b"/none"),
+    calls.rmdir(b"/d"), calls.chmod(0, b"/a"), calls.map_(4096), calls.unmap(4096),
+]
+MISSHAPEN = [b"", b"\x03", b"\x10", calls.create(8, b"/n"), calls.create(7, b"n"), calls.create(7, b"/" + b"n" * 33),
+             calls.open_(3, b"/" + b"n" * 33), calls.remove(b"/n" * 128), calls.map_(4097), calls.unmap(4096)[:-1],
+             calls.write(2, bytes(4097)), calls.truncate(2, 0) + b"x"]
+
+
+def looked_at():
+    """From the image, from fresh, and while a request is pending or the guard has stopped."""
+    saves = [(SAVE, b""), LOAD_SAVED]
+    image = [(LOAD, SHOWN)]
+    yield "image", [*image, *LOOK_ON, *NOT_TAKEN, *MISSHAPEN, *saves, *LOOK_ON]
+    yield "fresh", [*NOT_TAKEN, *MISSHAPEN, calls.readdir(b"/"), TRUE_REPLY, *saves]
+    yield "open", [*image, *LOOK_ON[:5], *NOT_TAKEN, *saves, *LOOK_ON[5:], *saves]
+    yield "pending", [*image, LOOK_ON[0], *NOT_TAKEN, *MISSHAPEN, *saves, *LOOK_ON[1:], *saves]
+    yield "stopped", [*image, LOOK_ON[0], (REPLY, b"x"), *NOT_TAKEN, *MISSHAPEN, *saves]
+    yield "full", [*image, LOOK_ON[0], FULL_REPLY, *NOT_TAKEN]
+    shorts = [*((CALL, call, True) for call in NOT_TAKEN), *((CALL, call, False, True) for call in MISSHAPEN)]
+    yield "short", [*image, *shorts]
+
+
 def record_of(thing):
     """A call's bytes, what stands for a reply, or that with its bytes."""
     if isinstance(thing, bytes):
@@ -111,15 +147,18 @@ def main():
     directory = Path(sys.argv[1])
     for name, things in by_hand():
         (directory / f"full-{name}").write_bytes(b"\0" + b"".join(map(record_of, things)))
+    for name, things in looked_at():
+        for kind in 0, READER:
+            (directory / f"look-{name}-{kind}").write_bytes(bytes([kind]) + b"".join(map(record_of, things)))
     for i, (_, recording) in enumerate(recordings()):
-        for whose in OWN, TRUE, FULL:
+        for whose, kind in (OWN, 0), (TRUE, 0), (FULL, 0), *[(OWN, READER)] * (i % 4 == 0):
             parts = (
                 records(event, asked, whose, (n + i) % 3 == 0) + moves(n)
                 for n, (event, asked) in enumerate(with_requests(recording.steps))
             )
-            data = bytes([i % 2]) + record(LOAD_SAVED) * (whose != OWN) + b"".join(islice(parts, 250))
+            data = bytes([i % 2 + kind]) + record(LOAD_SAVED) * (whose != OWN) + b"".join(islice(parts, 250))
             if len(data) <= MOST:
-                (directory / f"{i}-{whose}").write_bytes(data)
+                (directory / f"{i}-{whose}-{kind}").write_bytes(data)
 
 
 if __name__ == "__main__":

@@ -1,11 +1,11 @@
 /* Every function of guard.h once, in C and in C++: a file made, written, saved, and loaded by a second guard that
- * stands at an odd address. */
+ * stands at an odd address, and by a read-only one. */
 #include <guard.h>
 #include <stdio.h>
 #include <string.h>
 
 static guard first;
-static struct { char odd; guard second; } beside;
+static struct { char odd; guard second; guard_reader reader; } beside;
 static uint8_t answer[GUARD_ANSWER_LENGTH], request[GUARD_REQUEST_LENGTH], image[GUARD_IMAGE_LENGTH],
     digest[GUARD_DIGEST_LENGTH];
 static int step;
@@ -98,6 +98,45 @@ static void full(guard *g)
     expect(reply(g, disk_full, 4), GUARD_STOPPED, GUARD_STOP_STATUS, 0);
 }
 
+static guard_outcome look(const char *bytes, size_t n)
+{
+    return guard_reader_call(&beside.reader, (const uint8_t *)bytes, n, answer, sizeof answer, request, sizeof request);
+}
+
+static guard_outcome look_reply(const void *bytes, size_t n)
+{
+    return guard_reader_reply(&beside.reader, (const uint8_t *)bytes, n, answer, sizeof answer, request,
+        sizeof request);
+}
+
+/* A read-only guard: it reads what was saved, refuses what would change it, and saves the same image. */
+static void reader(size_t length, const uint8_t *page)
+{
+    static uint8_t again[GUARD_IMAGE_LENGTH], seal[GUARD_DIGEST_LENGTH];
+    guard_reader *g = &beside.reader;
+    expect(look("\15/", 2), GUARD_REFUSED, GUARD_STOPPED_FOR_GOOD, 0); /* of zeros */
+    guard_reader_fresh(g);
+    expect(guard_entry_reader_call(g->memory, GUARD_MEMORY_LENGTH - 1, NULL, 0, answer, sizeof answer, request,
+        sizeof request), GUARD_REFUSED, GUARD_SHORT_BUFFER, 0);
+    expect(guard_reader_load(g, image, length, digest, 31), GUARD_REFUSED, GUARD_WRONG_DIGEST, 0);
+    expect(guard_reader_load(g, image, length, digest, sizeof digest), GUARD_DONE, 0, 0);
+    expect(look("\1\7/b", 4), GUARD_REFUSED, GUARD_READ_ONLY, 0);
+    expect(look("\3\3/a", 4), GUARD_REFUSED, GUARD_READ_ONLY, 0);
+    expect(look("\3\4/a", 4), GUARD_REFUSED, GUARD_MALFORMED, 0);
+    expect(look("\3\1/b", 4), GUARD_REFUSED, GUARD_ABSENT, 0);
+    expect(look("\3\1/a", 4), GUARD_ASK, 0, 4);
+    expect(look_reply("\0\0\0\0", 4), GUARD_DONE, 2, 0);
+    expect(look("\6\2\0\0\0\5\0\0\0", 9), GUARD_ASK, 0, 9);
+    expect(look_reply(page, GUARD_PAGE_LENGTH), GUARD_DONE, 5, 5);
+    expect(look("\7\2\0\0\0hello", 10), GUARD_REFUSED, GUARD_READ_ONLY, 0);
+    expect(guard_reader_save(g, again, sizeof again, seal), GUARD_REFUSED, GUARD_IN_USE, 0);
+    expect(look("\4\2\0\0\0", 5), GUARD_ASK, 0, 5);
+    expect(look_reply("\0\0\0\0", 4), GUARD_DONE, 0, 0);
+    expect(guard_reader_save(g, again, sizeof again, seal), GUARD_DONE, length, length);
+    if (memcmp(again, image, length) || memcmp(seal, digest, sizeof seal))
+        step = -1000;
+}
+
 /* The version, and the cursor after a truncation: behind the new end it stands at that end, else it stays. */
 static void notes(guard *g)
 {
@@ -136,6 +175,7 @@ int main(void)
     expect(call(second, "\15/", 2), GUARD_REFUSED, GUARD_STOPPED_FOR_GOOD, 0);
     if (memcmp(answer, "hello", 5))
         step = -1000;
+    reader(o.length, page);
     full(second);
     return step < 0;
 }

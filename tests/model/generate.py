@@ -18,10 +18,10 @@ from .longer import longer_steps
 from .recording import FULL_DISK, Recording
 from .rules import (
     ADDRESS, ANSWER, CHMOD, CLOSE, CREATE, DIRECTORY, FILE, MAP, MAX_COUNT, MAX_MAP, MAX_MAPS, MAX_MODE, MAX_NAME,
-    MAX_NODES, MAX_OPEN, MAX_PATH, MAX_SIZE, MKDIR, NO_SPACE, OPEN, PAGE, READ, READDIR, READ_RIGHT, REMOVE, REQUEST,
-    RMDIR, SEEK, SPACE, STAT, TRUNCATE, UNIT, UNMAP, WRITE, WRITE_RIGHT, Node, put, unsigned,
+    MAX_NODES, MAX_OPEN, MAX_PATH, MAX_SIZE, MKDIR, NO_SPACE, OPEN, PAGE, READ, READDIR, READ_ONLY_KINDS, READ_RIGHT,
+    REMOVE, REQUEST, RMDIR, SEEK, SPACE, STAT, TRUNCATE, UNIT, UNMAP, WRITE, WRITE_RIGHT, Node, put, unsigned,
 )
-from .tree import digest
+from .tree import digest, guard, read_only_guard
 
 NAMES = [b"a", b"b", b"c", b"...", b"\xff\n ", b"n" * MAX_NAME]
 
@@ -63,6 +63,11 @@ def generate_filling(seed, length=50):
     return FillingGenerator(Random(seed)).run(length)
 
 
+def generate_read_only(seed, length=50):
+    """A list for a read-only guard."""
+    return ReadOnlyGenerator(Random(seed)).run(length)
+
+
 def generate_for_desk(seed, length=50):
     """The same with calls and replies alone, and buffers that are long enough; of four, one is of maps and one of a
     full disk.
@@ -73,11 +78,15 @@ def generate_for_desk(seed, length=50):
 class Generator:
     """Calls of files, and no maps, whose replies are long."""
 
+    make_guard = staticmethod(guard)
+    entry_rights = READ_RIGHT | WRITE_RIGHT
+    first_kinds = CREATE, OPEN  # what comes where a call by handle would find no open file
+
     def __init__(self, random, desk=False):
         self.random = random
         self.desk = desk
         self.makers = self.all_makers()
-        self.recording = Recording(random)
+        self.recording = Recording(random, self.make_guard)
         self.guard = self.recording.guard
         self.saves = []
         self.bad_form = self.pick(0, 0.05, 0.2)
@@ -109,6 +118,19 @@ class Generator:
                 self.event()
         return self.recording
 
+    def run_on(self, length):
+        """So many events more, and the pending call to its end."""
+        for _ in range(length):
+            self.event()
+        self.recording.finish() if self.guard.pending else None
+
+    def save_all(self):
+        """Every file closed, then a save."""
+        for handle in list(self.guard.open_files):
+            self.recording.do(calls.close(handle))
+        outcome = self.recording.send(Save(LONGEST))
+        self.saves.append((outcome.data, outcome.digest))
+
     def start(self):
         self.pick(self.stay_fresh, *[self.make_files] * 4, self.enter_world, self.enter_world)()
 
@@ -139,7 +161,7 @@ class Generator:
         else:
             self.load_sound(image(nodes))
         for node in self.guard.nodes[len(nodes) - opened :]:
-            self.recording.do(calls.open_(READ_RIGHT | WRITE_RIGHT, self.path_of(node)))
+            self.recording.do(calls.open_(self.entry_rights, self.path_of(node)))
             self.recording.do(calls.seek(node.id, node.size))
         self.lean(leaning)
 
@@ -213,7 +235,7 @@ class Generator:
     def call(self):
         kind = self.random.choices(list(self.weights), self.weights.values())[0]
         if kind in BY_HANDLE and not self.guard.open_files and self.chance(0.9):
-            kind = self.pick(CREATE, OPEN)
+            kind = self.pick(*self.first_kinds)
         data = self.makers[kind](self, kind)
         if self.chance(self.bad_form):
             data = self.damaged(data)
@@ -491,6 +513,54 @@ class FillingGenerator(Generator):
         return calls.map_(UNIT)
 
 
+class ReadOnlyGenerator(Generator):
+    """A read-only guard that loads what another has made. Mostly calls that look; every fourth or so does not, some of
+    those with a fault of form. Lies are about what is looked at.
+    """
+
+    make_guard = staticmethod(read_only_guard)
+    entry_rights = READ_RIGHT
+    first_kinds = OPEN, OPEN, READDIR
+
+    def __init__(self, random):
+        super().__init__(random)
+        for kind in self.makers:
+            self.weights[kind] = self.pick(0.2, 0.5, 1) if kind not in READ_ONLY_KINDS else self.pick(2, 4, 8)
+        self.weights[OPEN] = 3
+        self.lies_about = self.pick(OPEN, CLOSE, READ, READ, READ, READDIR, READDIR, STAT)
+        self.weights[self.lies_about] += 20 * self.lie
+        self.images = self.pick(0.03, 0.1)
+
+    def all_makers(self):
+        return {**MAKERS, **READ_ONLY_MAKERS}
+
+    def start(self):
+        self.pick(self.stay_fresh, *[self.load_made] * 5, self.enter_world, self.enter_world)()
+
+    def load_made(self):
+        """The images of a few moments of another guard, whose host is this one's from now on; the last is loaded."""
+        made = Generator(self.random)
+        made.lie = made.bad_form = made.bad_time = made.bad_buffer = made.images = 0
+        made.make_files()
+        for length in (0, self.pick(0, 5), self.pick(5, 20)):
+            made.run_on(length)
+            made.save_all()
+        self.recording.host, self.saves = made.recording.host, made.saves
+        self.recording.send(Load(*self.saves[-1]))
+
+    def enter(self, nodes, opened, leaning):
+        super().enter(nodes, opened, [kind for kind in leaning if kind in (OPEN, *READ_ONLY_KINDS)])
+
+    def reading_open_call(self, kind):
+        return calls.open_(self.pick(1, 1, 1, 1, 1, 2, 3), self.path(kind))
+
+    def any_map_call(self, kind):
+        return calls.map_(self.pick(UNIT, UNIT, 2 * UNIT, MAX_MAP, 0, UNIT - 1, MAX_MAP + UNIT))
+
+    def any_unmap_call(self, kind):
+        return calls.unmap(self.pick(0, UNIT, SPACE - UNIT))
+
+
 DESK_GENERATORS = {1: FillingGenerator, 3: MappingGenerator}
 MAKERS = {
     CREATE: Generator.mode_call, MKDIR: Generator.mode_call, OPEN: Generator.open_call, CLOSE: Generator.close_call,
@@ -502,6 +572,10 @@ MAP_MAKERS = {MAP: MappingGenerator.map_call, UNMAP: MappingGenerator.unmap_call
 FILLING_MAKERS = {
     WRITE: FillingGenerator.longer_write_call, TRUNCATE: FillingGenerator.growth_call,
     MAP: FillingGenerator.small_map_call,
+}
+READ_ONLY_MAKERS = {
+    OPEN: ReadOnlyGenerator.reading_open_call, MAP: ReadOnlyGenerator.any_map_call,
+    UNMAP: ReadOnlyGenerator.any_unmap_call,
 }
 BY_HANDLE = (CLOSE, SEEK, READ, WRITE, TRUNCATE)
 

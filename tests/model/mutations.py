@@ -15,6 +15,7 @@ from pathlib import Path
 
 from . import events
 from .generate import generate, generate_filling, generate_growing, generate_longer, generate_mapping
+from .transcripts import read_only_recordings
 
 PACKAGE = Path(__file__).parent
 COPIED = ["__init__", "events", "rules", "image", "tree", "desk"]
@@ -107,6 +108,41 @@ def ended_by_full(change):
     """What else a full disk does that refuses a call."""
     lines = f"except Refusal:\n            {change}\n            raise"
     return added("tree.advance", "except Stop as wrong", lines)
+
+
+IS_READ_ONLY = "isinstance(self, ReadOnly)"
+IS_NO_LOOK = "not self.takes(call)"
+IS_NO_LOOK_YET = "(call := rules.read_call(event.data)) and not rules.is_long(call.path) and not self.takes(call)"
+
+
+def read_only_takes(kinds):
+    """Which kinds of call but an open a read-only guard takes."""
+    return replaced("rules.is_read_only", "call.kind in READ_ONLY_KINDS", kinds)
+
+
+def read_only_opens(condition):
+    """Which rights a read-only guard opens files with."""
+    return replaced("rules.is_read_only", "call.rights == READ_RIGHT", condition)
+
+
+def read_only_number(number):
+    """What a call that is not taken is refused with."""
+    return replaced("tree.on_call", "refuse(30, ", f"refuse({number}, ")
+
+
+def read_only_after(number, condition):
+    """A number of the tables comes before 30."""
+    return added("tree.on_call", "refuse(30", f"refuse({number}, {IS_NO_LOOK} and {condition})")
+
+
+def read_only_early(number, condition):
+    """30 comes before a number."""
+    return added("tree.on_call", f"refuse({number}", f"refuse(30, {condition})")
+
+
+def read_only_changes(change):
+    """What a call that is not taken does before it is refused."""
+    return added("tree.on_call", "refuse(30", f"{change} if {IS_NO_LOOK} else None")
 
 
 IF_GROWN = "if call.size > node.size"
@@ -918,6 +954,172 @@ MUTATIONS = {
         "sorted(entries) != sorted(map(rules.entry, self.children(node)))",
         "entries != list(map(rules.entry, self.children(node)))",
     ),
+    # the read-only guard
+    "every guard is read-only": replaced("tree", "return True", "return rules.is_read_only(call)"),
+    "read-only: nothing is refused": replaced("tree.on_call", "refuse(30, ", "refuse(30, False and "),
+    "read-only: takes create": read_only_takes("call.kind in (*READ_ONLY_KINDS, CREATE)"),
+    "read-only: takes mkdir": read_only_takes("call.kind in (*READ_ONLY_KINDS, MKDIR)"),
+    "read-only: takes write": read_only_takes("call.kind in (*READ_ONLY_KINDS, WRITE)"),
+    "read-only: takes a write of nothing": read_only_takes(
+        "call.kind in READ_ONLY_KINDS or call.kind == WRITE and not call.data",
+    ),
+    "read-only: takes truncate": read_only_takes("call.kind in (*READ_ONLY_KINDS, TRUNCATE)"),
+    "read-only: takes remove": read_only_takes("call.kind in (*READ_ONLY_KINDS, REMOVE)"),
+    "read-only: takes rmdir": read_only_takes("call.kind in (*READ_ONLY_KINDS, RMDIR)"),
+    "read-only: takes chmod": read_only_takes("call.kind in (*READ_ONLY_KINDS, CHMOD)"),
+    "read-only: takes map": read_only_takes("call.kind in (*READ_ONLY_KINDS, MAP)"),
+    "read-only: takes unmap": read_only_takes("call.kind in (*READ_ONLY_KINDS, UNMAP)"),
+    "read-only: takes what is new since the base": read_only_takes("call.kind in (*READ_ONLY_KINDS, MAP, UNMAP)"),
+    "read-only: opens to write": read_only_opens("call.rights <= WRITE_RIGHT"),
+    "read-only: opens to read and write": read_only_opens("call.rights & READ_RIGHT"),
+    "read-only: opens with any right": read_only_opens("True"),
+    "read-only: opens to write alone": read_only_opens("call.rights == WRITE_RIGHT"),
+    "read-only: no open": read_only_opens("False"),
+    "read-only: no close": read_only_takes("call.kind in READ_ONLY_KINDS and call.kind != CLOSE"),
+    "read-only: no seek": read_only_takes("call.kind in READ_ONLY_KINDS and call.kind != SEEK"),
+    "read-only: no read": read_only_takes("call.kind in READ_ONLY_KINDS and call.kind != READ"),
+    "read-only: no readdir": read_only_takes("call.kind in READ_ONLY_KINDS and call.kind != READDIR"),
+    "read-only: no stat": read_only_takes("call.kind in READ_ONLY_KINDS and call.kind != STAT"),
+    "read-only: 1": read_only_number(1),
+    "read-only: 13": read_only_number(13),
+    "read-only: 22": read_only_number(22),
+    "read-only: 13 at paths": read_only_number("13 if call.path else 30"),
+    "read-only: 9 at handles": read_only_number("9 if call.handle else 30"),
+    "read-only: 22 at opens": read_only_number("22 if call.kind == rules.OPEN else 30"),
+    "read-only: 30 before 5": read_only_early(5, f"self.stopped and {IS_NO_LOOK_YET}"),
+    "read-only: 30 before 114": read_only_early(114, f"self.pending and {IS_NO_LOOK_YET}"),
+    "read-only: 30 before 34": read_only_early(34, IS_NO_LOOK_YET),
+    "read-only: 30 before 22": read_only_early(
+        22,
+        f"{IS_READ_ONLY} and event.data[:1] and event.data[0] in {{*range(1, 16)}} - {{3, *rules.READ_ONLY_KINDS}}",
+    ),
+    "read-only: 30 before 22 at rights": read_only_early(
+        22,
+        f"{IS_READ_ONLY} and event.data[:1] == b'\\3' and event.data[1:2] != b'\\1'",
+    ),
+    "read-only: rights 0 are 30": read_only_early(22, f"{IS_READ_ONLY} and event.data[:2] == b'\\3\\0'"),
+    "read-only: rights 4 are 30": read_only_early(22, f"{IS_READ_ONLY} and event.data[:2] == b'\\3\\4'"),
+    "read-only: mode 8 is 30": read_only_early(22, f"{IS_READ_ONLY} and event.data[1:2] == b'\\x08'"),
+    "read-only: a write of 4,097 is 30": read_only_early(
+        22,
+        f"{IS_READ_ONLY} and event.data[:1] == b'\\7' and len(event.data) == 5 + 4097",
+    ),
+    "read-only: a map of any length is 30": read_only_early(
+        22,
+        f"{IS_READ_ONLY} and event.data[:1] == b'\\x0e' and len(event.data) == 5",
+    ),
+    "read-only: every malformed call is 30": replaced(
+        "tree.on_call",
+        "refuse(22, ",
+        f"refuse(30 if {IS_READ_ONLY} else 22, ",
+    ),
+    "read-only: an empty call is 30": read_only_early(22, f"{IS_READ_ONLY} and not event.data"),
+    "read-only: kind 0 is 30": read_only_early(22, f"{IS_READ_ONLY} and event.data[:1] == b'\\0'"),
+    "read-only: kind 16 is 30": read_only_early(22, f"{IS_READ_ONLY} and event.data[:1] == b'\\x10'"),
+    "read-only: a kind from 16 up is 30": read_only_early(22, f"{IS_READ_ONLY} and event.data[:1] > b'\\x0f'"),
+    "read-only: 30 before 36": delayed("tree.on_call", "refuse(36", "refuse(30"),
+    "read-only: 30 after the walk": read_only_changes("self.walk(call.names or (), last_may_be_absent=True)"),
+    "read-only: 30 after all of the walk": read_only_changes("call.path and self.walk(call.names)"),
+    "read-only: 30 after 9": read_only_changes(
+        "call.kind in (rules.WRITE, rules.TRUNCATE) and self.opened(call.handle)",
+    ),
+    "read-only: 30 after the right": read_only_after(
+        9,
+        "call.kind in (rules.WRITE, rules.TRUNCATE) and call.handle in self.open_files",
+    ),
+    "read-only: 30 after all that is judged": read_only_changes(
+        "list(zip([0], getattr(self, CALLS[call.kind])(call)))",
+    ),
+    "read-only: 30 after 17": read_only_after(17, "call.kind in (rules.CREATE, rules.MKDIR) and call.path == b'/'"),
+    "read-only: 30 after 21": read_only_after(21, "call.kind in (rules.OPEN, rules.REMOVE) and call.path == b'/'"),
+    "read-only: 30 after 16": read_only_after(16, "call.kind == rules.RMDIR and call.path == b'/'"),
+    "read-only: 30 after 24": read_only_after(24, "call.kind == rules.OPEN and len(self.open_files) == MAX_OPEN"),
+    "read-only: 30 after 28": read_only_after(
+        28,
+        "call.kind in (rules.CREATE, rules.MKDIR) and len(self.nodes) == MAX_NODES",
+    ),
+    "read-only: 30 after 27": read_only_after(27, "call.size > MAX_SIZE"),
+    "read-only: 30 after 28 of pages": read_only_after(28, "call.size and self.page_total() == MAX_PAGES"),
+    "read-only: 22 for an unmap of no map": read_only_after(22, "call.kind == rules.UNMAP"),
+    "read-only: an unmap of 0 is 22": read_only_after(22, "call.kind == rules.UNMAP and call.address == 0"),
+    "read-only: a truncation to the same size is done": read_only_after(
+        9,
+        "call.kind == rules.TRUNCATE and any(node.size == call.size for node in self.nodes if node.id == call.handle)",
+    ),
+    "read-only: a refused chmod sets the mode": read_only_changes(
+        "call.kind == rules.CHMOD and vars(self.nodes[-1]).update(mode=call.mode)",
+    ),
+    "read-only: a refused remove removes": read_only_changes(
+        "call.kind == rules.REMOVE and len(self.nodes) > 1 and self.nodes.pop()",
+    ),
+    "read-only: a refused create adds": read_only_changes(
+        "call.kind == rules.CREATE and call.names and"
+        " self.nodes.append(Node(len(self.nodes) + 90, 1, FILE, 7, 0, call.names[-1]))",
+    ),
+    "read-only: a refused map lives": read_only_changes("self.maps.update({call.address + UNIT: UNIT})"),
+    "read-only: a refused call closes files": read_only_changes("self.open_files.clear()"),
+    "read-only: a refused call goes back to the start": read_only_changes(
+        "[vars(file).update(cursor=0) for file in self.open_files.values()]",
+    ),
+    "read-only: a refused call is pending": replaced(
+        "tree.on_call",
+        f"refuse(30, {IS_NO_LOOK})",
+        f"self.pending = iter(()) if {IS_NO_LOOK} else None\n        refuse(30, {IS_NO_LOOK})",
+    ),
+    "read-only: a refused call stops": replaced(
+        "tree.on_call",
+        f"refuse(30, {IS_NO_LOOK})",
+        f"self.stopped = {IS_NO_LOOK}\n        refuse(30, {IS_NO_LOOK})",
+    ),
+    "read-only: no answer buffer is counted": replaced(
+        "tree.on_call",
+        "event.answer_len < ANSWER or",
+        f"event.answer_len < ANSWER and not {IS_READ_ONLY} or",
+    ),
+    "read-only: no request buffer is counted": replaced(
+        "tree.on_call",
+        "event.request_len < REQUEST",
+        f"event.request_len < REQUEST and not {IS_READ_ONLY}",
+    ),
+    "read-only: the buffers have their least lengths": added(
+        "tree.on_call",
+        "refuse(22",
+        f"refuse(34, {IS_READ_ONLY} and (event.answer_len, event.request_len) != (ANSWER, REQUEST))",
+    ),
+    "read-only: a load keeps the nodes": replaced(
+        "tree.on_load",
+        "self.nodes = ",
+        f"self.nodes = self.nodes if {IS_READ_ONLY} and len(self.nodes) > 1 else ",
+    ),
+    "read-only: no load": replaced("tree.on_load", "refuse(5, self.stopped", f"refuse(30, {IS_READ_ONLY}"),
+    "read-only: no save": replaced("tree.on_save", "refuse(5, self.stopped", f"refuse(30, {IS_READ_ONLY}"),
+    "read-only: a save with open files": replaced(
+        "tree.on_save",
+        "refuse(16, self.open_files",
+        f"refuse(16, self.open_files and not {IS_READ_ONLY}",
+    ),
+    "read-only: a load with open files": replaced(
+        "tree.on_load",
+        "refuse(16, self.open_files",
+        f"refuse(16, self.open_files and not {IS_READ_ONLY}",
+    ),
+    "read-only: a fresh guard's image is saved": added(
+        "tree.on_save",
+        "refuse(34",
+        f"image = write_image(self.nodes[:1], []) if {IS_READ_ONLY} else image",
+    ),
+    "read-only: pages are not looked at": replaced(
+        "tree.fetch",
+        "self.store.keep(reply) != node.pages[page]",
+        f"not {IS_READ_ONLY} and self.store.keep(reply) != node.pages[page]",
+    ),
+    "read-only: pages are not looked at behind the first": replaced(
+        "tree.fetch",
+        "self.store.keep(reply) != node.pages[page]",
+        f"not ({IS_READ_ONLY} and page) and self.store.keep(reply) != node.pages[page]",
+    ),
+    "read-only: listings are not looked at": replaced("tree.readdir", "stop(7, ", f"stop(7, not {IS_READ_ONLY} and "),
+    "read-only: stats are not looked at": replaced("tree.stat", "stop(6, ", f"stop(6, not {IS_READ_ONLY} and "),
     # saves, loads, the image
     "save never refused 34": dropped("tree.on_save", "refuse(34"),
     "save needs a byte more": replaced("tree.on_save", "> event.buffer_len", ">= event.buffer_len"),
@@ -1015,8 +1217,8 @@ class Mutant:
         file.write_text(mutated(clean, function, change))
         assert file.read_text() != clean, name
 
-    def guard(self):
-        """The function that makes the mutant's guard; events and outcomes are the clean model's."""
+    def guards(self):
+        """The functions that make the mutant's guards; events and outcomes are the clean model's."""
         for name in [name for name in sys.modules if name.partition(".")[0] == "mutant"]:
             del sys.modules[name]
         spec = importlib.util.spec_from_file_location(
@@ -1024,31 +1226,31 @@ class Mutant:
         )
         sys.modules["mutant"] = importlib.util.module_from_spec(spec)
         sys.modules["mutant.events"] = events
-        return importlib.import_module("mutant.tree").guard
+        return importlib.import_module("mutant.tree").GUARDS
 
 
-def differs(make_guard, recording):
+def differs(make_guards, recording):
     """Whether a guard answers a recording in another way or ends with other tables."""
-    guard = make_guard()
+    guard = make_guards[recording.letter]()
     answered = all(guard.step(event) == outcome for event, outcome in recording.steps)
     return not answered or guard.tables() != recording.guard.tables()
 
 
 def lists():
     """The lists that must tell every mutation, by seed; of seven, one in longer buffers, one of growing files, two of
-    maps; then those of a full disk.
+    maps; then those of a full disk; then, by name, the stored ones of a read-only guard.
     """
     makers = [generate_longer, generate_growing, generate_mapping, generate_mapping, generate, generate, generate]
     made = [(seed, makers[seed % len(makers)](seed)) for seed in SEEDS]
-    return made + [(seed, generate_filling(seed)) for seed in FILLING_SEEDS]
+    return made + [(seed, generate_filling(seed)) for seed in FILLING_SEEDS] + list(read_only_recordings())
 
 
 def caught_by(name, recordings):
     """The seed of a recording that tells a mutation from the clean model, or None; that one is then tried first."""
     with tempfile.TemporaryDirectory() as directory:
-        guard = Mutant(name, directory).guard()
+        guards = Mutant(name, directory).guards()
         for i, (seed, recording) in enumerate(recordings):
-            if differs(guard, recording):
+            if differs(guards, recording):
                 recordings.insert(0, recordings.pop(i))
                 return seed
     return None

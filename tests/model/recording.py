@@ -7,14 +7,14 @@ from .events import Ask, Call, Done, Load, Refused, Reply, Save
 from .image import read_image
 from .lies import LyingHost
 from .rules import CREATE, MKDIR, NO_SPACE, TRUNCATE, WRITE, put, read_call
-from .tree import guard
+from .tree import ReadOnly, guard
 
 FULL_DISK = put(NO_SPACE, 4)
 
 
 class Recording:
-    def __init__(self, random):
-        self.guard = guard()
+    def __init__(self, random, make_guard=guard):
+        self.guard = make_guard()
         self.host = LyingHost(random)
         self.steps = []
         self.asking = self.request = self.truth = b""
@@ -23,6 +23,11 @@ class Recording:
     @property
     def events(self):
         return [event for event, _ in self.steps]
+
+    @property
+    def letter(self):
+        """Which guard a stored list begins with."""
+        return "o" if isinstance(self.guard, ReadOnly) else "f"
 
     def send(self, event):
         """One event; the host obeys a request, or has done nothing where its disk is full, and hears of saves and

@@ -27,6 +27,8 @@ SPACE = 1 << 8 * ADDRESS  # the first address that there is not
 (
     CREATE, MKDIR, OPEN, CLOSE, SEEK, READ, WRITE, TRUNCATE, REMOVE, RMDIR, CHMOD, READDIR, STAT, MAP, UNMAP,
 ) = range(1, 16)
+# what a read-only guard takes, beside an open with the right to read alone
+READ_ONLY_KINDS = CLOSE, SEEK, READ, READDIR, STAT
 READ_RIGHT, WRITE_RIGHT = 1, 2
 MAX_COUNT = 4096
 
@@ -163,6 +165,11 @@ def read_call(raw):
         rest = rest[width:]
     right = all(FORMS[name](value) for name, value in values.items() if name in FORMS)
     return ParsedCall(raw, **values) if right and not rest else None
+
+
+def is_read_only(call):
+    """Whether a read-only guard takes a call of the right form."""
+    return call.rights == READ_RIGHT if call.kind == OPEN else call.kind in READ_ONLY_KINDS
 
 
 def covers(mode, rights):

@@ -10,7 +10,7 @@ from .edges import image
 from .events import Call, Load, Reply
 from .recording import Recording
 from .rules import MAX_COUNT
-from .tree import digest
+from .tree import digest, guard
 
 
 class Unrandom(Random):
@@ -27,8 +27,8 @@ class Unrandom(Random):
 
 
 class Script(Recording):
-    def __init__(self):
-        super().__init__(Unrandom())
+    def __init__(self, make_guard=guard):
+        super().__init__(Unrandom(), make_guard)
         self.shown = {}
 
     def expect(self, answer, event, shown=None):

@@ -3,7 +3,7 @@
 import unittest
 
 from .mutations import MUTATIONS, caught_by, differs, lists
-from .tree import guard
+from .tree import GUARDS
 
 
 class Mutations(unittest.TestCase):
@@ -17,4 +17,4 @@ class Mutations(unittest.TestCase):
 
     def test_the_clean_model_is_not(self):
         """Buffers that are longer change no answer either."""
-        self.assertFalse(any(differs(guard, recording) for _, recording in self.lists))
+        self.assertFalse(any(differs(GUARDS, recording) for _, recording in self.lists))

@@ -3,7 +3,7 @@
 import unittest
 
 from .transcripts import all_lines, replay
-from .tree import guard
+from .tree import GUARDS
 
 
 class Transcripts(unittest.TestCase):
@@ -20,9 +20,15 @@ class Transcripts(unittest.TestCase):
         self.assertEqual(self.lines, list(all_lines()))
 
     def test_replay(self):
-        for answer, stored in replay(self.lines, guard):
+        for answer, stored in replay(self.lines, GUARDS):
             self.assertEqual(answer, stored)
 
     def test_a_changed_line_is_seen(self):
         changed = [line.replace("c 01072f61", "c 01082f61") for line in self.lines[:10]]
-        self.assertTrue(any(answer != stored for answer, stored in replay(changed, guard)))
+        self.assertTrue(any(answer != stored for answer, stored in replay(changed, GUARDS)))
+
+    def test_both_guards_are_meant(self):
+        """One guard for all lists, and either has other answers."""
+        for make in GUARDS.values():
+            answers = replay(self.lines, dict.fromkeys(GUARDS, make))
+            self.assertTrue(any(answer != stored for answer, stored in answers))

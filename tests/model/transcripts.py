@@ -8,6 +8,7 @@ lower-case hexadecimal, and no bytes are no digits (`c `, `l  `). No line has mo
 and no event more than 65,552 bytes.
 
     f NAME              a fresh guard, and buffers of 9,690 and 1,037 bytes; a list of this name begins
+    o NAME              the same with a fresh read-only guard, which the calls go to up to the next f or o
     b ANSWER REQUEST    settings: the lengths of both buffers for the calls and replies that follow
     c CALL              a call
     r REPLY             a reply
@@ -22,9 +23,11 @@ A later kind of event or setting takes a letter of its own, so stored lines stay
 
 import sys
 
-from . import dishonest, full, maps, numbers, pages, trials
+from . import dishonest, full, maps, numbers, pages, readonly, trials
 from .events import Call, Load, Reply, Save
-from .generate import generate, generate_filling, generate_growing, generate_longer, generate_mapping
+from .generate import (
+    generate, generate_filling, generate_growing, generate_longer, generate_mapping, generate_read_only,
+)
 from .rules import ANSWER, REQUEST
 from .script import Script
 
@@ -34,10 +37,11 @@ LONGER_SEEDS = range(100, 120)
 GROWING_SEEDS = range(120, 150)
 MAPPING_SEEDS = range(150, 161)
 FILLING_SEEDS = range(161, 181)
+READ_ONLY_SEEDS = range(181, 197)
 
 
 def recordings():
-    """Every list of the file, with its name."""
+    """Every list of a guard, with its name."""
     for script in SCRIPTS:
         recording = Script()
         script(recording)
@@ -57,9 +61,17 @@ def recordings():
         yield f"seed {seed}, a full disk", generate_filling(seed)
 
 
-def write_list(name, steps, shown={}):
+def read_only_recordings():
+    """Every list of a read-only guard."""
+    yield from readonly.scripted_lists()
+    yield from readonly.dishonest_lists()
+    for seed in READ_ONLY_SEEDS:
+        yield f"seed {seed}, read-only", generate_read_only(seed)
+
+
+def write_list(name, steps, shown={}, letter="f"):
     """The lines of one list."""
-    yield f"f {name}"
+    yield f"{letter} {name}"
     buffers = ANSWER, REQUEST
     for i, (event, outcome) in enumerate(steps):
         if isinstance(event, (Call, Reply)) and buffers != (event.answer_len, event.request_len):
@@ -83,14 +95,14 @@ def event_line(event):
             return f"l {event.image.hex()} {event.digest.hex()}"
 
 
-def replay(lines, make_guard):
-    """The answers of guards to the lines of a file, beside those that stand there."""
+def replay(lines, make_guards):
+    """The answers of guards, each made by its letter, to the lines of a file, beside those that stand there."""
     guard, buffers, event = None, (ANSWER, REQUEST), None
     for line in lines:
         letter, fields = line[0], line[2:].split(" ")
         match letter:
-            case "f":
-                guard, buffers = make_guard(), (ANSWER, REQUEST)
+            case "f" | "o":
+                guard, buffers = make_guards[letter](), (ANSWER, REQUEST)
             case "b":
                 buffers = tuple(map(int, fields))
             case "c":
@@ -106,8 +118,8 @@ def replay(lines, make_guard):
 
 
 def all_lines():
-    for name, recording in recordings():
-        yield from write_list(name, recording.steps)
+    for name, recording in (*recordings(), *read_only_recordings()):
+        yield from write_list(name, recording.steps, letter=recording.letter)
 
 
 def trial_lines():

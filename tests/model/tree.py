@@ -13,6 +13,8 @@ guard.
 Each call is a coroutine: its refusals in their order (SPECIFICATION 7), then its requests, each answered by a reply,
 then the change of the tables. The pending call is the coroutine, and how far it has come is where it stands. A full
 disk ends it early: refused, or a write done with the pages that are finished.
+
+The read-only guard is the guard but for the calls that it does not take, which it refuses by their bytes alone.
 """
 
 from dataclasses import dataclass, replace
@@ -132,7 +134,12 @@ class Machine:
         call = rules.read_call(event.data)
         refuse(22, call is None)
         refuse(36, rules.is_long(call.path))
+        refuse(30, not self.takes(call))
         return self.advance(getattr(self, CALLS[call.kind])(call))
+
+    def takes(self, call):
+        """Whether a call of the right form is one for this machine."""
+        return True
 
     def on_reply(self, event):
         refuse(5, self.stopped)
@@ -405,9 +412,23 @@ CALLS = {
 }
 
 
+class ReadOnly(Machine):
+    """A machine that takes the calls which change nothing, and is the machine in all else."""
+
+    def takes(self, call):
+        return rules.is_read_only(call)
+
+
 def tree():
     return Machine(ByteStore())
 
 
 def guard():
     return Machine(DigestStore())
+
+
+def read_only_guard():
+    return ReadOnly(DigestStore())
+
+
+GUARDS = {"f": guard, "o": read_only_guard}  # by the letter that a stored list begins with

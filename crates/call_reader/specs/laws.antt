@@ -1,1 +1,3 @@
 pub mod FieldLaws
+pub mod KindLaws
+pub mod RestLaws

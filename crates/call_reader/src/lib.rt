@@ -4,7 +4,7 @@ ghost use mathlib.Core.Bool.{true};
 ghost use mathlib.Core.Path.{_≡_};
 ghost use Prim.Native.Nat.{ℕ, _<_, _≤_};
 ghost use lib.Dec.{leb};
-ghost use lib.ListN.{length, drop};
+ghost use lib.ListN.{length, getD, drop};
 ghost use Rattle.lists.specs.All.{Bytes};
 ghost use Rattle.filesystem.specs.Tables.{ID-BYTES, DATA-BYTES};
 ghost use Rattle.rules.specs.Calls.{close, seek, read, write, truncate, byPath, byNumberAndPath, byHandle};
@@ -264,6 +264,27 @@ pub fn read_call(s: &[u8]) -> ParsedCall
     match kind {
         kinds::CREATE..=kinds::OPEN => read_opening(s, kind),
         kinds::CLOSE..=kinds::TRUNCATE => read_by_handle(s, kind),
+        kinds::REMOVE..=kinds::STAT => read_by_path(s, kind),
+        kinds::MAP..=kinds::UNMAP => read_on_maps(s, kind),
+        _ => ParsedCall::Malformed,
+    }
+}
+
+// The same of a call that is no close, seek or read. A function of its own, since `read_call` is compiled into the one
+// function that calls it.
+pub fn read_other(s: &[u8]) -> ParsedCall
+    requires { ⌜ (4 ≤ getD (now s) 0 0 → 6 < getD (now s) 0 0) ⌝ }
+    ensures { λ r. ⌜ (meant r (now (s .entry)) ≡ readCall ID-BYTES (now (s .entry)))
+        × Ranges r (length (now (s .entry))) ⌝ }
+{
+    if s.len() == 0 {
+        return ParsedCall::Malformed;
+    }
+    let kind = s[0];
+    match kind {
+        kinds::CREATE..=kinds::OPEN => read_opening(s, kind),
+        kinds::WRITE => read_write(s),
+        kinds::TRUNCATE => read_truncate(s),
         kinds::REMOVE..=kinds::STAT => read_by_path(s, kind),
         kinds::MAP..=kinds::UNMAP => read_on_maps(s, kind),
         _ => ParsedCall::Malformed,

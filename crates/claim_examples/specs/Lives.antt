@@ -18,41 +18,41 @@ use Rattle.machine.specs.RestartRun.{second-half-of-lives}
 use Rattle.claim_examples.specs.Computed.{cheap, written, image, guardThen, treeThen, computed}
 use Rattle.claim_examples.specs.Examples.{cheap-fit, are-bytes, written-bytes, saved-image, honest-then}
 
-abbrev start : State (guard cheap)
+abbrev pub start : State (guard cheap)
 start = fresh cheap (guard cheap)
 
-abbrev seed : State (tree cheap)
+abbrev pub seed : State (tree cheap)
 seed = fresh cheap (tree cheap)
 
-abbrev digest : List ℕ
+abbrev pub digest : List ℕ
 digest = cheap .digest image
 
-abbrev before : List Event
+abbrev pub before : List Event
 before = written ++ (save 44776 ∷ [])
 
-abbrev afterwards : List Event
+abbrev pub afterwards : List Event
 afterwards = load image digest ∷ []
 
 -- what a fresh guard shows
-abbrev life : List Event → List Seen
+abbrev pub life : List Event → List Seen
 life es = shown cheap (guard cheap) start es
 
-abbrev lives : List (List Seen)
+abbrev pub lives : List (List Seen)
 lives = life before ∷ life afterwards ∷ []
 
-of-fresh : (es : List Event) → OfFresh cheap (life es)
+pub of-fresh : (es : List Event) → OfFresh cheap (life es)
 of-fresh es =
     shown-answers cheap (guard cheap) start es
     ∙ ap (outcomes cheap (guard cheap) start) (sym (shown-events cheap (guard cheap) start es))
 
-in-bytes : (es : List Event) → All EventBytes es → BytesSeen (life es)
+pub in-bytes : (es : List Event) → All EventBytes es → BytesSeen (life es)
 in-bytes es b = subst (All EventBytes) (sym (shown-events cheap (guard cheap) start es)) b
 
-before-bytes : All EventBytes before
+pub before-bytes : All EventBytes before
 unfolding EventBytes
 before-bytes = all-append written-bytes (both tt all-none)
 
-afterwards-bytes : All EventBytes afterwards
+pub afterwards-bytes : All EventBytes afterwards
 unfolding EventBytes
 afterwards-bytes = both {x = load image digest} (are-bytes image (computed .image-bytes), cheap-fit .bytes image) all-none
 
@@ -63,7 +63,7 @@ is-loaded =
     subst (λ i. step cheap (guard cheap) start (load i (cheap .digest i)) .outcome ≡ plain (done 0 [])) (sym (computed .guard-image))
     (load-restores cheap guardThen start h refl refl refl .0)
 
-restarts : Restarts lives
+pub restarts : Restarts lives
 unfolding Restarts Begins BeginsWith shown isDone
 restarts = both (inl (subst (λ o. isDone (o .answer)) (sym is-loaded) tt)) all-none
 
@@ -98,7 +98,7 @@ tree-saved =
     ap (final cheap (tree cheap) seed) (shown-events cheap (guard cheap) start before)
     ∙ final-then cheap (tree cheap) seed written (save 44776 ∷ [])
 
-honest-lives : HonestLives cheap seed lives
+pub honest-lives : HonestLives cheap seed lives
 unfolding HonestLives HonestSeen HonestIn shown restarted
 honest-lives = (
   before-honest,

@@ -2,9 +2,11 @@
 --   held m         the machine's state that a memory holds; `GuardState` is the type of such states
 --   Kept m         the memory of a guard: a fresh one's, and what any entry leaves of it (specs/laws/KeptLaws.antt)
 --   Ready s e      what a promise asks of the state s before the event e
---   Steps          outcome and state are those of the machine's step
+--   StepsAs x      outcome and state are those of the machine's result x; EntersAs, PromiseAs: with the buffers, of a
+--                  whole memory. Steps, Enters, Promise are those of the guard's step, ReaderEnters and ReaderPromise
+--                  those of the read-only guard's
 --   Own m m′       m′ is m but for the guard's own bytes
---   Promise, FreshPromise, SavePromise, LoadPromise    of the entries; Shown: as C sees them
+--   FreshPromise, SavePromise, LoadPromise    of the other entries; Shown: as C sees them
 -- Assumes nothing.
 use mathlib.Core.Path.{_≡_}
 use mathlib.Core.Bool.{true}
@@ -21,6 +23,7 @@ use Rattle.rules.specs.Rules.{isIdle}
 use Rattle.configuration.specs.Delivered.{delivered}
 use Rattle.machine.specs.Machine.{State, Result, step, fresh, guard as digestStore}
 use Rattle.machine.specs.Consistent.{Consistent}
+use Rattle.read_only.specs.ReadOnly.{takes, readOnlyStep}
 use Rattle.guard_state.specs.State.{stateOf}
 use Rattle.outcomes.specs.declared.Outcome.{Outcome}
 use Rattle.outcomes.specs.declared.Outcome.the-variants.{Done, Ask, Refused, Stopped}
@@ -30,14 +33,17 @@ use Rattle.guard.specs.declared.GuardOutcome.{GuardOutcome}
 abbrev pub GuardState : Type 0
 GuardState = State (digestStore delivered)
 
+abbrev pub GuardResult : Type 0
+GuardResult = Result (digestStore delivered)
+
 abbrev pub held : List ℕ → GuardState
 held m = stateOf delivered m
 
 -- what the machine makes of an event
-abbrev pub stepOf : GuardState → Event → Result (digestStore delivered)
+abbrev pub stepOf : GuardState → Event → GuardResult
 stepOf s e = step delivered (digestStore delivered) s e
 
-abbrev pub stepped : List ℕ → Event → Result (digestStore delivered)
+abbrev pub stepped : List ℕ → Event → GuardResult
 stepped m e = stepOf (held m) e
 
 pub record Kept (m : List ℕ) : Type 0 where
@@ -60,12 +66,15 @@ Ready s (reply b a q) = firstOf 0 61 (s .skeleton) ≡ 0 → answerLength delive
 Ready s (save n) = firstOf 114 0 (s .skeleton) ≡ 0 → pageTotal (s .skeleton .tables .nodes) ≤ PAGES
 Ready s (load i d) = Unit {0}
 
--- The outcome r and the state s′ are those of the step, with a and q where an answer's and a request's bytes stand. How
--- many they are is said as a number: bytes that fill a buffer do not say it.
-pub record Steps (s : GuardState) (e : Event) (r : Outcome) (s′ : GuardState) (a q : List ℕ) : Type 0 where
-  pub state : s′ ≡ stepOf s e .state
-  pub answer : answerIn r a q ≡ stepOf s e .outcome .answer
-  pub count : lengthOf r ≡ bytesIn (stepOf s e .outcome .answer)
+-- The outcome r and the state s′ are those of the result x, with a and q where an answer's and a request's bytes stand.
+-- How many they are is said as a number: bytes that fill a buffer do not say it.
+pub record StepsAs (x : GuardResult) (r : Outcome) (s′ : GuardState) (a q : List ℕ) : Type 0 where
+  pub state : s′ ≡ x .state
+  pub answer : answerIn r a q ≡ x .outcome .answer
+  pub count : lengthOf r ≡ bytesIn (x .outcome .answer)
+
+abbrev pub Steps : GuardState → Event → Outcome → GuardState → (a q : List ℕ) → Type 0
+Steps s e r s′ a q = StepsAs (stepOf s e) r s′ a q
 
 -- only the guard's own bytes change
 pub record Own (m m′ : List ℕ) : Type 0 where
@@ -75,19 +84,40 @@ pub record Own (m m′ : List ℕ) : Type 0 where
 abbrev pub buffers : (answer request : List ℕ) → Buffers
 buffers a q = record { answer = a; request = q }
 
--- Of a call or a reply, with the buffers b before and b′ afterwards. On a memory that is no guard's own a stop is for
--- good too.
-pub record Enters (s : GuardState) (e : Event) (r : Outcome) (s′ : GuardState) (b b′ : Buffers) : Type 0 where
-  pub steps : Ready s e → Steps s e r s′ (b′ .answer) (b′ .request)
-  pub buffers-after : Ready s e → b′ ≡ buffersAfter (stepOf s e .outcome .answer) b
+-- Of a call or a reply that asks R, with the buffers b before and b′ afterwards. On a memory that is no guard's own a
+-- stop is for good too.
+pub record EntersAs (R : Type 0) (x : GuardResult) (r : Outcome) (s′ : GuardState) (b b′ : Buffers) : Type 0 where
+  pub steps : R → StepsAs x r s′ (b′ .answer) (b′ .request)
+  pub buffers-after : R → b′ ≡ buffersAfter (x .outcome .answer) b
   pub stops : (n : ℕ) → r ≡ Stopped n → s′ .skeleton .stopped ≡ true
 
-pub record Promise (m : List ℕ) (e : Event) (r : Outcome) (m′ : List ℕ) (b b′ : Buffers) : Type 0 where
+pub record PromiseAs (m : List ℕ) (e : Event) (R : Type 0) (x : GuardResult) (r : Outcome) (m′ : List ℕ)
+    (b b′ : Buffers) : Type 0 where
   pub bytes : EventBytes e
   pub own : Own m m′
-  pub enters : memorySize ≤ length m → Enters (held m) e r (held m′) b b′
+  pub enters : memorySize ≤ length m → EntersAs R x r (held m′) b b′
   -- a memory that is too short is refused
   pub short : length m < memorySize → (r ≡ Refused 34) × (m′ ≡ m) × (b′ ≡ b)
+
+-- the guard's
+abbrev pub Enters : GuardState → Event → Outcome → GuardState → (b b′ : Buffers) → Type 0
+Enters s e r s′ b b′ = EntersAs (Ready s e) (stepOf s e) r s′ b b′
+
+abbrev pub Promise : List ℕ → Event → Outcome → List ℕ → (b b′ : Buffers) → Type 0
+Promise m e r m′ b b′ = PromiseAs m e (Ready (held m) e) (stepped m e) r m′ b b′
+
+-- the read-only guard's; of a call that it does not take nothing is asked
+abbrev pub ReaderReady : GuardState → Event → Type 0
+ReaderReady s e = takes delivered e ≡ true → Ready s e
+
+abbrev pub readerStepOf : GuardState → Event → GuardResult
+readerStepOf s e = readOnlyStep delivered (digestStore delivered) s e
+
+abbrev pub ReaderEnters : GuardState → Event → Outcome → GuardState → (b b′ : Buffers) → Type 0
+ReaderEnters s e r s′ b b′ = EntersAs (ReaderReady s e) (readerStepOf s e) r s′ b b′
+
+abbrev pub ReaderPromise : List ℕ → Event → Outcome → List ℕ → (b b′ : Buffers) → Type 0
+ReaderPromise m e r m′ b b′ = PromiseAs m e (ReaderReady (held m) e) (readerStepOf (held m) e) r m′ b b′
 
 -- Of a fresh guard.
 pub record FreshPromise (m : List ℕ) (r : Outcome) (m′ : List ℕ) : Type 0 where

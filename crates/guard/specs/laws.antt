@@ -5,3 +5,4 @@ pub mod FrontLaws
 pub mod EntryLaws
 pub mod KeptLaws
 pub mod ZeroLaws
+pub mod ReaderLaws

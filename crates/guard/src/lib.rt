@@ -18,6 +18,8 @@ ghost use Rattle.guard.specs.Numbers.{waits};
 ghost use Rattle.guard.specs.Promise.{held, firstOf, Ready, Steps, Saving, Shown, NotDone, NotAsked, shownAs};
 use guard_state::Guard;
 
+pub mod reader;
+
 // The least lengths of the answer buffer, for the longest listing, and of the request buffer, for a store.
 pub const ANSWER_LENGTH: usize = outcomes::ANSWER_LENGTH;
 

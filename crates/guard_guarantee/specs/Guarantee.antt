@@ -8,6 +8,10 @@ use Rattle.machine.specs.Run.{first-half}
 use Rattle.machine.specs.HonestRun.{second-half}
 use Rattle.machine.specs.Restart.{FirstHalfOfLives, SecondHalfOfLives}
 use Rattle.machine.specs.RestartRun.{first-half-of-lives, second-half-of-lives}
+use Rattle.read_only.specs.Claim.{ReadOnlyClaim}
+use Rattle.read_only.specs.Lives.{FirstHalfOfLives as FirstWithReaders, SecondHalfOfLives as SecondWithReaders}
+use Rattle.read_only.specs.laws.ClaimLaws.{read-only-claim}
+use Rattle.read_only.specs.laws.LifeLaws.{first-half-with-readers, second-half-with-readers}
 
 pub delivered-fit : Fit delivered
 unfolding delivered
@@ -27,3 +31,14 @@ agreement-of-lives = first-half-of-lives delivered delivered-fit
 
 pub no-stop-of-lives : SecondHalfOfLives delivered
 no-stop-of-lives = second-half-of-lives delivered delivered-fit
+
+-- and where guards and read-only guards take turns
+pub agreement-with-readers : FirstWithReaders delivered
+agreement-with-readers = first-half-with-readers delivered delivered-fit
+
+pub no-stop-with-readers : SecondWithReaders delivered
+no-stop-with-readers = second-half-with-readers delivered delivered-fit
+
+-- a read-only guard saves what it loaded
+pub read-only : ReadOnlyClaim delivered
+read-only = read-only-claim delivered

@@ -26,8 +26,9 @@ use Rattle.rules.specs.Requests.{storeLength, closeRequest, fetchRequest, store
 use Rattle.filesystem.specs.MemoryMaps.{Map}
 use Rattle.rules.specs.MapRules.{isMapSize, mapFaults, findMap, overlaps, mapsAfter, mapNumber}
 use Rattle.rules.specs.Rules.{noRoom, callChecks, readAction, callAction, isNumber, isDescriptor, entryForm, sameEntry, isListing, statBytes, replyChecks, replyAction, isFull, saysFull, fullAction, isIdle, callOr, imageOr, isNone, eventChecks, eventAction, judge, mapChecks, mapReasons, reasons}
-use Rattle.rules.specs.Skeleton.{answerLength, requestLength, Answer, done, ask, refused, stopped, Outcome}
-use Rattle.machine.specs.Machine.{Store, State, readOn, finishChange, pagesStored, askStore, onPage, pagesFrom, apply, step, zeroDigest, guard}
+use Rattle.rules.specs.Skeleton.{Event, answerLength, requestLength, Answer, done, ask, refused, stopped, Outcome}
+use Rattle.machine.specs.Machine.{Store, State, Result, readOn, finishChange, pagesStored, askStore, onPage, pagesFrom, apply, step, zeroDigest, guard}
+use Rattle.read_only.specs.ReadOnly.{takesCall, lengthChecks, formChecks, readOnlyChecks, readOnlyStep}
 use Rattle.machine.specs.Tree.{tree, digestsOf, lookup, goBack}
 use Rattle.rule_examples.specs.Bytes.{bytesOf, times, pagesOf, pages, ends, digest, config}
 use Rattle.rule_examples.specs.Given.{Item, Given, concatenated, bytesIn, digestsIn}
@@ -104,17 +105,36 @@ sameOpen m n =
 abbrev pub sameMap : Map → Map → Bool
 sameMap m n = eqb (m .address) (n .address) && eqb (m .size) (n .size)
 
--- a store, and what it keeps of a file's bytes
+-- a store, the step over it, and what it keeps of a file's bytes
 pub record Side : Type 1 where
   pub store : Store
+  pub steps : State store → Event → Result store
   pub keeps : (size : ℕ) → List ℕ → store .Content
   pub isKept : (size : ℕ) → List ℕ → store .Content → Bool
 
+abbrev pub guardAs : (State (guard config) → Event → Result (guard config)) → Side
+guardAs f = record {
+  store = guard config;
+  steps = f;
+  keeps = λ n b. map digest (pages n b);
+  isKept = λ n b x. alike equal (map digest (pages n b)) x;
+}
+
+abbrev pub treeAs : (State (tree config) → Event → Result (tree config)) → Side
+treeAs f = record { store = tree config; steps = f; keeps = λ n b. b; isKept = λ n b x. equal b x }
+
 abbrev pub guardSide : Side
-guardSide = record { store = guard config; keeps = λ n b. map digest (pages n b); isKept = λ n b x. alike equal (map digest (pages n b)) x }
+guardSide = guardAs (step config (guard config))
 
 abbrev pub treeSide : Side
-treeSide = record { store = tree config; keeps = λ n b. b; isKept = λ n b x. equal b x }
+treeSide = treeAs (step config (tree config))
+
+-- the read-only guard's
+abbrev pub readerSide : Side
+readerSide = guardAs (readOnlyStep config (guard config))
+
+abbrev pub readerTreeSide : Side
+readerTreeSide = treeAs (readOnlyStep config (tree config))
 
 module _ (S : Side) where
   abbrev pub begun : Given → State (S .store)
@@ -129,24 +149,33 @@ module _ (S : Side) where
   isContent i x = elim (i .bytes) [ none ↦ true | some b ↦ S .isKept (i .node .size) b x ]
 
   unfoldable pub runs : State (S .store) → List Line → Bool
-  unfolding scan answers digestFor alike isContent bytesOf times pagesOf ends digest placed lent bytesIn digestsIn itsBytes concatenated step judge eventChecks eventAction callChecks callAction readAction replyChecks replyAction isFull saysFull fullAction before isIdle callOr isNone decide pick noRoom apply readOn finishChange pagesStored askStore onPage pagesFrom answerLength requestLength storeLength signed isNumber isDescriptor closeRequest fetchRequest storeRequest cutRequest pageAt overlay truncating first last fetches fill sizeSent cuts sizeAfter cursorAfter numberOf callBytes byPath byNumberAndPath byHandle byHandleAndNumber byHandleAndBytes readFields readCall joined pathBytes componentForm onto split afterSlash readPath tooLong childAt walk walkChecks parentChecks parentOf lastOf coverTable covers pagesFor pageTotal nodeAt openAt findId findChild children findHandle findDescriptor setMode setSize setCursor bind front get₂ get-as get-all ended whole encode decode every any place select without tab equal imageOr unique put-all nodeForm imageForm flatten divide climb pathLength inLimits parentsEarlier soundNodes sound print recordsLength imageLength parse pageOf bytesAt resized splice pagePart bytesAfter zeroDigest replaced digestsOf lookup goBack entryForm sameEntry isListing statBytes isRearranged mapChecks mapReasons reasons byNumber isMapSize mapFaults findMap overlaps mapsAfter mapNumber
+  unfolding scan answers digestFor alike isContent bytesOf times pagesOf ends digest placed lent bytesIn digestsIn itsBytes concatenated step judge eventChecks eventAction callChecks callAction readAction replyChecks replyAction isFull saysFull fullAction before isIdle callOr isNone decide pick noRoom apply readOn finishChange pagesStored askStore onPage pagesFrom answerLength requestLength storeLength signed isNumber isDescriptor closeRequest fetchRequest storeRequest cutRequest pageAt overlay truncating first last fetches fill sizeSent cuts sizeAfter cursorAfter numberOf callBytes byPath byNumberAndPath byHandle byHandleAndNumber byHandleAndBytes readFields readCall joined pathBytes componentForm onto split afterSlash readPath tooLong childAt walk walkChecks parentChecks parentOf lastOf coverTable covers pagesFor pageTotal nodeAt openAt findId findChild children findHandle findDescriptor setMode setSize setCursor bind front get₂ get-as get-all ended whole encode decode every any place select without tab equal imageOr unique put-all nodeForm imageForm flatten divide climb pathLength inLimits parentsEarlier soundNodes sound print recordsLength imageLength parse pageOf bytesAt resized splice pagePart bytesAfter zeroDigest replaced digestsOf lookup goBack entryForm sameEntry isListing statBytes isRearranged mapChecks mapReasons reasons byNumber isMapSize mapFaults findMap overlaps mapsAfter mapNumber takesCall lengthChecks formChecks readOnlyChecks readOnlyStep
   runs s [] = true
-  runs s ((e ⇒ x) ∷ ls) = let r = step config (S .store) s e in meets x (r .outcome) && runs (r .state) ls
+  runs s ((e ⇒ x) ∷ ls) = let r = S .steps s e in meets x (r .outcome) && runs (r .state) ls
   runs s (holds is os ∷ ls) =
       alike (λ i n. sameNode (i .node) n) is (s .skeleton .tables .nodes)
       && (alike isContent is (s .contents)
       && (alike sameOpen os (s .skeleton .tables .opens) && runs s ls))
   runs s (lives ms ∷ ls) = alike sameMap ms (s .skeleton .maps) && runs s ls
 
--- the titles of the rows that do not hold on both
-unfoldable pub wrong : List Row → List String
-unfolding runs pick
-wrong [] = []
-wrong (r ∷ rs) =
-    pick (runs guardSide (begun guardSide (r .start)) (r .lines) && runs treeSide (begun treeSide (r .start)) (r .lines)) (wrong rs) (r .title ∷ wrong rs)
-
 -- the titles of the rows that do not hold on one of them
 unfoldable pub wrongOn : Side → List Row → List String
 unfolding runs pick
 wrongOn S [] = []
 wrongOn S (r ∷ rs) = pick (runs S (begun S (r .start)) (r .lines)) (wrongOn S rs) (r .title ∷ wrongOn S rs)
+
+-- the titles of the rows that do not hold on both; on both of the read-only guard
+unfoldable pub wrongOnBoth : (S T : Side) → List Row → List String
+unfolding runs pick
+wrongOnBoth S T [] = []
+wrongOnBoth S T (r ∷ rs) =
+    pick (runs S (begun S (r .start)) (r .lines) && runs T (begun T (r .start)) (r .lines)) (wrongOnBoth S T rs)
+    (r .title ∷ wrongOnBoth S T rs)
+
+unfoldable pub wrong : List Row → List String
+unfolding wrongOnBoth
+wrong rs = wrongOnBoth guardSide treeSide rs
+
+unfoldable pub wrongReading : List Row → List String
+unfolding wrongOnBoth
+wrongReading rs = wrongOnBoth readerSide readerTreeSide rs

@@ -19,6 +19,7 @@ pub mod Truncations
 pub mod FullDisk
 pub mod Replies
 pub mod Maps
+pub mod ReadOnly
 pub mod SaveLoad
 pub mod Soundness
 pub mod LargeNumbers

@@ -2,7 +2,7 @@
 -- Assumes nothing.
 use mathlib.Core.Path.{_≡_, refl, ap, sym, _∙_, subst}
 use mathlib.Core.Logic.{_↔_}
-use mathlib.Core.Bool.{Bool, true, false, _&&_, not, true≢false}
+use mathlib.Core.Bool.{Bool, true, false, _&&_, not, true≢false, false≢true}
 use mathlib.Core.List.{List, [], _∷_, _++_}
 use Prim.Native.Nat.{ℕ, suc, _≤_}
 use native.Mathlib.Omega.{arith}
@@ -115,42 +115,43 @@ checks-known c sk (reply r a q) = both refl (both refl (both refl all-none))
 checks-known c sk (save n) = both refl (both refl (both refl (both refl all-none)))
 checks-known c sk (load i d) = both refl (both refl (both refl (both refl (both refl all-none))))
 
--- A move that is no refusal, and if a stop, one for a reason.
-abbrev Acts : Move → Type 0
-Acts (refuse n) = ⊥
-Acts (halt n) = isReason n ≡ true
-Acts (send p q) = Unit {0}
-Acts (finish t n b) = Unit {0}
-Acts (add n) = Unit {0}
-Acts (delete k) = Unit {0}
-Acts (remap x) = Unit {0}
-Acts (readPage k o p n i r) = Unit {0}
-Acts (begin k o q) = Unit {0}
-Acts (fillPage k o q i r) = Unit {0}
-Acts (stored k o q i) = Unit {0}
-Acts (cutDone k o q) = Unit {0}
-Acts (keepPages k o q i) = Unit {0}
-Acts giveUp = Unit {0}
-Acts saving = Unit {0}
-Acts (loading i d) = Unit {0}
+-- A move that is no refusal; if a stop, one for a reason; if a request, one that something waits for; a call given up
+-- only where that may be.
+abbrev pub Acts : (mayGiveUp : Bool) → Move → Type 0
+Acts u (refuse n) = ⊥
+Acts u (halt n) = isReason n ≡ true
+Acts u (send p q) = isIdle p ≡ false
+Acts u (finish t n b) = Unit {0}
+Acts u (add n) = Unit {0}
+Acts u (delete k) = Unit {0}
+Acts u (remap x) = Unit {0}
+Acts u (readPage k o p n i r) = Unit {0}
+Acts u (begin k o q) = Unit {0}
+Acts u (fillPage k o q i r) = Unit {0}
+Acts u (stored k o q i) = Unit {0}
+Acts u (cutDone k o q) = Unit {0}
+Acts u (keepPages k o q i) = Unit {0}
+Acts u giveUp = u ≡ true
+Acts u saving = Unit {0}
+Acts u (loading i d) = Unit {0}
 
-call-acts : (t : Tables) (w : ℕ) (q : Call) → Acts (callAction t w q)
-unfolding callAction readAction
-call-acts t w (create m p) = tt
-call-acts t w (mkdir m p) = tt
-call-acts t w (openAs r p) = tt
-call-acts t w (close h) = tt
-call-acts t w (seek h n) = tt
-call-acts t w (read h n) = pick-ind Acts _ (λ _. tt) (λ _. tt)
-call-acts t w (write h d) = pick-ind Acts _ (λ _. tt) (λ _. tt)
-call-acts t w (truncate h n) = pick-ind Acts _ (λ _. tt) (λ _. tt)
-call-acts t w (remove p) = tt
-call-acts t w (rmdir p) = tt
-call-acts t w (chmod m p) = tt
-call-acts t w (readdir p) = tt
-call-acts t w (stat p) = tt
-call-acts t w (mapMemory n) = tt
-call-acts t w (unmap a) = tt
+call-acts : (u : Bool) (t : Tables) (w : ℕ) (q : Call) → Acts u (callAction t w q)
+unfolding callAction readAction isIdle
+call-acts u t w (create m p) = refl
+call-acts u t w (mkdir m p) = refl
+call-acts u t w (openAs r p) = refl
+call-acts u t w (close h) = refl
+call-acts u t w (seek h n) = tt
+call-acts u t w (read h n) = pick-ind (Acts u) _ (λ _. tt) (λ _. refl)
+call-acts u t w (write h d) = pick-ind (Acts u) _ (λ _. tt) (λ _. tt)
+call-acts u t w (truncate h n) = pick-ind (Acts u) _ (λ _. tt) (λ _. tt)
+call-acts u t w (remove p) = refl
+call-acts u t w (rmdir p) = refl
+call-acts u t w (chmod m p) = refl
+call-acts u t w (readdir p) = refl
+call-acts u t w (stat p) = refl
+call-acts u t w (mapMemory n) = refl
+call-acts u t w (unmap a) = refl
 
 module _ (w : ℕ) (t : Tables) (r : List ℕ) where
   reply-reasons : (p : Pending) → All Reason (replyChecks w t r p)
@@ -187,106 +188,58 @@ module _ (w : ℕ) (t : Tables) (r : List ℕ) where
   map-reasons ms (storing k o q i) = all-none
   map-reasons ms (cutting k o q) = all-none
 
-  reply-acts : (p : Pending) → isIdle p ≡ false → Acts (replyAction w t r p)
+  reply-acts : (u : Bool) (p : Pending) → isIdle p ≡ false → Acts u (replyAction w t r p)
   unfolding replyAction isIdle
-  reply-acts idle e = absurd (true≢false e)
-  reply-acts (asked (creating p k m name)) e = tt
-  reply-acts (asked (opening k rights)) e = tt
-  reply-acts (asked (closing o)) e = tt
-  reply-acts (asked (removing k)) e = tt
-  reply-acts (asked (changing k m)) e = tt
-  reply-acts (asked (listing k)) e = tt
-  reply-acts (asked (stating k)) e = tt
-  reply-acts (asked (mapping n)) e = tt
-  reply-acts (asked (unmapping a)) e = tt
-  reply-acts (reading k o p n i) e = tt
-  reply-acts (fetching k o q i) e = tt
-  reply-acts (storing k o q i) e = tt
-  reply-acts (cutting k o q) e = tt
+  reply-acts u idle e = absurd (true≢false e)
+  reply-acts u (asked (creating p k m name)) e = tt
+  reply-acts u (asked (opening k rights)) e = tt
+  reply-acts u (asked (closing o)) e = tt
+  reply-acts u (asked (removing k)) e = tt
+  reply-acts u (asked (changing k m)) e = tt
+  reply-acts u (asked (listing k)) e = tt
+  reply-acts u (asked (stating k)) e = tt
+  reply-acts u (asked (mapping n)) e = tt
+  reply-acts u (asked (unmapping a)) e = tt
+  reply-acts u (reading k o p n i) e = tt
+  reply-acts u (fetching k o q i) e = tt
+  reply-acts u (storing k o q i) e = tt
+  reply-acts u (cutting k o q) e = tt
 
-full-acts : (p : Pending) → Acts (fullAction p)
+full-acts : (p : Pending) → Acts true (fullAction p)
 unfolding fullAction
-full-acts idle = tt
-full-acts (asked x) = tt
-full-acts (reading k o p n i) = tt
-full-acts (fetching k o q i) = tt
-full-acts (storing k o q i) = pick-ind Acts (ltb (first q) i) (λ _. tt) (λ _. tt)
-full-acts (cutting k o q) = tt
-
--- every move but a call given up
-abbrev NoGive : Move → Type 0
-NoGive (refuse n) = Unit {0}
-NoGive (halt n) = Unit {0}
-NoGive (send p q) = Unit {0}
-NoGive (finish t n b) = Unit {0}
-NoGive (add n) = Unit {0}
-NoGive (delete k) = Unit {0}
-NoGive (remap x) = Unit {0}
-NoGive (readPage k o p n i r) = Unit {0}
-NoGive (begin k o q) = Unit {0}
-NoGive (fillPage k o q i r) = Unit {0}
-NoGive (stored k o q i) = Unit {0}
-NoGive (cutDone k o q) = Unit {0}
-NoGive (keepPages k o q i) = Unit {0}
-NoGive giveUp = ⊥
-NoGive saving = Unit {0}
-NoGive (loading i d) = Unit {0}
-
-call-no-give : (t : Tables) (w : ℕ) (q : Call) → NoGive (callAction t w q)
-unfolding callAction readAction
-call-no-give t w (create m p) = tt
-call-no-give t w (mkdir m p) = tt
-call-no-give t w (openAs r p) = tt
-call-no-give t w (close h) = tt
-call-no-give t w (seek h n) = tt
-call-no-give t w (read h n) = pick-ind NoGive _ (λ _. tt) (λ _. tt)
-call-no-give t w (write h d) = pick-ind NoGive _ (λ _. tt) (λ _. tt)
-call-no-give t w (truncate h n) = pick-ind NoGive _ (λ _. tt) (λ _. tt)
-call-no-give t w (remove p) = tt
-call-no-give t w (rmdir p) = tt
-call-no-give t w (chmod m p) = tt
-call-no-give t w (readdir p) = tt
-call-no-give t w (stat p) = tt
-call-no-give t w (mapMemory n) = tt
-call-no-give t w (unmap a) = tt
-
-reply-no-give : (w : ℕ) (t : Tables) (r : List ℕ) (p : Pending) → NoGive (replyAction w t r p)
-unfolding replyAction
-reply-no-give w t r idle = tt
-reply-no-give w t r (asked (creating p k m name)) = tt
-reply-no-give w t r (asked (opening k rights)) = tt
-reply-no-give w t r (asked (closing o)) = tt
-reply-no-give w t r (asked (removing k)) = tt
-reply-no-give w t r (asked (changing k m)) = tt
-reply-no-give w t r (asked (listing k)) = tt
-reply-no-give w t r (asked (stating k)) = tt
-reply-no-give w t r (asked (mapping n)) = tt
-reply-no-give w t r (asked (unmapping a)) = tt
-reply-no-give w t r (reading k o p n i) = tt
-reply-no-give w t r (fetching k o q i) = tt
-reply-no-give w t r (storing k o q i) = tt
-reply-no-give w t r (cutting k o q) = tt
+full-acts idle = refl
+full-acts (asked x) = refl
+full-acts (reading k o p n i) = refl
+full-acts (fetching k o q i) = refl
+full-acts (storing k o q i) = pick-ind (Acts true) (ltb (first q) i) (λ _. tt) (λ _. refl)
+full-acts (cutting k o q) = refl
 
 not-true : (b : Bool) → not b ≡ true → b ≡ false
 not-true true e = absurd (true≢false (sym e))
 not-true false e = refl
 
 module _ (c : Config) (sk : Skeleton) where
-  action-acts : (e : Event) → Passed (eventChecks c sk e) → Acts (eventAction c sk e)
-  unfolding eventChecks eventAction reasons
-  action-acts (call s a q) p = call-acts (sk .tables) (c .width) (callOr (readCall (c .width) s))
-  action-acts (reply r a q) (both _ (both i _)) =
-      pick-ind Acts (tellsFull (c .width) r (sk .pending)) (λ _. full-acts (sk .pending))
-      (λ _. decide-ind halt Acts (reasons (c .width) sk r) _
+  -- a reply that does not tell a full disk is judged
+  judged-acts : (u : Bool) (r : List ℕ) → isIdle (sk .pending) ≡ false
+      → Acts u (decide halt (reasons (c .width) sk r) (replyAction (c .width) (sk .tables) r (sk .pending)))
+  unfolding reasons
+  judged-acts u r i =
+      decide-ind halt (Acts u) (reasons (c .width) sk r) _
       (λ n f. first-has (all-append (reply-reasons (c .width) (sk .tables) r (sk .pending)) (map-reasons (c .width) (sk .tables) r (sk .maps) (sk .pending))) f)
-      (λ _. reply-acts (c .width) (sk .tables) r (sk .pending) i))
+      (λ _. reply-acts (c .width) (sk .tables) r u (sk .pending) i)
+
+  pub action-acts : (e : Event) → Passed (eventChecks c sk e) → Acts true (eventAction c sk e)
+  unfolding eventChecks eventAction
+  action-acts (call s a q) p = call-acts true (sk .tables) (c .width) (callOr (readCall (c .width) s))
+  action-acts (reply r a q) (both _ (both i _)) =
+      pick-ind (Acts true) (tellsFull (c .width) r (sk .pending)) (λ _. full-acts (sk .pending)) (λ _. judged-acts true r i)
   action-acts (save n) p = tt
   action-acts (load i d) p = tt
 
   -- an event is refused n exactly where n is the first of its numbers whose condition holds
   pub refused-exactly : (e : Event) (n : ℕ) → (judge c sk e ≡ refuse n) ↔ First n (eventChecks c sk e)
   unfolding judge
-  refused-exactly e n = decide-exactly refuse (eventChecks c sk e) (eventAction c sk e) n (λ p m q. subst Acts q (action-acts e p)) (λ m k q. cc)
+  refused-exactly e n = decide-exactly refuse (eventChecks c sk e) (eventAction c sk e) n (λ p m q. subst (Acts true) q (action-acts e p)) (λ m k q. cc)
 
   -- a call is given up exactly where no number holds, the host says that the disk is full where it may, and no page is finished
   full-gives : (p : Pending) → (fullAction p ≡ giveUp) ↔ (finished p ≡ false)
@@ -298,21 +251,20 @@ module _ (c : Config) (sk : Skeleton) where
   full-gives (storing k o q i) = go (is (ltb (first q) i))
     where
       go : Is (ltb (first q) i) → (pick (ltb (first q) i) (keepPages k o q i) giveUp ≡ giveUp) ↔ (ltb (first q) i ≡ false)
-      go (isT e) = (λ x. absurd (subst NoGive (sym (pick-true _ _ _ e) ∙ x) tt), λ x. absurd (true≢false (sym e ∙ x)))
+      go (isT e) = (λ x. absurd (false≢true (subst (Acts false) (sym (pick-true _ _ _ e) ∙ x) tt)), λ x. absurd (true≢false (sym e ∙ x)))
       go (isF e) = (λ _. e, λ _. pick-false _ _ _ e)
   full-gives (cutting k o q) = (λ _. refl, λ _. refl)
 
   up-to : (e : Event) → Passed (eventChecks c sk e) → eventAction c sk e ≡ giveUp → givesUp c sk e ≡ true
   unfolding eventChecks eventAction givesUp
-  up-to (call s a q) p x = absurd (subst NoGive x (call-no-give (sk .tables) (c .width) (callOr (readCall (c .width) s))))
+  up-to (call s a q) p x = absurd (false≢true (subst (Acts false) x (call-acts false (sk .tables) (c .width) (callOr (readCall (c .width) s)))))
   up-to (reply r a q) (both _ (both i _)) x = go (is (tellsFull (c .width) r (sk .pending)))
     where
       go : Is (tellsFull (c .width) r (sk .pending)) → (tellsFull (c .width) r (sk .pending) && not (finished (sk .pending))) ≡ true
       go (isT e) = and-both _ _ e (ap not (full-gives (sk .pending) .0 (sym (pick-true _ _ _ e) ∙ x)))
-      go (isF e) = absurd (subst NoGive (sym (pick-false _ _ _ e) ∙ x)
-          (decide-ind halt NoGive (reasons (c .width) sk r) _ (λ n f. tt) (λ _. reply-no-give (c .width) (sk .tables) r (sk .pending))))
-  up-to (save n) p x = absurd (subst NoGive x tt)
-  up-to (load i d) p x = absurd (subst NoGive x tt)
+      go (isF e) = absurd (false≢true (subst (Acts false) (sym (pick-false _ _ _ e) ∙ x) (judged-acts false r i)))
+  up-to (save n) p x = absurd (false≢true (subst (Acts false) x tt))
+  up-to (load i d) p x = absurd (false≢true (subst (Acts false) x tt))
 
   up-from : (e : Event) → givesUp c sk e ≡ true → eventAction c sk e ≡ giveUp
   unfolding eventAction givesUp
@@ -328,7 +280,7 @@ module _ (c : Config) (sk : Skeleton) where
   unfolding judge
   gives-up-exactly e = (
     decide-ind refuse (λ m. m ≡ giveUp → Passed (eventChecks c sk e) × (givesUp c sk e ≡ true)) (eventChecks c sk e) (eventAction c sk e)
-        (λ n f x. absurd (subst NoGive x tt)) (λ p x. (p, up-to e p x)),
+        (λ n f x. absurd (let z : _≡_ {A = ℕ} 0 1 = cc in omega arith)) (λ p x. (p, up-to e p x)),
     λ (p, g). decide-passed refuse _ _ p ∙ up-from e g,
   )
 
@@ -336,7 +288,7 @@ module _ (c : Config) (sk : Skeleton) where
   unfolding judge
   halt-reason e n =
       decide-ind refuse (λ m. m ≡ halt n → isReason n ≡ true) (eventChecks c sk e) (eventAction c sk e)
-      (λ m f q. absurd (let z : _≡_ {A = ℕ} 0 1 = cc in omega arith)) (λ p q. subst Acts q (action-acts e p))
+      (λ m f q. absurd (let z : _≡_ {A = ℕ} 0 1 = cc in omega arith)) (λ p q. subst (Acts true) q (action-acts e p))
 
 -- SPECIFICATION 13.3: a reply that no reason stops is acted on, where it does not say that the disk is full.
 pub reply-goes : (c : Config) (sk : Skeleton) (r : List ℕ) (a q : ℕ) → Passed (eventChecks c sk (reply r a q))

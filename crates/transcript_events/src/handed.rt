@@ -2,12 +2,17 @@
 ghost use Prim.Native.Nat.{_≤_};
 ghost use lib.ListN.{length};
 ghost use Rattle.transcript_lines.specs.Room.{answerLine};
+use super::Entry;
 use super::Lengths;
 use outcomes::Outcome;
 use text::hex::Decoded;
 
 fn call(memory: &mut [u8], bytes: &[u8], answer: &mut [u8], request: &mut [u8]) -> Outcome {
     guard::on_call(memory, bytes, answer, request)
+}
+
+fn reader_call(memory: &mut [u8], bytes: &[u8], answer: &mut [u8], request: &mut [u8]) -> Outcome {
+    guard::reader::on_call(memory, bytes, answer, request)
 }
 
 fn reply(memory: &mut [u8], bytes: &[u8], answer: &mut [u8], request: &mut [u8]) -> Outcome {
@@ -19,12 +24,13 @@ fn hand_in(
     bytes: &[u8],
     answer: &mut [u8],
     request: &mut [u8],
-    is_reply: bool,
+    entry: Entry,
 ) -> Outcome {
-    if is_reply {
-        return reply(memory, bytes, answer, request);
+    match entry {
+        Entry::Call => call(memory, bytes, answer, request),
+        Entry::ReaderCall => reader_call(memory, bytes, answer, request),
+        Entry::Reply => reply(memory, bytes, answer, request),
     }
-    call(memory, bytes, answer, request)
 }
 
 // With the front of both buffers, as long as is set.
@@ -34,37 +40,25 @@ fn lend(
     answer: &mut [u8],
     request: &mut [u8],
     l: Lengths,
-    is_reply: bool,
+    entry: Entry,
 ) -> Outcome {
     let a = line_input::at_most(l.answer, answer.len());
     let q = line_input::at_most(l.request, request.len());
-    hand_in(memory, bytes, &mut answer[..a], &mut request[..q], is_reply)
+    hand_in(memory, bytes, &mut answer[..a], &mut request[..q], entry)
 }
 
-fn answer_bytes(
-    memory: &mut [u8],
-    bytes: &[u8],
-    said: &mut [u8],
-    l: Lengths,
-    is_reply: bool,
-) -> usize
+fn answer_bytes(memory: &mut [u8], bytes: &[u8], said: &mut [u8], l: Lengths, entry: Entry) -> usize
     requires { ⌜ answerLine ≤ length (now said) ⌝ }
     ensures { λ r. ⌜ r ≤ length (now (said .exit)) ⌝ }
 {
     let mut answer = [0u8; super::ANSWER_ROOM];
     let mut request = [0u8; super::REQUEST_ROOM];
-    let o = lend(memory, bytes, &mut answer, &mut request, l, is_reply);
+    let o = lend(memory, bytes, &mut answer, &mut request, l, entry);
     transcript_lines::answers::outcome(o, &answer, &request, said)
 }
 
 // Digits handed in as a call or a reply.
-pub fn answer(
-    memory: &mut [u8],
-    digits: &[u8],
-    said: &mut [u8],
-    l: Lengths,
-    is_reply: bool,
-) -> usize
+pub fn answer(memory: &mut [u8], digits: &[u8], said: &mut [u8], l: Lengths, entry: Entry) -> usize
     requires { ⌜ answerLine ≤ length (now said) ⌝ }
     ensures { λ r. ⌜ r ≤ length (now (said .exit)) ⌝ }
 {
@@ -72,5 +66,5 @@ pub fn answer(
     let Decoded::Bytes(n) = text::hex::decode(digits, &mut bytes) else {
         return transcript_lines::answers::bad(said);
     };
-    answer_bytes(memory, desk_lines::first(&bytes, n), said, l, is_reply)
+    answer_bytes(memory, desk_lines::first(&bytes, n), said, l, entry)
 }

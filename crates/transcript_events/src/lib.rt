@@ -12,6 +12,13 @@ pub struct Lengths {
     pub request: usize,
 }
 
+// The entry that bytes are handed to.
+pub enum Entry {
+    Call,
+    ReaderCall,
+    Reply,
+}
+
 // The longest buffers that are lent: a longer one than the least is lent as such.
 pub const ANSWER_ROOM: usize = 2 * guard::ANSWER_LENGTH;
 

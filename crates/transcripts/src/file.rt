@@ -32,7 +32,7 @@ fn listed(line: &[u8], c: Counts) -> Counts
     requires { ⌜ c .different ≤ c .answers ⌝ }
     ensures { λ r. ⌜ r .different ≤ r .answers ⌝ }
 {
-    if transcript_lines::letter(line) == b'f' {
+    if super::begins(transcript_lines::letter(line)) {
         return transcript_lines::counts::one_list(c);
     }
     c
@@ -95,7 +95,7 @@ fn replay_in(fd: i32, memory: &mut [u8], text: &mut [u8], said: &mut [u8]) -> Co
     requires { ⌜ answerLine ≤ length (now said) ⌝ }
     ensures { λ r. ⌜ r .different ≤ r .answers ⌝ }
 {
-    let settings = super::fresh(memory);
+    let settings = super::fresh(memory, false);
     let counts = transcript_lines::counts::none();
     replay_lines(fd, memory, text, said, Progress { settings, counts })
 }

@@ -2,6 +2,7 @@
 // tests/model/transcripts.py writes such lists.
 //
 //     f NAME              a fresh guard, and buffers of their least lengths; a list of this name begins
+//     o NAME              the same with a fresh read-only guard, to which the calls that follow are handed
 //     b ANSWER REQUEST    the lengths of both buffers for the calls and replies that follow
 //     c CALL              a call, in hexadecimal digits
 //     r REPLY             a reply
@@ -12,19 +13,44 @@
 ghost use Prim.Native.Nat.{_≤_};
 ghost use lib.ListN.{length};
 ghost use Rattle.transcript_lines.specs.Room.{answerLine};
+use transcript_events::Entry;
 use transcript_events::Lengths;
 
 pub mod file;
 
-// The lengths of both buffers, and that of the last answer's line, with its line feed.
+// Whether calls are a read-only guard's, the lengths of both buffers, and that of the last answer's line, with its line
+// feed.
 struct Settings {
+    read_only: bool,
     lengths: Lengths,
     said: usize,
 }
 
-fn fresh(memory: &mut [u8]) -> Settings {
+fn fresh(memory: &mut [u8], read_only: bool) -> Settings {
     let lengths = transcript_events::fresh(memory);
-    Settings { lengths, said: 0 }
+    Settings {
+        read_only,
+        lengths,
+        said: 0,
+    }
+}
+
+// Whether a line begins a list.
+fn begins(letter: u8) -> bool {
+    if letter == b'f' {
+        return true;
+    }
+    letter == b'o'
+}
+
+fn entry_for(letter: u8, read_only: bool) -> Entry {
+    if letter == b'r' {
+        return Entry::Reply;
+    }
+    if read_only {
+        return Entry::ReaderCall;
+    }
+    Entry::Call
 }
 
 fn lengths(text: &[u8]) -> Lengths {
@@ -45,10 +71,17 @@ fn hand_in(memory: &mut [u8], line: &[u8], said: &mut [u8], s: Settings) -> usiz
     requires { ⌜ answerLine ≤ length (now said) ⌝ }
 {
     let l = s.lengths;
+    let read_only = s.read_only;
     let text = transcript_lines::behind(line);
     let letter = transcript_lines::letter(line);
     match letter {
-        b'c' | b'r' => transcript_events::handed::answer(memory, text, said, l, letter == b'r'),
+        b'c' | b'r' => transcript_events::handed::answer(
+            memory,
+            text,
+            said,
+            l,
+            entry_for(letter, read_only),
+        ),
         b's' => transcript_events::images::answer_save(memory, text, said),
         b'l' => transcript_events::images::answer_load(memory, text, said),
         _ => s.said,
@@ -60,12 +93,14 @@ fn feed(memory: &mut [u8], line: &[u8], said: &mut [u8], s: Settings) -> Setting
     requires { ⌜ answerLine ≤ length (now said) ⌝ }
 {
     let letter = transcript_lines::letter(line);
-    if letter == b'f' {
-        return fresh(memory);
+    if begins(letter) {
+        return fresh(memory, letter == b'o');
     }
+    let read_only = s.read_only;
     if letter == b'b' {
         let set = lengths(transcript_lines::behind(line));
         return Settings {
+            read_only,
             lengths: set,
             said: 0,
         };
@@ -73,6 +108,7 @@ fn feed(memory: &mut [u8], line: &[u8], said: &mut [u8], s: Settings) -> Setting
     let same = s.lengths;
     let n = hand_in(memory, line, said, s);
     Settings {
+        read_only,
         lengths: same,
         said: n,
     }

@@ -3,8 +3,9 @@ use native.Mathlib.Omega.{arith}
 use mathlib.Core.Path.{refl}
 use Rattle.guard_state.specs.State.{stateOf}
 use Rattle.guard_state.specs.laws.LoadedLaws.{nodes-count}
+use Rattle.call_reader.specs.laws.KindLaws.{last-kind}
 use Rattle.call_dispatch.specs.laws.CalledLaws.{some-node, open-made, remove-made, rmdir-made, chmod-made}
-use Rattle.call_dispatch.specs.laws.CalledLaws.{readdir-made, stat-made, last-kind}
+use Rattle.call_dispatch.specs.laws.CalledLaws.{readdir-made, stat-made}
 use borrow.Author.Needs.{needs}
 use Rattle.call_dispatch.proofs.begin_by_path.Statement.{statement}
 use Rattle.call_dispatch.proofs.begin_by_path.Tie as tie

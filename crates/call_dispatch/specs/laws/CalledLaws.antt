@@ -7,7 +7,6 @@ use Prim.Native.Nat.{ℕ, _-_, _<_, _≤_}
 use native.Mathlib.Omega.{arith}
 use lib.Dec.{eqb}
 use lib.ListN.{length, take, drop, length-drop}
-use lib.Seq.{take-all}
 use Rattle.filesystem.specs.Tables.{ID-BYTES}
 use Rattle.filesystem.specs.Sound.{to-sound}
 use Rattle.filesystem.specs.MemoryMaps.{Map}
@@ -19,7 +18,8 @@ use Rattle.machine.specs.Machine.{State, Result, guard as digestStore, apply}
 use Rattle.machine.specs.Consistent.{Consistent}
 use Rattle.call_reader.specs.declared.ParsedCall.{ParsedCall}
 use Rattle.call_reader.specs.declared.ParsedCall.the-variants.{ByPath, Write, Malformed}
-use Rattle.call_reader.specs.Meaning.{madeBy, meant, NumberFits}
+use Rattle.call_reader.specs.laws.RestLaws.{rest}
+use Rattle.call_reader.specs.Meaning.{madeBy, meant}
 use Rattle.path_calls.specs.Begun.{begun}
 use Rattle.guard_state.specs.State.{stateOf}
 use Rattle.outcomes.specs.declared.Outcome.{Outcome}
@@ -93,10 +93,6 @@ made-on-files ms k n p =
     pick-ind F (eqb k 10) (λ _. refl) (λ _.
     pick-ind F (eqb k 11) (λ _. refl) (λ _.
     pick-ind F (eqb k 12) (λ _. refl) (λ _. refl)))))))
-
--- the bytes from a place on, as a slice has them
-rest : (b : List ℕ) (start : ℕ) → take (length b - start) (drop start b) ≡ drop start b
-rest b start = take-all (length b - start) (drop start b) (omega (arith, length-drop start b))
 
 pub rest-length : (b : List ℕ) (start n : ℕ) → length b - start ≤ n → length (take (length b - start) (drop start b)) ≤
     n
@@ -183,15 +179,3 @@ module _ (q : Config) (s : State (digestStore q)) (path : List ℕ) (r : Outcome
     pub stat-made : k ≡ 13 → Made stat → Made (madeBy k n)
     unfolding madeBy pick
     stat-made e = subst (λ (j : ℕ). Made (madeBy j n)) (sym e)
-
--- the last kind is none of those above
-above-three : (k : ℕ) → 1 ≤ k → (k ≡ 1 → ⊥) → (k ≡ 2 → ⊥) → (k ≡ 3 → ⊥) → 4 ≤ k
-above-three k l a b d = omega arith
-
-the-last : (k : ℕ) → 9 ≤ k → k ≤ 13 → (k ≡ 9 → ⊥) → (k ≡ 10 → ⊥) → (k ≡ 11 → ⊥) → (k ≡ 12 → ⊥) → k ≡ 13
-the-last k l m a b d e = omega arith
-
-pub last-kind : (k n : ℕ) → NumberFits k n → (k ≡ 1 → ⊥) → (k ≡ 2 → ⊥) → (k ≡ 3 → ⊥) → (k ≡ 9 → ⊥) → (k ≡ 10 → ⊥)
-    → (k ≡ 11 → ⊥)
-    → (k ≡ 12 → ⊥) → k ≡ 13
-last-kind k n f a b d = the-last k (f .between (above-three k (f .least) a b d)) (f .most)

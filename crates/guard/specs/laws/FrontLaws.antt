@@ -26,7 +26,7 @@ areas-front l n (k ∷ ns) a h =
     ap₂ {B = List (List ℕ)} {C = List (List ℕ)} (λ p q. p ∷ q) (inside l n a k (omega arith))
     (areas-front l n ns (a + k) (omega arith))
 
-held-front : (m : List ℕ) → held (take memorySize m) ≡ held m
+pub held-front : (m : List ℕ) → held (take memorySize m) ≡ held m
 unfolding stateOf memOf
 held-front m =
     ap (λ (x : Mem). let g = numbersOf (x .head) in stateIn delivered g (viewOf (g .nodes) (g .opens) x))

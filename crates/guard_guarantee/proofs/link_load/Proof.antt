@@ -5,7 +5,7 @@ use Rattle.guard_guarantee.proofs.link_load.Statement.{statement}
 use Rattle.guard_guarantee.proofs.link_load.Tie as tie
 
 returns : tie.Need-returns
-returns c =
+returns c b =
     let e = c .before .before in
     let a = e .before .before .before .before .before .args in
     loaded (a .image .now) (a .digest .now) _ (e .guard-entry-load .ensures)

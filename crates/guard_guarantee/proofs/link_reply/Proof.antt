@@ -5,7 +5,7 @@ use Rattle.guard_guarantee.proofs.link_reply.Statement.{statement}
 use Rattle.guard_guarantee.proofs.link_reply.Tie as tie
 
 returns : tie.Need-returns
-returns c =
+returns c b =
     let e = c .before .before .before .before .before .before in
     let a = e .before .before .before .before .before .before .before .before .args in
     replied (a .bytes .now) (a .answer .now) (a .request .now) _ _ _ (e .guard-entry-reply .ensures)

@@ -5,7 +5,7 @@ use Rattle.guard_guarantee.proofs.link_save.Statement.{statement}
 use Rattle.guard_guarantee.proofs.link_save.Tie as tie
 
 returns : tie.Need-returns
-returns c =
+returns c b =
     let e = c .before .before .before .before in
     let a = e .before .before .before .before .before .before .args in
     saved (a .image .now) _ (a .digest .now) _ _ (e .guard-entry-save .ensures)

@@ -1,0 +1,4 @@
+pub mod ReadOnly
+pub mod Claim
+pub mod Lives
+pub mod laws
