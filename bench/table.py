@@ -57,6 +57,10 @@ EXPLAINED = {
         "1,164 of the 1,322 instructions are the call, 111 in plain C, which keeps the number of pages where the call"
         " sums it over the nodes; the reply takes 158, 55 in plain C, and was not taken apart"
     ),
+    "refused 30, read-only": (
+        "1.19 and 1.38 in two runs of one build, at 1.40 of the instructions: 269 beside 192 in plain C, which were not"
+        " taken apart"
+    ),
     "stat, eight deep, 256 nodes": (
         "1.63 in two runs of one build, 1.24 in one of a build before, at 1.15 of the instructions; the cause was not"
         " found"
