@@ -285,8 +285,8 @@ GUARD_FUNCTION guard_outcome guard_load(guard *g, const uint8_t *image, size_t l
     return guard_entry_load(g->memory, sizeof g->memory, image, length, digest, digest_length);
 }
 
-/* A read-only guard: for a program that shows files and can never change them, such as a screen in the tasting
- * room. Its client loads an image that another guard has saved, with the digest of that save, and reads.
+/* A read-only guard: for a program that shows files and can never change them, such as a display. Its client loads an
+ * image that another guard has saved, with the digest of that save, and reads.
  *
  * - It takes an open with rights 1, close, seek, read, readdir and stat. Every other call, and an open with other
  *   rights, is refused GUARD_READ_ONLY, before any path or handle is looked up: an absent path is refused the same.

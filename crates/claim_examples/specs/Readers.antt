@@ -38,12 +38,15 @@ abbrev both-kinds : List Life
 both-kinds = record { readOnly = false; seen = life before } ∷ record { readOnly = true; seen = reading } ∷ []
 
 not-taken : takes cheap barred ≡ false
-unfolding takes takesCall callOr readCall readFields byNumberAndPath byPath bind readPath afterSlash split onto componentForm every equal pick cheap
+unfolding takes takesCall callOr readCall readFields byNumberAndPath byPath bind readPath afterSlash split onto
+    componentForm every equal pick cheap
 not-taken = refl
 
 -- the chmod is refused, and the load is the guard's
 refused-30 : readOnlyStep cheap (guard cheap) start barred ≡ record { outcome = plain (refused 30); state = start }
-unfolding readOnlyStep readOnlyChecks formChecks lengthChecks takesCall callOr isNone isIdle readCall readFields byNumberAndPath byPath bind readPath afterSlash split onto componentForm every any equal tooLong pathBytes joined decide pick answerLength requestLength storeLength cheap
+unfolding readOnlyStep readOnlyChecks formChecks lengthChecks takesCall callOr isNone isIdle readCall readFields
+    byNumberAndPath byPath bind readPath afterSlash split onto componentForm every any equal tooLong pathBytes joined
+    decide pick answerLength requestLength storeLength cheap
 refused-30 = refl
 
 load-same : readOnlyStep cheap (guard cheap) start (load image digest)

@@ -27,7 +27,8 @@ use Rattle.filesystem.specs.MemoryMaps.{Map}
 use Rattle.rules.specs.MapRules.{isMapSize, mapFaults, findMap, overlaps, mapsAfter, mapNumber}
 use Rattle.rules.specs.Rules.{noRoom, callChecks, readAction, callAction, isNumber, isDescriptor, entryForm, sameEntry, isListing, statBytes, replyChecks, replyAction, isFull, saysFull, fullAction, isIdle, callOr, imageOr, isNone, eventChecks, eventAction, judge, mapChecks, mapReasons, reasons}
 use Rattle.rules.specs.Skeleton.{Event, answerLength, requestLength, Answer, done, ask, refused, stopped, Outcome}
-use Rattle.machine.specs.Machine.{Store, State, Result, readOn, finishChange, pagesStored, askStore, onPage, pagesFrom, apply, step, zeroDigest, guard}
+use Rattle.machine.specs.Machine.{Store, State, Result, readOn, finishChange, pagesStored, askStore, onPage, pagesFrom}
+use Rattle.machine.specs.Machine.{apply, step, zeroDigest, guard}
 use Rattle.read_only.specs.ReadOnly.{takesCall, lengthChecks, formChecks, readOnlyChecks, readOnlyStep}
 use Rattle.machine.specs.Tree.{tree, digestsOf, lookup, goBack}
 use Rattle.rule_examples.specs.Bytes.{bytesOf, times, pagesOf, pages, ends, digest, config}
@@ -149,7 +150,20 @@ module _ (S : Side) where
   isContent i x = elim (i .bytes) [ none ↦ true | some b ↦ S .isKept (i .node .size) b x ]
 
   unfoldable pub runs : State (S .store) → List Line → Bool
-  unfolding scan answers digestFor alike isContent bytesOf times pagesOf ends digest placed lent bytesIn digestsIn itsBytes concatenated step judge eventChecks eventAction callChecks callAction readAction replyChecks replyAction isFull saysFull fullAction before isIdle callOr isNone decide pick noRoom apply readOn finishChange pagesStored askStore onPage pagesFrom answerLength requestLength storeLength signed isNumber isDescriptor closeRequest fetchRequest storeRequest cutRequest pageAt overlay truncating first last fetches fill sizeSent cuts sizeAfter cursorAfter numberOf callBytes byPath byNumberAndPath byHandle byHandleAndNumber byHandleAndBytes readFields readCall joined pathBytes componentForm onto split afterSlash readPath tooLong childAt walk walkChecks parentChecks parentOf lastOf coverTable covers pagesFor pageTotal nodeAt openAt findId findChild children findHandle findDescriptor setMode setSize setCursor bind front get₂ get-as get-all ended whole encode decode every any place select without tab equal imageOr unique put-all nodeForm imageForm flatten divide climb pathLength inLimits parentsEarlier soundNodes sound print recordsLength imageLength parse pageOf bytesAt resized splice pagePart bytesAfter zeroDigest replaced digestsOf lookup goBack entryForm sameEntry isListing statBytes isRearranged mapChecks mapReasons reasons byNumber isMapSize mapFaults findMap overlaps mapsAfter mapNumber takesCall lengthChecks formChecks readOnlyChecks readOnlyStep
+  unfolding scan answers digestFor alike isContent bytesOf times pagesOf ends digest placed lent bytesIn digestsIn
+      itsBytes concatenated step judge eventChecks eventAction callChecks callAction readAction replyChecks
+      replyAction isFull saysFull fullAction before isIdle callOr isNone decide pick noRoom apply readOn finishChange
+      pagesStored askStore onPage pagesFrom answerLength requestLength storeLength signed isNumber isDescriptor
+      closeRequest fetchRequest storeRequest cutRequest pageAt overlay truncating first last fetches fill sizeSent
+      cuts sizeAfter cursorAfter numberOf callBytes byPath byNumberAndPath byHandle byHandleAndNumber byHandleAndBytes
+      readFields readCall joined pathBytes componentForm onto split afterSlash readPath tooLong childAt walk
+      walkChecks parentChecks parentOf lastOf coverTable covers pagesFor pageTotal nodeAt openAt findId findChild
+      children findHandle findDescriptor setMode setSize setCursor bind front get₂ get-as get-all ended whole encode
+      decode every any place select without tab equal imageOr unique put-all nodeForm imageForm flatten divide climb
+      pathLength inLimits parentsEarlier soundNodes sound print recordsLength imageLength parse pageOf bytesAt resized
+      splice pagePart bytesAfter zeroDigest replaced digestsOf lookup goBack entryForm sameEntry isListing statBytes
+      isRearranged mapChecks mapReasons reasons byNumber isMapSize mapFaults findMap overlaps mapsAfter mapNumber
+      takesCall lengthChecks formChecks readOnlyChecks readOnlyStep
   runs s [] = true
   runs s ((e ⇒ x) ∷ ls) = let r = S .steps s e in meets x (r .outcome) && runs (r .state) ls
   runs s (holds is os ∷ ls) =

@@ -232,14 +232,17 @@ module _ (c : Config) (sk : Skeleton) where
   unfolding eventChecks eventAction
   action-acts (call s a q) p = call-acts true (sk .tables) (c .width) (callOr (readCall (c .width) s))
   action-acts (reply r a q) (both _ (both i _)) =
-      pick-ind (Acts true) (tellsFull (c .width) r (sk .pending)) (λ _. full-acts (sk .pending)) (λ _. judged-acts true r i)
+      pick-ind (Acts true) (tellsFull (c .width) r (sk .pending)) (λ _. full-acts (sk .pending))
+      (λ _. judged-acts true r i)
   action-acts (save n) p = tt
   action-acts (load i d) p = tt
 
   -- an event is refused n exactly where n is the first of its numbers whose condition holds
   pub refused-exactly : (e : Event) (n : ℕ) → (judge c sk e ≡ refuse n) ↔ First n (eventChecks c sk e)
   unfolding judge
-  refused-exactly e n = decide-exactly refuse (eventChecks c sk e) (eventAction c sk e) n (λ p m q. subst (Acts true) q (action-acts e p)) (λ m k q. cc)
+  refused-exactly e n =
+      decide-exactly refuse (eventChecks c sk e) (eventAction c sk e) n (λ p m q. subst (Acts true) q (action-acts e p))
+      (λ m k q. cc)
 
   -- a call is given up exactly where no number holds, the host says that the disk is full where it may, and no page is finished
   full-gives : (p : Pending) → (fullAction p ≡ giveUp) ↔ (finished p ≡ false)
@@ -251,13 +254,18 @@ module _ (c : Config) (sk : Skeleton) where
   full-gives (storing k o q i) = go (is (ltb (first q) i))
     where
       go : Is (ltb (first q) i) → (pick (ltb (first q) i) (keepPages k o q i) giveUp ≡ giveUp) ↔ (ltb (first q) i ≡ false)
-      go (isT e) = (λ x. absurd (false≢true (subst (Acts false) (sym (pick-true _ _ _ e) ∙ x) tt)), λ x. absurd (true≢false (sym e ∙ x)))
+      go (isT e) = (
+        λ x. absurd (false≢true (subst (Acts false) (sym (pick-true _ _ _ e) ∙ x) tt)),
+        λ x. absurd (true≢false (sym e ∙ x)),
+      )
       go (isF e) = (λ _. e, λ _. pick-false _ _ _ e)
   full-gives (cutting k o q) = (λ _. refl, λ _. refl)
 
   up-to : (e : Event) → Passed (eventChecks c sk e) → eventAction c sk e ≡ giveUp → givesUp c sk e ≡ true
   unfolding eventChecks eventAction givesUp
-  up-to (call s a q) p x = absurd (false≢true (subst (Acts false) x (call-acts false (sk .tables) (c .width) (callOr (readCall (c .width) s)))))
+  up-to (call s a q) p x =
+      let acts = call-acts false (sk .tables) (c .width) (callOr (readCall (c .width) s)) in
+      absurd (false≢true (subst (Acts false) x acts))
   up-to (reply r a q) (both _ (both i _)) x = go (is (tellsFull (c .width) r (sk .pending)))
     where
       go : Is (tellsFull (c .width) r (sk .pending)) → (tellsFull (c .width) r (sk .pending) && not (finished (sk .pending))) ≡ true

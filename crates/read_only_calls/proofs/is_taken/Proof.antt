@@ -1,6 +1,6 @@
 -- `read_only_calls::is_taken` meets its contract. Assumes nothing.
 use native.Mathlib.Omega.{arith}
-use Rattle.read_only_calls.specs.laws.RefusalLaws.{is-taken, is-other, is-nothing, handle-taken, look-taken}
+use Rattle.read_only_calls.specs.laws.RefusalLaws.{is-taken, is-other, is-nothing, handle-taken, node-taken}
 use Rattle.read_only_calls.specs.laws.RefusalLaws.{opening-taken}
 use borrow.Author.Needs.{needs}
 use Rattle.read_only_calls.proofs.is_taken.Statement.{statement}
@@ -26,7 +26,7 @@ returns-3 c =
 returns-4 : tie.Need-returns-4
 returns-4 c =
     let s = c .before .before .before .before .before .before .before .before .args .call .now in
-    is-taken s (look-taken s (omega arith) (omega arith) (omega arith))
+    is-taken s (node-taken s (omega arith) (omega arith) (omega arith))
 
 returns-5 : tie.Need-returns-5
 returns-5 c =

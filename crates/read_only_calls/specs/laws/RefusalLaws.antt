@@ -209,8 +209,8 @@ module _ (s : List ℕ) (long : 0 < length s) where
           let six : getD s 0 0 ≡ 6 = omega (arith, eqb-false (getD s 0 0) 4 a, eqb-false (getD s 0 0) 5 b, l, m) in
           subst Takes (sym six) (read-taken (drop 1 s))
 
-  pub look-taken : 12 ≤ getD s 0 0 → getD s 0 0 ≤ 13 → takesCall (callOr (readCall ID-BYTES s)) ≡ true
-  look-taken l m = by-kind (go (is (eqb (getD s 0 0) 12)))
+  pub node-taken : 12 ≤ getD s 0 0 → getD s 0 0 ≤ 13 → takesCall (callOr (readCall ID-BYTES s)) ≡ true
+  node-taken l m = by-kind (go (is (eqb (getD s 0 0) 12)))
     where
       go : Is (eqb (getD s 0 0) 12) → Takes (getD s 0 0)
       go (isT a) = subst Takes (sym (eqb-true _ _ a)) (readdir-taken (drop 1 s))
