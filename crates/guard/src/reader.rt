@@ -34,8 +34,7 @@ pub fn on_call(
     outcomes::Outcome::Refused(n)
 }
 
-// By the guard's entry and not by `on_call`: its code then stands once, and the guard's own calls are not called
-// through one function more.
+// By the guard's entry and not by `on_call`, so that the guard's code stands once in the archive.
 #[no_mangle]
 pub extern "C" fn guard_entry_reader_call(
     memory: &mut [u8],
