@@ -17,6 +17,7 @@
 /* ---- tables */
 
 enum { FILE_PLACE = 128, LAST = 247, DEEP = 8, SIZE = 8 * PAGE };
+enum { CHAIN = 127 }; /* the deepest folder there can be: a path of 254 bytes */
 
 #define CHILD "a-child-with-a-long-name-%07u" /* 32 bytes, the longest name */
 
@@ -82,6 +83,41 @@ static void children(uint32_t count)
 }
 
 static void largest(void) { children(NODES - 1); }
+
+/* The same with names that agree in their first 30 bytes, and but for one in the 31st: the last is k, and no slash may
+ * stand in a name. */
+static void alike(void)
+{
+    char name[NAME + 1];
+    begin_image(NODES);
+    add_root();
+    for (uint32_t k = 1; k < NODES; k++) {
+        int slash = k == '/';
+        snprintf(name, sizeof name, "a-child-with-a-long-name-00000%c%c", slash ? 'b' : 'a', slash ? 'b' : (int)k);
+        add_node(k + 1, 1, 1, k == 1 ? 8 * PAGE : 4 * PAGE, name);
+    }
+    load_image();
+}
+
+/* Folders, each in the one before it. */
+static void add_chain(void)
+{
+    for (uint32_t k = 1; k <= CHAIN; k++)
+        add_node(k + 1, k, 2, 0, "d");
+}
+
+/* The chain, then files in the root that have 1,024 pages. */
+static void chained(void)
+{
+    begin_image(NODES);
+    add_root();
+    add_chain();
+    for (uint32_t k = CHAIN + 1; k < NODES; k++)
+        add_node(k + 1, 1, 1, 8 * PAGE, name_of(CHILD, k));
+    load_image();
+}
+
+enum { CHAINED = IMAGE - CHAIN * (NAME - 1) }; /* the bytes of its image */
 
 static void smallest(void)
 {
@@ -324,6 +360,8 @@ static const struct row rows[] = {
     {"save, 44,776 bytes", largest, NULL, step_save, NO_CALL, 0, 0, {1, IMAGE, IMAGE, NODES}},
     {"load, 23 bytes", smallest, NULL, step_load, NO_CALL, 0, 0, {1, 23, 23, 1}},
     {"load, 44,776 bytes", largest, NULL, step_load, NO_CALL, 0, 0, {1, IMAGE, IMAGE, NODES}},
+    {"load, 127 in a chain", chained, NULL, step_load, NO_CALL, 0, 0, {1, CHAINED, CHAINED, NODES}},
+    {"load, names alike", alike, NULL, step_load, NO_CALL, 0, 0, {1, IMAGE, IMAGE, NODES}},
     {"refused 22, a path's form", small, NULL, step_malformed, NO_CALL, 0, 0, {0, 0, 0, 1}},
     {"refused 2, absent, 256 nodes", full, NULL, step_absent, NO_CALL, 0, 0, {0, 0, 0, NODES}},
     {"refused 30, read-only", full, NULL, step_read_only, NO_CALL, 0, 0, {0, 0, 0, 1}},
@@ -402,16 +440,15 @@ static void count_point(const char *curve, uint32_t x, void (*step)(void))
     dump(name);
 }
 
-/* A chain of 127 folders is there; the walk goes so deep. */
+/* The chain is there; the walk goes so deep. */
 static void count_depths(void)
 {
     char path[PATH + 1];
-    begin_image(128);
+    begin_image(CHAIN + 1);
     add_root();
-    for (uint32_t k = 1; k < 128; k++)
-        add_node(k + 1, k, 2, 0, "d");
+    add_chain();
     load_image();
-    for (uint32_t depth = 1; depth <= 127; depth += depth < 8 ? 1 : 7) {
+    for (uint32_t depth = 1; depth <= CHAIN; depth += depth < 8 ? 1 : 7) {
         for (uint32_t k = 0; k < depth; k++)
             memcpy(path + 2 * k, "/d", 3);
         stat_of(path, depth, 2, 0);

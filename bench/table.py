@@ -13,6 +13,8 @@ MEAN, MOST, HASHING, STACK = 1.10, 1.30, 1.05, 16_384
 SHUFFLED = 1.5  # a listing in no order, in instructions of the same in order
 ZERO_TEST, REST_OF_A_MAP = 1.10, 2500  # of plain C's instructions; instructions
 UNITS = 16  # of the longest map
+# loads of 256 nodes, in instructions of their own hashing and of what the longest save takes beside its hashing
+LOADS = {"load, 44,776 bytes": 1.15, "load, 127 in a chain": 1.15, "load, names alike": 1.30}
 HASH = "digest::sha256"  # in the archive
 
 # Rows that miss a bar, and why.
@@ -163,6 +165,14 @@ def print_maps(archive, plain):
     return over + ["the rest of a map"] * (max(rest, among) >= REST_OF_A_MAP)
 
 
+def print_loads(archive):
+    saved, hashed = archive["save, 44,776 bytes"]
+    ratios = {name: archive[name][0] / (archive[name][1] + saved - hashed) for name in LOADS}
+    print("loads, of the instructions of their hashing and of the longest save's beside its hashing:", end=" ")
+    print("; ".join(f"{name} {ratio:.2f}, at most {LOADS[name]:.2f}" for name, ratio in ratios.items()))
+    return [f"instructions of {name}" for name, ratio in ratios.items() if ratio > LOADS[name]]
+
+
 def print_memory(rows):
     """The guard's bytes and the deepest stack; the entries above the bar."""
     sizes = {(side, what): int(size) for side, what, size in rows}
@@ -238,6 +248,7 @@ def main():
     over = print_table(archive, plain, plain_hash, least, times)
     over += print_shuffled(archive)
     over += print_maps(archive, plain)
+    over += print_loads(archive)
     over += print_memory(fields(folder / "memory"))
     print_curves(archive, plain, plots)
     print_reasons(over)

@@ -1,29 +1,50 @@
-"""The image that is saved: its bytes, and when it is sound (SPECIFICATION 8)."""
+"""The image that is saved: its bytes, over a layout, and when it is sound (SPECIFICATION 8)."""
+
+from typing import NamedTuple
 
 from .rules import (
-    DIRECTORY, FILE, ID, MAX_MODE, MAX_NAME, MAX_NODES, MAX_PAGES, MAX_PATH, MAX_SIZE,
+    DIRECTORY, FILE, MAX_MODE, MAX_NAME, MAX_NODES, MAX_PAGES, MAX_PATH, MAX_SIZE,
     Node, is_name, pages_of, put, unsigned,
 )
 
 DIGEST = 32
-RECORD = ID + ID + 1 + 1 + 4 + 1  # a node's record without its name
-LONGEST = 4 + RECORD + (MAX_NODES - 1) * (RECORD + MAX_NAME) + 4 + MAX_PAGES * DIGEST  # 44,776
+MAKER = 1  # the party that made a node: there is no other
 
 
-def write_image(nodes, digests):
+class Layout(NamedTuple):
+    """The form of a node's record: the width of its ids, and whether its maker's party stands behind the mode."""
+
+    id_bytes: int
+    maker: bool
+
+
+DELIVERED = Layout(4, False)
+
+
+def longest(layout=DELIVERED):
+    """The length of the longest image: every name but the root's of 32 bytes, and as many nodes and pages as may be."""
+    unnamed = layout.id_bytes + layout.id_bytes + 1 + 1 + layout.maker + 4 + 1
+    return 4 + unnamed + (MAX_NODES - 1) * (unnamed + MAX_NAME) + 4 + MAX_PAGES * DIGEST
+
+
+LONGEST = longest()  # 44,776
+
+
+def write_image(nodes, digests, layout=DELIVERED):
     """Two sections, each after its 4-byte count; the digests by node, then by page."""
-    return put(len(nodes), 4) + b"".join(map(record, nodes)) + put(len(digests), 4) + b"".join(digests)
+    records = b"".join(record(node, layout) for node in nodes)
+    return put(len(nodes), 4) + records + put(len(digests), 4) + b"".join(digests)
 
 
-def record(node):
+def record(node, layout=DELIVERED):
     return (
-        put(node.id, ID) + put(node.parent, ID) + bytes([node.kind, node.mode])
-        + put(node.size, 4) + bytes([len(node.name)]) + node.name
+        put(node.id, layout.id_bytes) + put(node.parent, layout.id_bytes) + bytes([node.kind, node.mode])
+        + (bytes([MAKER]) if layout.maker else b"") + put(node.size, 4) + bytes([len(node.name)]) + node.name
     )
 
 
-class CutShort(Exception):
-    """The image ends inside a field."""
+class NoImage(Exception):
+    """The bytes end inside a field, or a node's maker is another."""
 
 
 class Reader:
@@ -33,25 +54,27 @@ class Reader:
     def bytes(self, length):
         part = self.data[self.at : self.at + length]
         if len(part) < length:
-            raise CutShort
+            raise NoImage
         self.at += length
         return part
 
     def number(self, width):
         return unsigned(self.bytes(width))
 
-    def node(self):
-        fields = [self.number(width) for width in (ID, ID, 1, 1, 4)]
-        return Node(*fields, name=self.bytes(self.number(1)))
+    def node(self, layout=DELIVERED):
+        fields = [self.number(width) for width in (layout.id_bytes, layout.id_bytes, 1, 1)]
+        if layout.maker and self.number(1) != MAKER:
+            raise NoImage
+        return Node(*fields, size=self.number(4), name=self.bytes(self.number(1)))
 
 
-def read_image(data):
+def read_image(data, layout=DELIVERED):
     """The nodes of a sound image, each with its digests as pages; None where the image is not sound."""
     reader = Reader(data)
     try:
-        nodes = [reader.node() for _ in range(reader.number(4))]
+        nodes = [reader.node(layout) for _ in range(reader.number(4))]
         digests = [reader.bytes(DIGEST) for _ in range(reader.number(4))]
-    except CutShort:
+    except NoImage:
         return None
     if reader.at != len(data) or not is_sound(nodes, len(digests)):
         return None
@@ -62,7 +85,7 @@ def read_image(data):
 
 
 def is_sound(nodes, digest_count):
-    """Every rule of soundness but that nothing follows."""
+    """Every rule of soundness but that nothing follows; of nodes, so for each layout the same."""
     return (
         1 <= len(nodes) <= MAX_NODES
         and is_root(nodes[0])

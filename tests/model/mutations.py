@@ -1155,9 +1155,11 @@ MUTATIONS = {
     "the digests of an image in reverse": replaced("image.read_image", "iter(digests)", "iter(digests[::-1])"),
     "an image's parent before its id": replaced(
         "image.record",
-        "put(node.id, ID) + put(node.parent, ID)",
-        "put(node.parent, ID) + put(node.id, ID)",
+        "put(node.id, layout.id_bytes) + put(node.parent, layout.id_bytes)",
+        "put(node.parent, layout.id_bytes) + put(node.id, layout.id_bytes)",
     ),
+    "an image's ids of 8 bytes": replaced("image", "DELIVERED = Layout(4, False)", "DELIVERED = Layout(8, False)"),
+    "an image with makers": replaced("image", "DELIVERED = Layout(4, False)", "DELIVERED = Layout(4, True)"),
     "an image of 257 nodes": replaced("image.is_sound", "<= MAX_NODES", "<= MAX_NODES + 1"),
     "an image of 255 nodes": replaced("image.is_sound", "<= MAX_NODES", "< MAX_NODES"),
     "an image's root of any id": replaced("image.is_root", "(node.id, ", "(1, "),

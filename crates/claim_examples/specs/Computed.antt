@@ -15,12 +15,15 @@ use Rattle.lists.specs.Cells.{tab}
 use Rattle.lists.specs.Search.{every, any, unique, place, select, without}
 use Rattle.lists.specs.Signed.{signed}
 use Rattle.lists.specs.LittleEndian.{encode, decode}
-use Rattle.lists.specs.Form.{bind, front, get₂, get-as, put-all, get-all, ended, whole}
+use Rattle.lists.specs.Form.{bind, front, get₂, get-fixed, get-as, put-all, get-all, ended, whole}
 use Rattle.lists.specs.Checks.{decide}
 use Rattle.filesystem.specs.Tables.{newNode, root, withSize, pagesFor, pageTotal, nodeAt, openAt, findId, findChild, children, findHandle, findDescriptor, setMode, setSize, setCursor}
 use Rattle.filesystem.specs.Rights.{coverTable, covers}
 use Rattle.filesystem.specs.Paths.{joined, pathBytes, componentForm, onto, split, afterSlash, readPath, tooLong, childAt, walk, walkChecks, parentChecks, parentOf, lastOf}
-use Rattle.filesystem.specs.Image.{nodeForm, imageForm, flatten, divide, climb, pathLength, inLimits, parentsEarlier, soundNodes, sound, print, recordsLength, imageLength, parse}
+use Rattle.filesystem.specs.Image.{saved, current, layoutOf, makerBytes, nodeForm, imageForm, flatten, divide, climb}
+use Rattle.filesystem.specs.Image.{pathLength}
+use Rattle.filesystem.specs.Image.{lies, inLimits, parentsEarlier, soundNodes, sound, print, recordsLength}
+use Rattle.filesystem.specs.Image.{imageLength, parse}
 use Rattle.filesystem.specs.Digests.{replaced}
 use Rattle.rules.specs.Calls.{callBytes, byPath, byNumberAndPath, byHandle, byHandleAndNumber, byHandleAndBytes, readFields, readCall, byNumber}
 use Rattle.rules.specs.Pages.{pageAt, pageOf, bytesAt, resized, splice, overlay, pagePart, truncating, addedBy, first, last, fetches, fill, sizeSent, cuts, bytesAfter, sizeAfter, cursorAfter, numberOf, before}
@@ -65,11 +68,12 @@ secondPage = 9 ∷ replicate 1023 0
 
 -- what is saved then
 abbrev pub image : List ℕ
-image = print 4 (root ∷ withSize 1025 (newNode 2 1 1 7 (97 ∷ [])) ∷ [], cheap .digest firstPage ∷ cheap .digest secondPage ∷ [])
+image = print (saved 4)
+    (root ∷ withSize 1025 (newNode 2 1 1 7 (97 ∷ [])) ∷ [], cheap .digest firstPage ∷ cheap .digest secondPage ∷ [])
 
 -- A save and a load of it: an honest list, on which guard and tree agree.
 abbrev pub honest : List Event
-honest = written ++ (save 44776 ∷ load image (cheap .digest image) ∷ [])
+honest = written ++ (save 44776 ∷ load current image (cheap .digest image) ∷ [])
 
 abbrev pub honestAnswers : List Answer
 honestAnswers =
@@ -151,7 +155,19 @@ pub record Computed : Type 0 where
   pub full-right : Honest cheap (fresh cheap (guard cheap)) (fresh cheap (tree cheap)) filled
 
 pub computed : Computed
-unfolding pages awaitsPage pageIn pageOut storedPage pageAdded addedBy pagesAfter pageReplied standing shown isFetch cutRequest truncating Honest HonestAt Right RightFor final constant outcomes step judge eventChecks eventAction callChecks callAction readAction replyChecks replyAction isFull saysFull fullAction before isIdle callOr isNone decide pick noRoom apply readOn finishChange pagesStored askStore onPage pagesFrom answerLength requestLength storeLength signed isNumber isDescriptor closeRequest fetchRequest storeRequest pageAt overlay first last fetches fill sizeSent cuts sizeAfter cursorAfter numberOf callBytes byPath byNumberAndPath byHandle byHandleAndNumber byHandleAndBytes readFields readCall joined pathBytes componentForm onto split afterSlash readPath tooLong childAt walk walkChecks parentChecks parentOf lastOf coverTable covers pagesFor pageTotal nodeAt openAt findId findChild children findHandle findDescriptor setMode setSize setCursor bind front get₂ get-as get-all ended whole encode decode every any place select without tab equal cheap imageOr unique put-all nodeForm imageForm flatten divide climb pathLength inLimits parentsEarlier soundNodes sound print recordsLength imageLength parse pageOf bytesAt resized splice pagePart bytesAfter zeroDigest replaced digestsOf lookup goBack mapChecks mapReasons reasons byNumber
+unfolding pages awaitsPage pageIn pageOut storedPage pageAdded addedBy pagesAfter pageReplied standing shown
+    isFetch cutRequest truncating Honest HonestAt Right RightFor final constant outcomes step judge eventChecks
+    eventAction callChecks callAction readAction replyChecks replyAction isFull saysFull fullAction before isIdle
+    callOr isNone decide pick noRoom apply readOn finishChange pagesStored askStore onPage pagesFrom answerLength
+    requestLength storeLength signed isNumber isDescriptor closeRequest fetchRequest storeRequest pageAt overlay first
+    last fetches fill sizeSent cuts sizeAfter cursorAfter numberOf callBytes byPath byNumberAndPath byHandle
+    byHandleAndNumber byHandleAndBytes readFields readCall joined pathBytes componentForm onto split afterSlash
+    readPath tooLong childAt walk walkChecks parentChecks parentOf lastOf coverTable covers pagesFor pageTotal nodeAt
+    openAt findId findChild children findHandle findDescriptor setMode setSize setCursor bind front get₂ get-fixed
+    get-as get-all ended whole encode decode every any place select without tab equal cheap imageOr unique put-all
+    layoutOf makerBytes nodeForm imageForm flatten divide climb pathLength lies inLimits parentsEarlier soundNodes
+    sound print recordsLength imageLength parse pageOf bytesAt resized splice pagePart bytesAfter zeroDigest replaced
+    digestsOf lookup goBack mapChecks mapReasons reasons byNumber
 computed = record {
   guard-does = refl;
   replies-right = (

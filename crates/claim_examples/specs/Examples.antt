@@ -10,6 +10,7 @@ use Rattle.lists.specs.All.{All, both, none as all-none, Bytes, all-map, all-ap
 use Rattle.lists.specs.Cells.{length-tab}
 use Rattle.lists.specs.Places.{all-tab}
 use Rattle.lists.specs.Search.{every, every-all}
+use Rattle.filesystem.specs.Image.{current}
 use Rattle.rules.specs.Skeleton.{Config, Event, save, load, EventBytes, done, stopped}
 use Rattle.rules.specs.Rules.{judge, saving}
 use Rattle.machine.specs.Machine.{State, files, imageOf, apply, step, fresh, outcomes, final, guard}
@@ -45,7 +46,7 @@ saved-image =
 
 save-load : (c : Config) (g : State (guard c)) (t : State (tree c)) (n : ℕ) (image : List ℕ) → judge c (t .skeleton) (save n) ≡ saving
     → image ≡ imageOf c (tree c) t
-    → Honest c g t (save n ∷ load image (c .digest image) ∷ [])
+    → Honest c g t (save n ∷ load current image (c .digest image) ∷ [])
 unfolding Honest HonestAt step apply
 save-load c g t n image e q = (tt, ((λ d. rw e (record { latest = record { digest = c .digest (imageOf c (tree c) t); files = files c (tree c) t }; earlier = t .saves; saves = refl; image = q; digest = ap (c .digest) q; unchanged = refl })), tt))
 

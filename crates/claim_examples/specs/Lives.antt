@@ -4,6 +4,7 @@ use mathlib.Core.Logic.{inl}
 use mathlib.Core.List.{List, [], _∷_, _++_}
 use Prim.Native.Nat.{ℕ}
 use Rattle.lists.specs.All.{All, both, none as all-none, all-append}
+use Rattle.filesystem.specs.Image.{current}
 use Rattle.rules.specs.Skeleton.{Config, Event, save, load, EventBytes, done, plain}
 use Rattle.rules.specs.Rules.{judge, saving}
 use Rattle.machine.specs.Machine.{Store, State, files, imageOf, apply, step, fresh, outcomes, final, guard}
@@ -31,7 +32,7 @@ abbrev pub before : List Event
 before = written ++ (save 44776 ∷ [])
 
 abbrev pub afterwards : List Event
-afterwards = load image digest ∷ []
+afterwards = load current image digest ∷ []
 
 -- what a fresh guard shows
 abbrev pub life : List Event → List Seen
@@ -54,13 +55,15 @@ before-bytes = all-append written-bytes (both tt all-none)
 
 pub afterwards-bytes : All EventBytes afterwards
 unfolding EventBytes
-afterwards-bytes = both {x = load image digest} (are-bytes image (computed .image-bytes), cheap-fit .bytes image) all-none
+afterwards-bytes =
+    both {x = load current image digest} (are-bytes image (computed .image-bytes), cheap-fit .bytes image) all-none
 
 -- the second life begins with a load that is done
-is-loaded : step cheap (guard cheap) start (load image digest) .outcome ≡ plain (done 0 [])
+is-loaded : step cheap (guard cheap) start (load current image digest) .outcome ≡ plain (done 0 [])
 is-loaded =
     let h = always-holds cheap (λ s. (cheap-fit .long s, cheap-fit .bytes s)) (cheap-fit .wide) written written-bytes in
-    subst (λ i. step cheap (guard cheap) start (load i (cheap .digest i)) .outcome ≡ plain (done 0 [])) (sym (computed .guard-image))
+    subst (λ i. step cheap (guard cheap) start (load current i (cheap .digest i)) .outcome ≡ plain (done 0 []))
+    (sym (computed .guard-image))
     (load-restores cheap guardThen start h refl refl refl .0)
 
 pub restarts : Restarts lives

@@ -10,6 +10,7 @@ use Rattle.lists.specs.All.{All, both, none as all-none}
 use Rattle.lists.specs.Form.{bind}
 use Rattle.lists.specs.Checks.{decide}
 use Rattle.filesystem.specs.Paths.{componentForm, onto, split, afterSlash, readPath, joined, pathBytes, tooLong}
+use Rattle.filesystem.specs.Image.{current}
 use Rattle.rules.specs.Calls.{byPath, byNumberAndPath, readFields, readCall}
 use Rattle.rules.specs.Skeleton.{Event, load, refused, plain, answerLength, requestLength}
 use Rattle.rules.specs.Requests.{storeLength}
@@ -49,8 +50,8 @@ unfolding readOnlyStep readOnlyChecks formChecks lengthChecks takesCall callOr i
     decide pick answerLength requestLength storeLength cheap
 refused-30 = refl
 
-load-same : readOnlyStep cheap (guard cheap) start (load image digest)
-    ≡ step cheap (guard cheap) start (load image digest)
+load-same : readOnlyStep cheap (guard cheap) start (load current image digest)
+    ≡ step cheap (guard cheap) start (load current image digest)
 unfolding readOnlyStep readOnlyChecks decide
 load-same = refl
 

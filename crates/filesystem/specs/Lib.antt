@@ -3,12 +3,16 @@ pub mod MemoryMaps
 pub mod Rights
 pub mod Paths
 pub mod Image
+pub mod Layouts
 pub mod Digests
 pub mod RightsLaws
 pub mod PathLaws
+pub mod Ways
+pub mod Order
 pub mod Sound
 pub mod ImageLaws
 pub mod Climb
 pub mod SoundLaws
 pub mod LongestImage
 pub mod WalkLaws
+pub mod LayoutsApart

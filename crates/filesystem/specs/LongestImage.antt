@@ -1,24 +1,26 @@
--- Tables whose image has 44,776 bytes: the limit on an image's length is reached.
+-- Tables whose image is the longest over every layout in which 256 ids fit.
 -- Assumes nothing.
 use mathlib.Core.Path.{_≡_, refl, ap, sym, _∙_, subst}
 use mathlib.Core.Bool.{true, false, _||_}
 use mathlib.Core.List.{List, [], _∷_, head-eq-of-cons-eq, tail-eq-of-cons-eq}
-use Prim.Native.Nat.{ℕ, zero, suc, _+_, _/_, _%_, _≤_, _<_}
+use Prim.Native.Nat.{ℕ, zero, suc, _+_, _/_, _%_, _^_, _≤_, _<_}
 use native.Mathlib.Omega.{arith}
 use lib.Dec.{leb, ltb}
 use lib.ListN.{length}
 use borrow.Author.Tests.{eq-eqb, ne-eqb}
 use Rattle.lists.specs.Pick.{pick, pick-ind}
 use Rattle.lists.specs.Equal.{equal, and-both}
-use Rattle.lists.specs.Search.{every}
+use Rattle.lists.specs.Search.{every, place}
 use Rattle.lists.specs.All.{All, Bytes, both, none}
 use Rattle.lists.specs.Cells.{tab, getD-tab, length-tab}
 use Rattle.lists.specs.Places.{all-tab}
-use Rattle.filesystem.specs.Tables.{FILE-BYTES, PATH-BYTES, Node, root, nodeAt, pagesFor, pageTotal}
+use Rattle.filesystem.specs.Tables.{FILE-BYTES, PATH-BYTES, Node, root, nodeAt, findId, pagesFor, pageTotal}
 use Rattle.filesystem.specs.Paths.{componentForm}
-use Rattle.filesystem.specs.Image.{Image, inLimits, isNamed, pathLength, soundNodes, sound, print, imageLength, recordsLength}
+use Rattle.filesystem.specs.Image.{Layout, Image, inLimits, isNamed, soundNodes, sound, print, imageLength}
+use Rattle.filesystem.specs.Image.{recordsLength, longestLength}
+use Rattle.filesystem.specs.Order.{Ordered}
 use Rattle.filesystem.specs.Sound.{ParentAt, of-limits, of-sound}
-use Rattle.filesystem.specs.Climb.{Rooted, pathLength-root, pathLength-step}
+use Rattle.filesystem.specs.Ways.{Way, top, up, bytes}
 use Rattle.filesystem.specs.ImageLaws.{Shaped, length-print}
 
 -- 255 files in the root, each with a name of 32 bytes; sixteen of them have all the pages
@@ -41,15 +43,23 @@ unfolding full nodeAt
 full-ind P f g zero h = f
 full-ind P f g (suc k) h = let l : k < 255 = omega (arith, length-full) in subst (P (suc k)) (sym (getD-tab 255 leaf k _ l)) (g k l)
 
-leaf-limits : (k : ℕ) → k < 255 → inLimits 4 (leaf k) ≡ true
+leaf-limits : (w k : ℕ) → 256 < 256 ^ w → k < 255 → inLimits w (leaf k) ≡ true
 unfolding leaf
-leaf-limits k h =
-    of-limits 4 (leaf k) (record {
+leaf-limits w k wide h =
+    of-limits w (leaf k) (record {
       id-some = omega arith;
       id-fits = omega arith;
       mode-fits = omega arith;
       kind-size = pick-ind (λ size. (leb size FILE-BYTES || false) ≡ true) (ltb k 16) (λ _. refl) (λ _. refl);
     })
+
+root-limits : (w : ℕ) → 256 < 256 ^ w → inLimits w root ≡ true
+root-limits w wide = of-limits w root (record {
+  id-some = omega arith;
+  id-fits = omega arith;
+  mode-fits = omega arith;
+  kind-size = refl;
+})
 
 leaf-named : (k : ℕ) → isNamed (leaf k) ≡ true
 unfolding leaf leafName componentForm equal every tab
@@ -58,8 +68,8 @@ leaf-named k =
     let b = 65 + k % 16 in
     rw (ne-eqb a 46 (omega arith), ne-eqb a 0 (omega arith), ne-eqb a 47 (omega arith), ne-eqb b 0 (omega arith), ne-eqb b 47 (omega arith))
 
-full-limits : (k : ℕ) → k < length full → inLimits 4 (nodeAt full k) ≡ true
-full-limits = full-ind (λ k n. inLimits 4 n ≡ true) (unfold inLimits in refl) leaf-limits
+full-limits : (w : ℕ) → 256 < 256 ^ w → (k : ℕ) → k < length full → inLimits w (nodeAt full k) ≡ true
+full-limits w wide = full-ind (λ k n. inLimits w n ≡ true) (root-limits w wide) (λ k h. leaf-limits w k wide h)
 
 full-ids : (i j : ℕ) → i < length full → j < length full → nodeAt full i .id ≡ nodeAt full j .id → i ≡ j
 unfolding leaf
@@ -84,26 +94,13 @@ leaf-parent : (k : ℕ) → ParentAt full (leaf k) 0
 unfolding full leaf nodeAt
 leaf-parent k = record { is-parent = refl; is-directory = refl }
 
-full-parents : (k : ℕ) → 0 < k → k < length full → (j : ℕ) × (j < k) × ParentAt full (nodeAt full k) j
-full-parents k l h = full-ind (λ k n. 0 < k → (j : ℕ) × (j < k) × ParentAt full n j) (λ l. absurd (omega arith)) (λ k h l. (0, l, leaf-parent k)) k h l
-
-full-rooted : Rooted full
-full-rooted = record {
-  no-parent = unfold full nodeAt in refl;
-  some-id = full-ind (λ k n. 0 < n .id) (omega arith) (λ k h. unfold leaf in omega arith);
-  own-id = full-ids;
-  rank = λ k. k;
-  low = λ k h. omega (arith, length-full);
-  has-parent = λ k l h. let (j, b, q) = full-parents k l h in (j, omega arith, b, q);
-}
-
-full-paths : (k : ℕ) → k < length full → pathLength full (nodeAt full k) ≤ PATH-BYTES
-unfolding full-rooted
-full-paths zero h = rw (pathLength-root full full-rooted) (omega arith)
-full-paths (suc k) h =
+full-ways : (k : ℕ) → k < length full → (v : Way full 0 k) × (bytes v ≤ PATH-BYTES)
+unfolding bytes
+full-ways zero h = (top, omega arith)
+full-ways (suc k) h =
     let q = full-ind (λ k n. 0 < k → ParentAt full n 0) (λ l. absurd (omega arith)) (λ k h l. leaf-parent k) (suc k) h (omega arith) in
     let n : length (nodeAt full (suc k) .name) ≤ 32 = full-ind (λ k n. length (n .name) ≤ 32) (omega arith) (λ k h. leaf-short k) (suc k) h in
-    rw (pathLength-step full full-rooted (suc k) 0 (omega arith) (omega arith) h q, pathLength-root full full-rooted) (omega arith)
+    (up 0 h q top, omega arith)
   where
     leaf-short : (k : ℕ) → length (leaf k .name) ≤ 32
     leaf-short k = unfold leaf leafName in rw length-tab (omega arith)
@@ -112,28 +109,37 @@ full-pages : pageTotal full ≡ 1024
 unfolding full leaf tab pageTotal pagesFor pick
 full-pages = refl
 
-pub full-sound : soundNodes 4 full ≡ true
-full-sound =
-    of-sound 4 full (record {
+full-order : Ordered full
+unfolding findId place pick
+full-order k l h = full-ind (λ k n. 0 < k → findId full (n .parent) < k) (λ l. absurd (omega arith))
+    (λ k h l. unfold leaf in rw first (omega arith)) k h l
+  where
+    first : findId full 1 ≡ 0
+    first = unfold full in refl
+
+pub full-sound : (w : ℕ) → 256 < 256 ^ w → soundNodes w full ≡ true
+full-sound w wide =
+    of-sound w full (record {
       has-root = omega (arith, length-full);
       count = omega (arith, length-full);
       root-first = unfold full nodeAt equal in refl;
-      limits = full-limits;
+      limits = full-limits w wide;
       names = λ k l h. full-ind (λ k n. 0 < k → isNamed n ≡ true) (λ l. absurd (omega arith)) (λ k h l. leaf-named k) k h l;
       ids = full-ids;
       siblings = full-siblings;
-      parents = full-parents;
-      paths = full-paths;
+      ways = full-ways;
       pages = omega (arith, full-pages);
+      order = full-order;
     })
 
 -- any digests will do
 longestImage : Image
 longestImage = (full, tab 1024 (λ _. tab 32 (λ _. 0)))
 
-longest-sound : sound 4 longestImage ≡ true
+longest-sound : (w : ℕ) → 256 < 256 ^ w → sound w longestImage ≡ true
 unfolding sound longestImage
-longest-sound = and-both _ _ full-sound (eq-eqb _ _ (length-tab 1024 (λ _. tab 32 (λ _. 0)) ∙ sym full-pages))
+longest-sound w wide = and-both _ _ (full-sound w wide)
+    (eq-eqb _ _ (length-tab 1024 (λ _. tab 32 (λ _. 0)) ∙ sym full-pages))
 
 leaf-bytes : (k : ℕ) → k < 255 → Bytes (leaf k .name)
 unfolding leaf leafName
@@ -150,8 +156,12 @@ longest-shaped = record {
   digests = all-tab 1024 (λ _. tab 32 (λ _. 0)) (λ i l. (length-tab 32 (λ _. 0), all-tab 32 (λ _. 0) (λ i l. omega arith)));
 }
 
-pub longest-reached : (i : Image) × (sound 4 i ≡ true) × Shaped i × (length (print 4 i) ≡ 44776)
-longest-reached = (longestImage, longest-sound, longest-shaped, length-print 4 longestImage longest-sound longest-shaped ∙ long)
+pub longest-reached : (y : Layout) → 256 < 256 ^ y .idBytes → (i : Image) × (sound (y .idBytes) i ≡ true) × Shaped i
+    × (length (print y i) ≡ longestLength y)
+longest-reached y wide =
+    let e = longest-sound (y .idBytes) wide in
+    (longestImage, e, longest-shaped, length-print y longestImage e longest-shaped ∙ long)
   where
-    long : imageLength 4 (longestImage .0) ≡ 44776
-    long = unfold longestImage full leaf leafName tab pageTotal pagesFor pick imageLength recordsLength in refl
+    long : imageLength y (longestImage .0) ≡ longestLength y
+    long = unfold longestImage full leaf leafName tab pageTotal pagesFor pick imageLength recordsLength longestLength
+        in omega arith

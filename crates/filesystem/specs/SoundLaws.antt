@@ -1,6 +1,6 @@
 -- Every change keeps nodes sound; a path's length found by climbing is that of the path walked.
 -- Assumes nothing.
-use mathlib.Core.Path.{_≡_, refl, ap, ap₂, sym, _∙_, subst}
+use mathlib.Core.Path.{_≡_, refl, ap, sym, _∙_, subst}
 use mathlib.Core.Logic.{_⊎_, inl, inr}
 use mathlib.Core.Bool.{true, _&&_, _||_, true≢false}
 use mathlib.Core.List.{List, [], _∷_, _++_}
@@ -19,13 +19,17 @@ use Rattle.lists.specs.Search.{every, any, unique, place, place-passes, without
 use Rattle.lists.specs.Places.{none-place, select-none, none-select, skip, skip-before, skip-mono, skip-below, unskip, length-without, getD-without}
 use Rattle.filesystem.specs.Tables.{NODES, PAGES, FILE-BYTES, NAME-BYTES, PATH-BYTES, Node, noNode, root, newNode, withMode, withSize, isFile, isDirectory, hasId, isChild, nodeAt, findId, findChild, hasParent, children, pagesFor, pageTotal, setMode, setSize}
 use Rattle.filesystem.specs.Paths.{Path, joined, componentForm, childAt, walk, walkChecks, parentChecks, parentOf, lastOf}
-use Rattle.filesystem.specs.Image.{climb, pathLength, isRoot, inLimits, isNamed, parentsEarlier, soundNodes}
-use Rattle.filesystem.specs.Sound.{ParentAt, Sound, to-limits, of-limits, nodeAt-append, parent-moved, to-sound, of-sound, limits-at, root-parent}
-use Rattle.filesystem.specs.Climb.{Rooted, rooted, Same, Kept, back, apart, later, parent-kept, pathLength-root, pathLength-step, pathLength-kept}
+use Rattle.filesystem.specs.Image.{climb, pathLength, isRoot, inLimits, isNamed, lies, parentsEarlier, soundNodes}
+use Rattle.filesystem.specs.Order.{Ordered}
+use Rattle.filesystem.specs.Ways.{Way, up, bytes, findId-only, find-parent}
+use Rattle.filesystem.specs.Sound.{ParentAt, Sound, of-limits, nodeAt-append, to-sound, of-sound, limits-at}
+use Rattle.filesystem.specs.Sound.{root-parent, ground, has-parent, parent-here}
+use Rattle.filesystem.specs.Climb.{rooted, Same, Kept, back, apart, later, parent-kept, way-kept}
+use Rattle.filesystem.specs.Climb.{pathLength-way, pathLength-root, pathLength-step}
 
 -- what a fresh guard has is sound
 pub sound-root : (w : ℕ) → 1 ≤ w → soundNodes w (root ∷ []) ≡ true
-unfolding soundNodes inLimits every unique any parentsEarlier pathLength climb pageTotal pagesFor equal pick
+unfolding soundNodes inLimits every unique any lies parentsEarlier pathLength climb pageTotal pagesFor equal pick
 sound-root zero h = absurd (omega arith)
 sound-root (suc w) h =
     let z = one-le-pow w 256 (omega arith) in
@@ -40,32 +44,29 @@ itself n = alike (n .mode) (n .size) n
 
 -- Nodes that stand for nodes of a sound list, each with its parent, are sound.
 module _ (w : ℕ) {ns ms : List Node} {φ : ℕ → ℕ} (p : Kept ns ms (length ms) φ) (s : Sound w ns) (some : 0 < length ms) (limited : (i : ℕ) → i < length ms → inLimits w (nodeAt ms i) ≡ true) where
-  rooted-kept : Rooted ms
-  rooted-kept = record {
-    no-parent = p .same 0 some .same-parent ∙ (ap (λ k. nodeAt ns k .parent) (p .first) ∙ root-parent w ns s);
-    some-id = λ k h. to-limits w (nodeAt ms k) (limited k h) .id-some;
-    own-id = λ i j h l e. apart p i j (s .ids (φ i) (φ j) (p .below i h) (p .below j l) (sym (p .same i h .same-id) ∙ (e ∙ p .same j l .same-id)));
-    rank = λ k. rooted w ns s .rank (φ k);
-    low = λ k h. rooted w ns s .low (φ k) (p .below k h);
-    has-parent = λ k l h.
-        let z = p .mono 0 k l in
-        let (j, i, b, q) = rooted w ns s .has-parent (φ k) (omega arith) (p .below k h) in
-        let (g, c, a) = p .closed k j h i q in
-        (g, c, subst (λ x. rooted w ns s .rank x < rooted w ns s .rank (φ k)) (sym a) b, parent-kept p k g h c (subst (ParentAt ns (nodeAt ns (φ k))) (sym a) q));
-  }
+  own-kept : (i j : ℕ) → i < length ms → j < length ms → nodeAt ms i .id ≡ nodeAt ms j .id → i ≡ j
+  own-kept i j h l e = apart p i j (s .ids (φ i) (φ j) (p .below i h) (p .below j l)
+      (sym (p .same i h .same-id) ∙ (e ∙ p .same j l .same-id)))
 
-  -- and they stand earlier
-  earlier-kept : (k : ℕ) → 0 < k → k < length ms → (j : ℕ) × (j < k) × ParentAt ms (nodeAt ms k) j
-  earlier-kept k l h =
+  -- and parents stand earlier still
+  order-kept : Ordered ms
+  order-kept k l h =
       let z = p .mono 0 k l in
-      let m = p .below k h in
-      let (j, b, q) = s .parents (φ k) (omega arith) m in
-      let (g, c, a) = p .closed k j h (omega arith) q in
-      (g, back p g k (omega arith), parent-kept p k g h c (subst (ParentAt ns (nodeAt ns (φ k))) (sym a) q))
+      let (j, i, q) = has-parent w ns s (φ k) (omega arith) (p .below k h) in
+      let (g, c, a) = p .closed k j h i q in
+      let o : φ g < φ k = omega (
+        arith,
+        s .order (φ k) (omega arith) (p .below k h),
+        find-parent (ground w ns s)
+            (nodeAt ns (φ k)) j q,
+      ) in
+      let f : findId ms (nodeAt ms k .parent) ≡ g =
+      ap (findId ms) (sym (parent-kept p k g h c (subst (ParentAt ns (nodeAt ns (φ k))) (sym a) q) .is-parent))
+      ∙ findId-only ms g c (λ i b e. own-kept i g b c e) in
+      omega (arith, back p g k o)
 
   sound-kept : pageTotal ms ≤ PAGES → Sound w ms
   sound-kept pages =
-      let r = rooted-kept in
       let z = p .same 0 some in
       record {
         has-root = some;
@@ -74,12 +75,13 @@ module _ (w : ℕ) {ns ms : List Node} {φ : ℕ → ℕ} (p : Kept ns ms (lengt
             ∙ (ap (λ k. isRoot (nodeAt ns k)) (p .first) ∙ s .root-first);
         limits = limited;
         names = λ k l h. ap (λ c. componentForm c && leb (length c) NAME-BYTES) (p .same k h .same-name) ∙ s .names (φ k) (let m = p .mono 0 k l in omega arith) (p .below k h);
-        ids = r .own-id;
+        ids = own-kept;
         siblings = λ i j h l e f. apart p i j (s .siblings (φ i) (φ j) (p .below i h) (p .below j l)
             (sym (p .same i h .same-parent) ∙ (e ∙ p .same j l .same-parent)) (sym (p .same i h .same-name) ∙ (f ∙ p .same j l .same-name)));
-        parents = earlier-kept;
-        paths = λ k h. rw (pathLength-kept p (rooted w ns s) r k h) (s .paths (φ k) (p .below k h));
+        ways = λ k h. let (v, b) = s .ways (φ k) (p .below k h) in let (u, e) = way-kept p v k h refl in
+            (u, omega arith);
         pages = pages;
+        order = order-kept;
       }
 
 -- A change of one node, in mode or size.
@@ -181,8 +183,8 @@ module _ (w : ℕ) (ns : List Node) (k : ℕ) (h : k < length ns) where
       omega (arith, root-parent w ns s, limits-at w ns s k h .id-some)
   file-childless e f (suc i) b q =
       let s = to-sound w ns e in
-      let (j, l, d) = s .parents (suc i) (omega arith) b in
-      let a : j ≡ k = s .ids j k (omega arith) h (d .is-parent ∙ q) in
+      let (j, l, d) = has-parent w ns s (suc i) (omega arith) b in
+      let a : j ≡ k = s .ids j k l h (d .is-parent ∙ q) in
       omega (arith, eqb-true (nodeAt ns k .kind) 1 f, eqb-true (nodeAt ns k .kind) 2 (ap (λ x. isDirectory (nodeAt ns x)) (sym a) ∙ d .is-directory))
 
   pub file-children : soundNodes w ns ≡ true → isFile (nodeAt ns k) ≡ true → children ns (nodeAt ns k .id) ≡ []
@@ -281,56 +283,62 @@ module _ (w : ℕ) (ns : List Node) (d id kind mode : ℕ) (name : List ℕ) (a 
       let e = nodeAt-append ns (new ∷ []) d (a .place) in
       record { is-parent = ap (λ n. n .id) e; is-directory = ap isDirectory e ∙ a .folder }
 
-  earlier-add : (k : ℕ) → 0 < k → k < length more → (j : ℕ) × (j < k) × ParentAt more (nodeAt more k) j
-  earlier-add k l h =
-      snoc-ind ns new (λ k m. 0 < k → (j : ℕ) × (j < k) × ParentAt more m j)
-      (λ k h l.
-      let (j, b, q) = s .parents k l h in
-      let e = nodeAt-append ns (new ∷ []) j (omega arith) in
-      (j, b, parent-moved (ap (λ n. n .id) e) (ap (λ n. n .kind) e) refl q))
-      (λ l. (d, a .place, parent-new)) k h l
+  -- the ways of the others stay, and the new node's goes on with its parent's
+  ways-add : (k : ℕ) → k < length more → (v : Way more 0 k) × (bytes v ≤ PATH-BYTES)
+  unfolding bytes
+  ways-add = snoc-ind ns new (λ k m. (v : Way more 0 k) × (bytes v ≤ PATH-BYTES)) old last
+    where
+      old : (k : ℕ) → k < length ns → (v : Way more 0 k) × (bytes v ≤ PATH-BYTES)
+      old k h = let (v, b) = s .ways k h in let (u, e) = way-kept kept-add v k h refl in (u, omega arith)
 
-  rooted-add : Rooted more
-  rooted-add = record {
-    no-parent = ap (λ n. n .parent) (nodeAt-append ns (new ∷ []) 0 (s .has-root)) ∙ root-parent w ns s;
-    some-id = λ k h. to-limits w (nodeAt more k) (limits-add k h) .id-some;
-    own-id = snoc-apart ns new (λ n m. n .id ≡ m .id) (s .ids) id-apart (λ i h e. id-apart i h (sym e));
-    rank = λ k. k;
-    low = λ k h. let r = a .room in let m = length-append ns (new ∷ []) in omega arith;
-    has-parent = λ k l h. let (j, b, q) = earlier-add k l h in (j, omega arith, b, q);
-  }
+      last : (v : Way more 0 (length ns)) × (bytes v ≤ PATH-BYTES)
+      last =
+          let l : length ns < length more = rw length-append (omega arith) in
+          let (v, b) = s .ways d (a .place) in
+          let (u, e) = way-kept kept-add v d (a .place) refl in
+          let z = pathLength-way ns (rooted w ns s) (a .place) v in
+          let n : length (nodeAt more (length ns) .name) ≡ length name = ap (λ (m : Node). length (m .name))
+          (nodeAt-last ns new) in
+          let y = a .path in
+          (up d l (subst (λ n. ParentAt more n d) (sym (nodeAt-last ns new)) parent-new) u, omega arith)
 
-  path-kept : (k : ℕ) → k < length ns → pathLength more (nodeAt more k) ≡ pathLength ns (nodeAt ns k)
-  path-kept = pathLength-kept kept-add (rooted w ns s) rooted-add
+  ids-add : (i j : ℕ) → i < length more → j < length more → nodeAt more i .id ≡ nodeAt more j .id → i ≡ j
+  ids-add = snoc-apart ns new (λ n m. n .id ≡ m .id) (s .ids) id-apart (λ i h e. id-apart i h (sym e))
 
-  -- the path of the new node
-  path-new : pathLength more new ≡ suc (length name) + pathLength ns (nodeAt ns d)
-  unfolding rooted-add
-  path-new =
-      let e = nodeAt-last ns new in
-      let l : length ns < length more = rw length-append (omega arith) in
-      ap (pathLength more) (sym e)
-      ∙ (pathLength-step more rooted-add (length ns) d (rw length-append (let z = a .place in omega arith)) (a .place) l (subst (λ n. ParentAt more n d) (sym e) parent-new)
-      ∙ ap₂ (λ n t. suc (length (n .name)) + t) e (path-kept d (a .place)))
+  -- the new node's parent stands earlier, as the others' do
+  order-add : Ordered more
+  order-add k l h =
+      snoc-ind ns new (λ k m. 0 < k → findId more (m .parent) < k)
+      (λ k h l. earlier k (has-parent w ns s k l h) (s .order k l h))
+      (λ l. omega (arith, at-place d (a .place), a .place)) k h l
+    where
+      at-place : (j : ℕ) → j < length ns → findId more (nodeAt ns j .id) ≡ j
+      at-place j b =
+          let l : j < length more = rw length-append (omega arith) in
+          ap (λ n. findId more (n .id)) (sym (nodeAt-append ns (new ∷ []) j b))
+          ∙ findId-only more j l (λ i h e. ids-add i j h l e)
+
+      earlier : (k : ℕ) → (j : ℕ) × (j < length ns) × ParentAt ns (nodeAt ns k) j → findId ns (nodeAt ns k .parent) < k
+          → findId more (nodeAt ns k .parent) < k
+      earlier k (j, b, q) o =
+          let e = find-parent (ground w ns s) (nodeAt ns k) j q in
+          omega (arith, ap (findId more) (sym (q .is-parent)) ∙ at-place j b)
 
   sound-more : Sound w more
   sound-more =
-      let r = rooted-add in
       record {
         has-root = rw length-append (omega arith);
         count = let h = a .room in rw length-append (omega arith);
         root-first = ap isRoot (nodeAt-append ns (new ∷ []) 0 (s .has-root)) ∙ s .root-first;
         limits = limits-add;
         names = λ k l h. snoc-ind ns new (λ k m. 0 < k → isNamed m ≡ true) (λ k h l. s .names k l h) (λ l. and-both _ _ (a .form) (le-leb _ _ (a .short))) k h l;
-        ids = r .own-id;
+        ids = ids-add;
         siblings = λ i j h l e f.
             snoc-apart ns new (λ n m. (n .parent ≡ m .parent) × (n .name ≡ m .name)) (λ i j h l r. s .siblings i j h l (r .0) (r .1))
             (λ i h r. child-apart i h (r .0) (r .1)) (λ i h r. child-apart i h (sym (r .0)) (sym (r .1))) i j h l (e, f);
-        parents = earlier-add;
-        paths = snoc-ind ns new (λ k m. pathLength more m ≤ PATH-BYTES)
-            (λ k h. subst (λ n. pathLength more n ≤ PATH-BYTES) (nodeAt-append ns (new ∷ []) k h) (rw (path-kept k h) (s .paths k h)))
-            (rw path-new (let h = a .path in omega arith));
+        ways = ways-add;
         pages = rw (pageTotal-append ns (new ∷ [])) (let h = s .pages in unfold pageTotal pagesFor in omega arith);
+        order = order-add;
       }
 
 pub sound-add : (w : ℕ) (ns : List Node) (d id kind mode : ℕ) (name : List ℕ) → soundNodes w ns ≡ true → Addable w ns d id kind mode name
@@ -355,15 +363,8 @@ module _ (w : ℕ) (ns : List Node) (sound : soundNodes w ns ≡ true) where
   path-child d c h l =
       let s = to-sound w ns sound in
       let (e, f) = child-found ns d c l in
-      let (b, q) = parent-place s (childAt ns d c) l e in
-      pathLength-step ns (rooted w ns s) (childAt ns d c) d h b l q ∙ ap (λ x. suc (length x) + pathLength ns (nodeAt ns d)) f
-    where
-      parent-place : (s : Sound w ns) (k : ℕ) → k < length ns → nodeAt ns k .parent ≡ nodeAt ns d .id
-          → (rooted w ns s .rank d < rooted w ns s .rank k) × ParentAt ns (nodeAt ns k) d
-      parent-place s zero l e = absurd (omega (arith, root-parent w ns s, limits-at w ns s d h .id-some))
-      parent-place s (suc k) l e =
-          let (j, i, b, q) = rooted w ns s .has-parent (suc k) (omega arith) l in
-          subst (λ x. (rooted w ns s .rank x < rooted w ns s .rank (suc k)) × ParentAt ns (nodeAt ns (suc k)) x) (s .ids j d i h (q .is-parent ∙ e)) (b, q)
+      pathLength-step ns (rooted w ns s) (childAt ns d c) d l (parent-here w ns s (childAt ns d c) d l h e)
+      ∙ ap (λ x. suc (length x) + pathLength ns (nodeAt ns d)) f
 
   pub walk-length : (d : ℕ) (p : Path) → d < length ns → Passed (walkChecks ns d p)
       → pathLength ns (nodeAt ns (walk ns d p)) ≡ pathLength ns (nodeAt ns d) + length (joined p)
@@ -385,10 +386,10 @@ module _ (w : ℕ) (ns : List Node) (sound : soundNodes w ns ≡ true) where
   pub root-walk-length : (p : Path) → Passed (walkChecks ns 0 p) → pathLength ns (nodeAt ns (walk ns 0 p)) ≡ length (joined p)
   root-walk-length p a =
       let s = to-sound w ns sound in
-      walk-length 0 p (s .has-root) a ∙ rw (pathLength-root ns (rooted w ns s)) (omega arith)
+      walk-length 0 p (s .has-root) a ∙ rw (pathLength-root ns (rooted w ns s) (s .has-root)) (omega arith)
 
   pub root-parent-length : (c : List ℕ) (cs : Path) → Passed (parentChecks ns 0 (c ∷ cs))
       → pathLength ns (nodeAt ns (parentOf ns 0 (c ∷ cs))) + 1 + length (lastOf (c ∷ cs)) ≡ length (joined (c ∷ cs))
   root-parent-length c cs a =
       let s = to-sound w ns sound in
-      parent-length 0 c cs (s .has-root) a ∙ rw (pathLength-root ns (rooted w ns s)) (omega arith)
+      parent-length 0 c cs (s .has-root) a ∙ rw (pathLength-root ns (rooted w ns s) (s .has-root)) (omega arith)

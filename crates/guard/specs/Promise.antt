@@ -17,6 +17,7 @@ use lib.ListN.{length, drop}
 use Rattle.lists.specs.Pick.{pick}
 use Rattle.memory.specs.Layout.{memorySize}
 use Rattle.filesystem.specs.Tables.{DIGEST-BYTES, PAGES, pageTotal}
+use Rattle.filesystem.specs.Image.{current}
 use Rattle.rules.specs.Skeleton.{Event, call, reply, save, load, EventBytes, Buffers, buffersAfter, atFront, imageAfter}
 use Rattle.rules.specs.Skeleton.{answerLength, requestLength, Skeleton}
 use Rattle.rules.specs.Rules.{isIdle}
@@ -64,7 +65,7 @@ Ready s (call b a q) = firstOf 114 0 (s .skeleton) ≡ 0 → answerLength delive
 Ready s (reply b a q) = firstOf 0 61 (s .skeleton) ≡ 0 → answerLength delivered ≤ a → requestLength delivered ≤ q
     → Consistent delivered s
 Ready s (save n) = firstOf 114 0 (s .skeleton) ≡ 0 → pageTotal (s .skeleton .tables .nodes) ≤ PAGES
-Ready s (load i d) = Unit {0}
+Ready s (load v i d) = Unit {0}
 
 -- The outcome r and the state s′ are those of the result x, with a and q where an answer's and a request's bytes stand.
 -- How many they are is said as a number: bytes that fill a buffer do not say it.
@@ -139,11 +140,11 @@ pub record SavePromise (m : List ℕ) (r : Outcome) (m′ i i′ d d′ : List �
   pub saves : memorySize ≤ length m → Ready (held m) (save (length i)) → Saving (held m) r (held m′) i i′ d d′
   pub short : length m < memorySize → (r ≡ Refused 34) × (m′ ≡ m) × (i′ ≡ i) × (d′ ≡ d)
 
--- Of a load of image i with digest d.
+-- Of a load of image i, of the current version, with digest d.
 pub record LoadPromise (m i d : List ℕ) (r : Outcome) (m′ : List ℕ) : Type 0 where
-  pub bytes : EventBytes (load i d)
+  pub bytes : EventBytes (load current i d)
   pub own : Own m m′
-  pub loads : memorySize ≤ length m → Steps (held m) (load i d) r (held m′) [] []
+  pub loads : memorySize ≤ length m → Steps (held m) (load current i d) r (held m′) [] []
   pub short : length m < memorySize → (r ≡ Refused 34) × (m′ ≡ m)
 
 -- What C sees of an outcome.

@@ -6,6 +6,7 @@ ghost use mathlib.Core.List.{[]};
 ghost use mathlib.Core.Path.{_≡_};
 ghost use lib.Dec.{ltb};
 ghost use lib.ListN.{length};
+ghost use Rattle.filesystem.specs.Image.{current};
 ghost use Rattle.filesystem.specs.Tables.{DIGEST-BYTES};
 ghost use Rattle.rules.specs.Skeleton.{call, reply, save, load, answerLength, requestLength};
 ghost use Rattle.machine.specs.Machine.{fresh, guard as digestStore};
@@ -144,7 +145,7 @@ fn take_save(m: &mut [u8], image: &mut [u8], digest: &mut [u8]) -> outcomes::Out
 // A load: 5, 114, then 16, 74, 84, or the image's tables.
 fn take_load(m: &mut [u8], image: &[u8], digest: &[u8]) -> outcomes::Outcome
     requires { ⌜ IsMemory m ⌝ }
-    ensures { λ r. ⌜ Steps (held (now (m .entry))) (load (now (image .entry)) (now (digest .entry))) r
+    ensures { λ r. ⌜ Steps (held (now (m .entry))) (load current (now (image .entry)) (now (digest .entry))) r
         (held (now (m .exit))) [] [] ⌝ }
     ensures { λ _. ⌜ KeepsLength m ⌝ }
 {

@@ -14,6 +14,7 @@ use lib.ListN.{length, take}
 use Rattle.lists.specs.All.{All}
 use Rattle.lists.specs.Or.{Or}
 use Rattle.digest.specs.Sha256.{sha256}
+use Rattle.filesystem.specs.Image.{current}
 use Rattle.rules.specs.Skeleton.{Event, call, reply, save, load, Answer, done, ask, refused, stopped, plain}
 use Rattle.configuration.specs.Delivered.{delivered}
 use Rattle.machine.specs.Machine.{State, imageOf, fresh, guard as digestStore}
@@ -68,7 +69,7 @@ pub data Link (m m′ : List ℕ) : (readOnly : Bool) → Seen → Type 0 where
   saved : {b : Bool} (i i′ d d′ : List ℕ) (r : GuardOutcome) → Shown (λ o. SavePromise m o m′ i i′ d d′) r
       → Link m m′ b (seenSaved (length i) (answerRead r i′ []) d′)
   loaded : {b : Bool} (i d : List ℕ) (r : GuardOutcome) → Shown (λ o. LoadPromise m i d o m′) r
-      → Link m m′ b (seenAs (load i d) (answerRead r [] []))
+      → Link m m′ b (seenAs (load current i d) (answerRead r [] []))
 
 -- One entry after the other, nobody else writing the memory meanwhile.
 pub data Chain (b : Bool) : List ℕ → List Seen → List ℕ → Type 0 where

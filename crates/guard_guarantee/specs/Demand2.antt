@@ -14,7 +14,7 @@ use Rattle.lists.specs.Checks.{First, Passed}
 use Rattle.lists.specs.Search.{without}
 use Rattle.filesystem.specs.Tables.{NODES, OPEN-FILES, Node, Tables, openAt}
 use Rattle.filesystem.specs.Paths.{Path}
-use Rattle.filesystem.specs.Image.{Image, print, parse, sound}
+use Rattle.filesystem.specs.Image.{Layout, Image, print, parse, sound}
 use Rattle.filesystem.specs.ImageLaws.{Shaped, parse-exactly}
 use Rattle.rules.specs.Calls.{create, mkdir, openAs}
 use Rattle.rules.specs.Pages.{writing}
@@ -96,9 +96,9 @@ pub record Demand2 : Type 0 where
   pub mkdir-full : (t : Tables) (m : ℕ) (p : Path) → First 28 (callChecks t (mkdir m p)) → NODES ≤ length (t .nodes)
   pub open-full : (t : Tables) (r : ℕ) (p : Path) → First 24 (callChecks t (openAs r p))
       → OPEN-FILES ≤ length (t .opens)
-  -- an image is read exactly where sound tables print as it
-  pub images : (w : ℕ) (s : List ℕ) (i : Image) → Bytes s
-      → (parse w s ≡ some i) ↔ ((sound w i ≡ true) × Shaped i × (print w i ≡ s))
+  -- in every layout an image is read exactly where sound tables print as it
+  pub images : (y : Layout) (s : List ℕ) (i : Image) → Bytes s
+      → (parse y s ≡ some i) ↔ ((sound (y .idBytes) i ≡ true) × Shaped i × (print y i ≡ s))
 
 pub demand-2 : Demand2
 demand-2 =

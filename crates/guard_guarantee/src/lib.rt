@@ -3,6 +3,7 @@
 ghost use mathlib.Core.Bool.{Bool, true, false};
 ghost use mathlib.Core.List.{[]};
 ghost use lib.ListN.{length};
+ghost use Rattle.filesystem.specs.Image.{current};
 ghost use Rattle.rules.specs.Skeleton.{call, reply, load};
 ghost use Rattle.guard_guarantee.specs.Chains.{answerRead, seenAs, seenSaved, Link, Begins};
 
@@ -60,7 +61,7 @@ pub fn link_save(memory: &mut [u8], image: &mut [u8], digest: &mut [u8; 32]) -> 
 
 pub fn link_load(memory: &mut [u8], image: &[u8], digest: &[u8]) -> guard::GuardOutcome
     ensures { λ r. ⌜ ((b : Bool) → Link (now (memory .entry)) (now (memory .exit)) b
-        (seenAs (load (now (image .entry)) (now (digest .entry))) (answerRead r [] []))) ⌝ }
+        (seenAs (load current (now (image .entry)) (now (digest .entry))) (answerRead r [] []))) ⌝ }
 {
     guard::guard_entry_load(memory, image, digest)
 }

@@ -1,5 +1,2 @@
-pub mod Records
-pub mod Admission
-pub mod Formed
-pub mod Loaded
+pub mod Judged
 pub mod laws

@@ -1,7 +1,3 @@
-pub mod AdmissionLaws
-pub mod LoadedLaws
-pub mod ParseLaws
-pub mod RecordLaws
-pub mod SoundAdmitted
-pub mod StepLaws
-pub mod TestLaws
+pub mod PlaceLaws
+pub mod ApartLaws
+pub mod RootedLaws

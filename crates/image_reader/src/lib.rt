@@ -1,151 +1,188 @@
-// The image read from any bytes (SPECIFICATION 8.4, 8.6): whether it is sound, and its tables put into the memory.
-ghost use mathlib.Core.Bool.{true, _&&_, _||_};
-ghost use mathlib.Core.List.{[], _∷_};
+// An image of any bytes, in any layout (SPECIFICATION 8.6): whether it is sound, whatever the order of its records.
+// `w` and `maker` are the layout: the bytes of an id, and those of a record's maker.
+ghost use mathlib.Core.Bool.{true, _&&_};
 ghost use mathlib.Core.Path.{_≡_};
-ghost use Prim.Native.Nat.{_+_, _-_, _*_, _≤_, _<_};
-ghost use lib.Dec.{eqb, leb};
-ghost use lib.ListN.{length, set};
-ghost use Rattle.lists.specs.Parts.{overwrite};
-ghost use Rattle.lists.specs.Pick.{pick};
-ghost use Rattle.lists.specs.Search.{any, every, place};
-ghost use Rattle.filesystem.specs.Image.{isRoot, inLimits, soundNodes, parse};
-ghost use Rattle.filesystem.specs.Paths.{componentForm};
-ghost use Rattle.filesystem.specs.Tables.{ID-BYTES, NODES, PAGES, DIGEST-BYTES, FILE-BYTES, NAME-BYTES, pageTotal};
-ghost use Rattle.numbers.specs.Slices.{KeepsLength};
-ghost use Rattle.memory.specs.Layout.{withNodes, withDigests};
-ghost use Rattle.memory.specs.Memories.{Becomes, IsMemory, was};
-ghost use Rattle.image_writer.specs.Width.{frontLength};
-ghost use Rattle.image_reader.specs.Admission.{clash, isParent, admit, admitted};
-ghost use Rattle.image_reader.specs.Loaded.{Loaded};
-ghost use Rattle.image_reader.specs.Records.{recordAt, recordEnd, nodesFrom, endFrom, recordsEnd, digestCount};
-ghost use Rattle.image_reader.specs.Records.{imageDigests, formed, plainByte, isSome};
+ghost use Prim.Native.Nat.{_+_, _*_, _%_, _≤_, _<_};
+ghost use lib.ListN.{length};
+ghost use Rattle.filesystem.specs.Image.{inLimits, isNamed, sameChild, soundNodes, parse};
+ghost use Rattle.filesystem.specs.Layouts.{layout, IsLayout};
+ghost use Rattle.filesystem.specs.Tables.{NODES, PAGES, pageTotal};
+ghost use Rattle.links.specs.Buckets.{BUCKETS, Indexed};
+ghost use Rattle.image_records.specs.Records.{recordAt, recordEnd, nodesFrom, endFrom};
+ghost use Rattle.image_records.specs.Records.{isSome};
+ghost use Rattle.image_reader.specs.Judged.{spread, nodeOn, Located, Standing, idAt, idKey, nameKey};
+ghost use Rattle.image_reader.specs.Judged.{Found, OwnId, OwnIds, OwnName, Judges, Apart, Directory, Placed};
+ghost use Rattle.image_reader.specs.Judged.{Rooted};
 
-const ID_BYTES: usize = limits::ID_BYTES;
+const INDEX: usize = links::BUCKETS + limits::NODES;
 
-// A record up to its name.
-const FRONT: usize = 2 * ID_BYTES + 7;
-
-// A length that no path may have.
-const TOO_LONG: usize = limits::PATH_BYTES + 1;
-
-// ---- a record's fields
-
-fn record_id(image: &[u8], at: usize) -> u64
-    requires { ⌜ at + frontLength ID-BYTES ≤ length (now image) ⌝ }
-    ensures { λ r. ⌜ r ≡ recordAt ID-BYTES (now (image .entry)) at .id ⌝ }
-{
-    numbers::number_at(image, at, ID_BYTES)
-}
-
-fn record_parent(image: &[u8], at: usize) -> u64
-    requires { ⌜ at + frontLength ID-BYTES ≤ length (now image) ⌝ }
-    ensures { λ r. ⌜ r ≡ recordAt ID-BYTES (now (image .entry)) at .parent ⌝ }
-{
-    numbers::number_at(image, at + ID_BYTES, ID_BYTES)
-}
-
-fn record_kind(image: &[u8], at: usize) -> u8
-    requires { ⌜ at + frontLength ID-BYTES ≤ length (now image) ⌝ }
-    ensures { λ r. ⌜ r ≡ recordAt ID-BYTES (now (image .entry)) at .kind ⌝ }
-{
-    image[at + 2 * ID_BYTES]
-}
-
-fn record_mode(image: &[u8], at: usize) -> u8
-    requires { ⌜ at + frontLength ID-BYTES ≤ length (now image) ⌝ }
-    ensures { λ r. ⌜ r ≡ recordAt ID-BYTES (now (image .entry)) at .mode ⌝ }
-{
-    image[at + 2 * ID_BYTES + 1]
-}
-
-fn record_size(image: &[u8], at: usize) -> u32
-    requires { ⌜ at + frontLength ID-BYTES ≤ length (now image) ⌝ }
-    ensures { λ r. ⌜ r ≡ recordAt ID-BYTES (now (image .entry)) at .size ⌝ }
-{
-    numbers::u32_at(image, at + 2 * ID_BYTES + 2)
-}
-
-// The place behind the record.
-fn record_end(image: &[u8], at: usize) -> usize
-    requires { ⌜ at + frontLength ID-BYTES ≤ length (now image) ⌝ }
-    ensures { λ r. ⌜ (r ≡ recordEnd ID-BYTES (now (image .entry)) at) × (at + frontLength ID-BYTES ≤ r)
-        × (r ≤ at + frontLength ID-BYTES + 255) ⌝ }
-{
-    at + FRONT + image[at + 2 * ID_BYTES + 6] as usize
-}
-
-fn record_name(image: &[u8], at: usize) -> &[u8]
-    requires { ⌜ recordEnd ID-BYTES (now image) at ≤ length (now image) ⌝ }
-    ensures { λ r. ⌜ now r ≡ recordAt ID-BYTES (now (image .entry)) at .name ⌝ }
-{
-    let start = at + FRONT;
-    let end = record_end(image, at);
-    &image[start..end]
-}
-
-// ---- where the sections stand
-
-// The place behind n records, or 0 where the image ends before that.
-fn records_end(image: &[u8], n: usize) -> usize
-    requires { ⌜ 4 ≤ length (now image) ⌝ }
-    ensures { λ r. ⌜ (r ≡ pick (leb (endFrom ID-BYTES (now (image .entry)) 4 n) (length (now (image .entry))))
-        (endFrom ID-BYTES (now (image .entry)) 4 n) 0) × (r ≤ length (now (image .entry))) ⌝ }
+// Where each of the first n records stands.
+fn locate(image: &[u8], w: usize, maker: usize, n: usize, starts: &mut [u32])
+    requires { ⌜ IsLayout w maker × (n ≤ NODES) × (endFrom (layout w maker) (now image) 4 n ≤ length (now image))
+        × (length (now starts) ≡ NODES) ⌝ }
+    ensures { λ _. ⌜ Located (layout w maker) (now (image .entry)) (now (starts .exit)) n ⌝ }
 {
     let mut at = 4;
     let mut i = 0;
-    // i records end at `at`, within the image
+    // the i records before `at` are located
     while i < n {
-        if image.len() - at < FRONT {
-            return 0;
-        }
-        at = record_end(image, at);
-        if image.len() < at {
-            return 0;
-        }
+        starts[i] = at as u32;
+        at = image_records::record_end(image, w, maker, at);
         i += 1;
     }
-    at
 }
 
-// The place behind the records where the image has its form, else 0.
-fn form(image: &[u8]) -> usize
-    ensures { λ r. ⌜ r ≡ pick (formed ID-BYTES (now (image .entry))) (recordsEnd ID-BYTES (now (image .entry))) 0 ⌝ }
+// ---- a record against those before it
+
+// The place among the first i records of the one with this id, or i.
+fn find_id(image: &[u8], w: usize, starts: &[u32], ids: &[u8], i: usize, id: u64) -> usize
+    requires { ⌜ (0 < i) × Standing w (now image) (now starts) i
+        × Indexed (now ids) (idKey w (now image) (now starts)) i ⌝ }
+    ensures { λ r. ⌜ Found (idAt w (now (image .entry)) (now (starts .entry))) i id r ⌝ }
 {
-    let len = image.len();
-    if len < 4 {
+    let mut k = ids[(id % 256) as usize] as usize;
+    // no record of the bucket before k has it
+    while 0 < k {
+        if image_records::record_id(image, w, starts[k] as usize) == id {
+            return k;
+        }
+        k = ids[links::BUCKETS + k] as usize;
+    }
+    if image_records::record_id(image, w, starts[0] as usize) == id {
         return 0;
     }
-    let n = numbers::u32_at(image, 0) as usize;
-    if limits::NODES < n {
-        return 0;
-    }
-    let end = records_end(image, n);
-    if end == 0 {
-        return 0;
-    }
-    if len - end < 4 {
-        return 0;
-    }
-    let k = numbers::u32_at(image, end) as usize;
-    if len - end - 4 != k * limits::DIGEST_BYTES {
-        return 0;
-    }
-    end
+    i
 }
 
-// ---- a node by itself
-
-// No byte 0 and no slash.
-fn is_plain(name: &[u8]) -> bool
-    ensures { λ r. ⌜ r ≡ every plainByte (now (name .entry)) ⌝ }
+// Whether record i has an id of its own among those before it; it is put into the index.
+fn takes_id(image: &[u8], w: usize, starts: &[u32], ids: &mut [u8], i: usize) -> bool
+    requires { ⌜ (0 < i) × Standing w (now image) (now starts) (i + 1)
+        × Indexed (now ids) (idKey w (now image) (now starts)) i ⌝ }
+    ensures { λ r. ⌜ OwnId (idAt w (now (image .entry)) (now (starts .entry))) i r ⌝ }
+    ensures { λ r. ⌜ (r ≡ true
+        → Indexed (now (ids .exit)) (idKey w (now (image .entry)) (now (starts .entry))) (i + 1)) ⌝ }
 {
+    let id = image_records::record_id(image, w, starts[i] as usize);
+    if find_id(image, w, starts, ids, i, id) < i {
+        return false;
+    }
+    links::insert(ids, (id % 256) as usize, i);
+    true
+}
+
+// The bucket of a node with this parent and name.
+fn name_bucket(parent: u64, name: &[u8]) -> usize
+    ensures { λ r. ⌜ (r ≡ spread (parent % BUCKETS) (now (name .entry))) × (r < BUCKETS) ⌝ }
+{
+    let mut b = (parent % 256) as usize;
     let mut i = 0;
-    // the first i bytes are plain
+    // b is the bucket of the first i bytes
     while i < name.len() {
-        if name[i] == 0 {
+        b = (b * 31 + name[i] as usize) % links::BUCKETS;
+        i += 1;
+    }
+    b
+}
+
+// Whether the records at a and b have one parent and one name.
+fn are_siblings(image: &[u8], w: usize, maker: usize, a: usize, b: usize) -> bool
+    requires { ⌜ IsLayout w maker × (recordEnd (layout w maker) (now image) a ≤ length (now image))
+        × (recordEnd (layout w maker) (now image) b ≤ length (now image)) ⌝ }
+    ensures { λ r. ⌜ r ≡ sameChild (recordAt (layout w maker) (now (image .entry)) a)
+        (recordAt (layout w maker) (now (image .entry)) b) ⌝ }
+{
+    if image_records::record_parent(image, w, a) != image_records::record_parent(image, w, b) {
+        return false;
+    }
+    let name = image_records::record_name(image, w, maker, a);
+    buffers::same(name, image_records::record_name(image, w, maker, b))
+}
+
+// Whether record i, which belongs into bucket b, has a name of its own among its siblings before it.
+fn is_own_name(
+    image: &[u8],
+    w: usize,
+    maker: usize,
+    starts: &[u32],
+    names: &[u8],
+    i: usize,
+    b: usize,
+) -> bool
+    requires { ⌜ (0 < i) × IsLayout w maker × Located (layout w maker) (now image) (now starts) (i + 1)
+        × Indexed (now names) (nameKey (layout w maker) (now image) (now starts)) i
+        × (b ≡ nameKey (layout w maker) (now image) (now starts) i) ⌝ }
+    ensures { λ r. ⌜ OwnName (nodeOn (layout w maker) (now (image .entry)) (now (starts .entry))) i r ⌝ }
+{
+    let at = starts[i] as usize;
+    let mut k = names[b] as usize;
+    // no record of the bucket before k is a sibling with its name
+    while 0 < k {
+        if are_siblings(image, w, maker, starts[k] as usize, at) {
             return false;
         }
-        if name[i] == 47 {
+        k = names[links::BUCKETS + k] as usize;
+    }
+    !are_siblings(image, w, maker, starts[0] as usize, at)
+}
+
+// Whether record i has a name of its own among its siblings before it; it is put into the index.
+fn takes_name(
+    image: &[u8],
+    w: usize,
+    maker: usize,
+    starts: &[u32],
+    names: &mut [u8],
+    i: usize,
+) -> bool
+    requires { ⌜ (0 < i) × IsLayout w maker × Located (layout w maker) (now image) (now starts) (i + 1)
+        × Indexed (now names) (nameKey (layout w maker) (now image) (now starts)) i ⌝ }
+    ensures { λ r. ⌜ OwnName (nodeOn (layout w maker) (now (image .entry)) (now (starts .entry))) i r ⌝ }
+    ensures { λ r. ⌜ (r ≡ true
+        → Indexed (now (names .exit)) (nameKey (layout w maker) (now (image .entry)) (now (starts .entry))) (i + 1)) ⌝ }
+{
+    let at = starts[i] as usize;
+    let parent = image_records::record_parent(image, w, at);
+    let b = name_bucket(parent, image_records::record_name(image, w, maker, at));
+    if !is_own_name(image, w, maker, starts, names, i, b) {
+        return false;
+    }
+    links::insert(names, b, i);
+    true
+}
+
+// Whether the record is within its limits and has a name, by itself.
+fn stands(image: &[u8], w: usize, maker: usize, at: usize) -> bool
+    requires { ⌜ IsLayout w maker × (recordEnd (layout w maker) (now image) at ≤ length (now image)) ⌝ }
+    ensures { λ r. ⌜ r ≡ (inLimits w (recordAt (layout w maker) (now (image .entry)) at)
+        && isNamed (recordAt (layout w maker) (now (image .entry)) at)) ⌝ }
+{
+    if !image_records::is_in_limits(image, w, maker, at) {
+        return false;
+    }
+    image_records::is_named(image_records::record_name(image, w, maker, at))
+}
+
+// Whether the records stand, each by itself, and have ids and names of their own; the root is known to stand. They are
+// found by their ids in the index `ids`, which has the root alone at first.
+fn are_apart(image: &[u8], w: usize, maker: usize, n: usize, starts: &[u32], ids: &mut [u8]) -> bool
+    requires { ⌜ (0 < n) × IsLayout w maker × Located (layout w maker) (now image) (now starts) n
+        × Indexed (now ids) (idKey w (now image) (now starts)) 1
+        × (inLimits w (nodeOn (layout w maker) (now image) (now starts) 0) ≡ true) ⌝ }
+    ensures { λ r. ⌜ Judges r w (nodesFrom (layout w maker) (now (image .entry)) 4 n)
+        (Apart w (nodeOn (layout w maker) (now (image .entry)) (now (starts .entry))) n
+        × Indexed (now (ids .exit)) (idKey w (now (image .entry)) (now (starts .entry))) n) ⌝ }
+{
+    let mut names = [0u8; INDEX];
+    let mut i = 1;
+    // the first i records do
+    while i < n {
+        if !stands(image, w, maker, starts[i] as usize) {
+            return false;
+        }
+        if !takes_id(image, w, starts, ids, i) {
+            return false;
+        }
+        if !takes_name(image, w, maker, starts, &mut names, i) {
             return false;
         }
         i += 1;
@@ -153,295 +190,126 @@ fn is_plain(name: &[u8]) -> bool
     true
 }
 
-// A component's form, and at most 32 bytes.
-fn is_named(name: &[u8]) -> bool
-    ensures { λ r. ⌜ r ≡ (componentForm (now (name .entry)) && leb (length (now (name .entry))) NAME-BYTES) ⌝ }
-{
-    if limits::NAME_BYTES < name.len() {
-        return false;
-    }
-    if !paths::is_name(name) {
-        return false;
-    }
-    is_plain(name)
-}
+// ---- ways to the root
 
-fn is_kind_and_size(kind: u8, size: u32) -> bool
-    ensures { λ r. ⌜ r ≡ (eqb kind 1 && leb size FILE-BYTES || eqb kind 2 && eqb size 0) ⌝ }
+// The place of the directory with this id, or n; ids differ.
+fn find_directory(image: &[u8], w: usize, starts: &[u32], ids: &[u8], n: usize, id: u64) -> usize
+    requires { ⌜ (0 < n) × Standing w (now image) (now starts) n
+        × Indexed (now ids) (idKey w (now image) (now starts)) n × OwnIds (idAt w (now image) (now starts)) n ⌝ }
+    ensures { λ r. ⌜ Directory w (now (image .entry)) (now (starts .entry)) n id r ⌝ }
 {
-    if kind == limits::FILE {
-        return size as usize <= limits::FILE_BYTES;
+    let k = find_id(image, w, starts, ids, n, id);
+    if n <= k {
+        return n;
     }
-    if kind == limits::DIRECTORY {
-        return size == 0;
-    }
-    false
-}
-
-// The limits of a node by itself.
-fn is_in_limits(image: &[u8], at: usize) -> bool
-    requires { ⌜ at + frontLength ID-BYTES ≤ length (now image) ⌝ }
-    ensures { λ r. ⌜ r ≡ inLimits ID-BYTES (recordAt ID-BYTES (now (image .entry)) at) ⌝ }
-{
-    if record_id(image, at) == 0 {
-        return false;
-    }
-    if 7 < record_mode(image, at) {
-        return false;
-    }
-    is_kind_and_size(record_kind(image, at), record_size(image, at))
-}
-
-fn is_root(image: &[u8], at: usize) -> bool
-    requires { ⌜ recordEnd ID-BYTES (now image) at ≤ length (now image) ⌝ }
-    ensures { λ r. ⌜ r ≡ isRoot (recordAt ID-BYTES (now (image .entry)) at) ⌝ }
-{
-    if record_id(image, at) != 1 {
-        return false;
-    }
-    if record_kind(image, at) != limits::DIRECTORY {
-        return false;
-    }
-    if record_parent(image, at) != 0 {
-        return false;
-    }
-    let name = record_name(image, at);
-    name.len() == 0
-}
-
-// ---- a node against those before it
-
-// Whether the record at b may not stand beside an earlier one at a.
-fn is_clash(image: &[u8], a: usize, b: usize) -> bool
-    requires { ⌜ (recordEnd ID-BYTES (now image) a ≤ length (now image))
-        × (recordEnd ID-BYTES (now image) b ≤ length (now image)) ⌝ }
-    ensures { λ r. ⌜ r ≡ clash (recordAt ID-BYTES (now (image .entry)) b) (recordAt ID-BYTES (now (image .entry)) a) ⌝ }
-{
-    if record_id(image, a) == record_id(image, b) {
-        return true;
-    }
-    if record_parent(image, a) != record_parent(image, b) {
-        return false;
-    }
-    let name = record_name(image, a);
-    buffers::same(name, record_name(image, b))
-}
-
-// Whether one of the first i records clashes with the one at `at`.
-fn clashes(image: &[u8], at: usize, i: usize) -> bool
-    requires { ⌜ (endFrom ID-BYTES (now image) 4 i ≤ length (now image))
-        × (recordEnd ID-BYTES (now image) at ≤ length (now image)) ⌝ }
-    ensures { λ r. ⌜ r ≡ any (clash (recordAt ID-BYTES (now (image .entry)) at))
-        (nodesFrom ID-BYTES (now (image .entry)) 4 i) ⌝ }
-{
-    let mut a = 4;
-    let mut seen = 0;
-    // no record before `a` clashes
-    while seen < i {
-        if is_clash(image, a, at) {
-            return true;
-        }
-        a = record_end(image, a);
-        seen += 1;
-    }
-    false
-}
-
-// Whether the record at a is a directory with this id.
-fn is_parent(image: &[u8], a: usize, id: u64) -> bool
-    requires { ⌜ a + frontLength ID-BYTES ≤ length (now image) ⌝ }
-    ensures { λ r. ⌜ r ≡ (eqb (recordAt ID-BYTES (now (image .entry)) a .id) id && eqb
-        (recordAt ID-BYTES (now (image .entry)) a .kind) 2) ⌝ }
-{
-    if record_id(image, a) != id {
-        return false;
-    }
-    record_kind(image, a) == limits::DIRECTORY
-}
-
-// The place among the first i records of the parent of the one at `at`, or i.
-fn parent_place(image: &[u8], at: usize, i: usize) -> usize
-    requires { ⌜ (endFrom ID-BYTES (now image) 4 i ≤ length (now image))
-        × (recordEnd ID-BYTES (now image) at ≤ length (now image)) ⌝ }
-    ensures { λ r. ⌜ r ≡ place (isParent (recordAt ID-BYTES (now (image .entry)) at))
-        (nodesFrom ID-BYTES (now (image .entry)) 4 i) ⌝ }
-{
-    let id = record_parent(image, at);
-    let mut a = 4;
-    let mut k = 0;
-    // no record before `a` is the parent
-    while k < i {
-        if is_parent(image, a, id) {
-            return k;
-        }
-        a = record_end(image, a);
-        k += 1;
+    if image_records::record_kind(image, w, starts[k] as usize) != limits::DIRECTORY {
+        return n;
     }
     k
 }
 
-// The length of the path of the record at `at`, by those of the first i; `TOO_LONG` where it may not stand there.
-fn admission(image: &[u8], at: usize, i: usize, lengths: &[u8]) -> usize
-    requires { ⌜ (endFrom ID-BYTES (now image) 4 i ≤ length (now image))
-        × (recordEnd ID-BYTES (now image) at ≤ length (now image)) × (i ≤ length (now lengths)) ⌝ }
-    ensures { λ r. ⌜ r ≡ admit ID-BYTES (nodesFrom ID-BYTES (now (image .entry)) 4 i) (now (lengths .entry))
-        (recordAt ID-BYTES (now (image .entry)) at) ⌝ }
+// Whether each record but the root has a directory before it for its parent. Its place is put into `to`, the bytes of
+// the record's name and a slash into `far`.
+fn place_parents(
+    image: &[u8],
+    w: usize,
+    maker: usize,
+    n: usize,
+    starts: &[u32],
+    ids: &[u8],
+    to: &mut [u8],
+    far: &mut [u8],
+) -> bool
+    requires { ⌜ (0 < n) × IsLayout w maker × Located (layout w maker) (now image) (now starts) n
+        × Indexed (now ids) (idKey w (now image) (now starts)) n
+        × Apart w (nodeOn (layout w maker) (now image) (now starts)) n
+        × (length (now to) ≡ NODES) × (length (now far) ≡ NODES) ⌝ }
+    ensures { λ r. ⌜ Judges r w (nodesFrom (layout w maker) (now (image .entry)) 4 n)
+        (Placed (nodeOn (layout w maker) (now (image .entry)) (now (starts .entry))) (now (to .exit)) (now (far .exit))
+        n n) ⌝ }
 {
-    if !is_in_limits(image, at) {
-        return TOO_LONG;
-    }
-    let name = record_name(image, at);
-    if !is_named(name) {
-        return TOO_LONG;
-    }
-    if clashes(image, at, i) {
-        return TOO_LONG;
-    }
-    let j = parent_place(image, at, i);
-    if i <= j {
-        return TOO_LONG;
-    }
-    1 + name.len() + lengths[j] as usize
-}
-
-// Whether each of the n records behind the first may stand behind those before it. The lengths of their paths are kept
-// in `lengths`.
-fn all_admitted(image: &[u8], n: usize, lengths: &mut [u8]) -> bool
-    requires { ⌜ (0 < n) × (endFrom ID-BYTES (now image) 4 n ≤ length (now image)) × (n ≤ length (now lengths)) ⌝ }
-    ensures { λ r. ⌜ r ≡ admitted ID-BYTES (recordAt ID-BYTES (now (image .entry)) 4 ∷ []) (0 ∷ [])
-        (nodesFrom ID-BYTES (now (image .entry)) (recordEnd ID-BYTES (now (image .entry)) 4) (n - 1)) ⌝ }
-{
-    lengths[0] = 0;
-    let mut at = record_end(image, 4);
-    let mut i = 1;
-    // i records are admitted, with the lengths of their paths
-    while i < n {
-        let l = admission(image, at, i, lengths);
-        if limits::PATH_BYTES < l {
+    let mut k = 1;
+    // the records before k have
+    while k < n {
+        let at = starts[k] as usize;
+        let parent = find_directory(
+            image,
+            w,
+            starts,
+            ids,
+            n,
+            image_records::record_parent(image, w, at),
+        );
+        // n where there is none
+        if k <= parent {
             return false;
         }
-        lengths[i] = l as u8;
-        at = record_end(image, at);
-        i += 1;
+        let name = image_records::record_name(image, w, maker, at);
+        to[k] = parent as u8;
+        far[k] = (1 + name.len()) as u8;
+        k += 1;
     }
     true
 }
 
-// The pages of the first n nodes.
-fn page_sum(image: &[u8], n: usize) -> usize
-    requires { ⌜ (n ≤ NODES) × (endFrom ID-BYTES (now image) 4 n ≤ length (now image)) ⌝ }
-    ensures { λ r. ⌜ r ≡ pageTotal (nodesFrom ID-BYTES (now (image .entry)) 4 n) ⌝ }
+// Whether each record has a way to the root by its parents, and a path that is short enough.
+fn are_rooted(image: &[u8], w: usize, maker: usize, n: usize, starts: &[u32], ids: &[u8]) -> bool
+    requires { ⌜ (0 < n) × IsLayout w maker × Located (layout w maker) (now image) (now starts) n
+        × Indexed (now ids) (idKey w (now image) (now starts)) n
+        × Apart w (nodeOn (layout w maker) (now image) (now starts)) n ⌝ }
+    ensures { λ r. ⌜ Judges r w (nodesFrom (layout w maker) (now (image .entry)) 4 n)
+        (Rooted (nodesFrom (layout w maker) (now (image .entry)) 4 n)) ⌝ }
 {
-    let mut at = 4;
-    let mut total: usize = 0;
-    let mut i = 0;
-    // `total` pages in the i records before `at`
-    while i < n {
-        total += tables::pages_for(record_size(image, at));
-        at = record_end(image, at);
-        i += 1;
+    let mut to = [0u8; limits::NODES];
+    let mut far = [0u8; limits::NODES];
+    if !place_parents(image, w, maker, n, starts, ids, &mut to, &mut far) {
+        return false;
     }
-    total
+    links::all_climb(&mut to, &mut far, n)
 }
 
 // ---- the whole image
 
-// Whether the first n nodes are sound.
-fn are_sound(image: &[u8], n: usize) -> bool
-    requires { ⌜ (n ≤ NODES) × (endFrom ID-BYTES (now image) 4 n ≤ length (now image)) ⌝ }
-    ensures { λ r. ⌜ r ≡ soundNodes ID-BYTES (nodesFrom ID-BYTES (now (image .entry)) 4 n) ⌝ }
+// Whether the first n nodes are sound; they have no more pages than there may be.
+fn are_sound(image: &[u8], w: usize, maker: usize, n: usize) -> bool
+    requires { ⌜ IsLayout w maker × (n ≤ NODES) × (endFrom (layout w maker) (now image) 4 n ≤ length (now image))
+        × (pageTotal (nodesFrom (layout w maker) (now image) 4 n) ≤ PAGES) ⌝ }
+    ensures { λ r. ⌜ r ≡ soundNodes w (nodesFrom (layout w maker) (now (image .entry)) 4 n) ⌝ }
 {
     if n == 0 {
         return false;
     }
-    if !is_root(image, 4) {
+    if !image_records::is_root(image, w, maker, 4) {
         return false;
     }
-    if !is_in_limits(image, 4) {
+    if !image_records::is_in_limits(image, w, maker, 4) {
         return false;
     }
-    if limits::PAGES < page_sum(image, n) {
+    let mut starts = [0u32; limits::NODES];
+    locate(image, w, maker, n, &mut starts);
+    let mut ids = [0u8; INDEX];
+    if !are_apart(image, w, maker, n, &starts, &mut ids) {
         return false;
     }
-    let mut lengths = [0u8; limits::NODES];
-    all_admitted(image, n, &mut lengths)
+    are_rooted(image, w, maker, n, &starts, &ids)
 }
 
 // Whether the image is sound, whatever bytes it has.
-pub fn is_sound(image: &[u8]) -> bool
-    ensures { λ r. ⌜ r ≡ isSome (parse ID-BYTES (now (image .entry))) ⌝ }
+pub fn is_sound(image: &[u8], w: usize, maker: usize) -> bool
+    requires { ⌜ IsLayout w maker ⌝ }
+    ensures { λ r. ⌜ r ≡ isSome (parse (layout w maker) (now (image .entry))) ⌝ }
 {
-    let end = form(image);
+    let end = image_records::form(image, w, maker);
     if end == 0 {
         return false;
     }
     let n = numbers::u32_at(image, 0) as usize;
-    if !are_sound(image, n) {
+    let pages = image_records::page_sum(image, w, maker, n);
+    if numbers::u32_at(image, end) as usize != pages {
         return false;
     }
-    let count = numbers::u32_at(image, end) as usize;
-    count == page_sum(image, n)
-}
-
-// ---- the tables put into the memory
-
-// The record at `at` as node i of the memory.
-fn load_record(image: &[u8], at: usize, m: &mut [u8], i: usize)
-    requires { ⌜ (recordEnd ID-BYTES (now image) at ≤ length (now image))
-        × (length (recordAt ID-BYTES (now image) at .name) ≤ NAME-BYTES) × (i < NODES) × IsMemory m ⌝ }
-    ensures { λ _. ⌜ Becomes m (withNodes (set (was m .nodes) i (recordAt ID-BYTES (now (image .entry)) at))) ⌝ }
-{
-    let name = record_name(image, at);
-    let row = memory::node_row(
-        record_id(image, at),
-        record_parent(image, at),
-        record_kind(image, at),
-        record_mode(image, at),
-        record_size(image, at),
-        name,
-    );
-    memory::put_node(m, i, row);
-}
-
-// The first n records, which are sound, as the memory's first nodes; the place behind them.
-fn load_records(image: &[u8], n: usize, m: &mut [u8]) -> usize
-    requires { ⌜ (soundNodes ID-BYTES (nodesFrom ID-BYTES (now image) 4 n) ≡ true) × (n ≤ NODES)
-        × (endFrom ID-BYTES (now image) 4 n ≤ length (now image)) × IsMemory m ⌝ }
-    ensures { λ _. ⌜ Becomes m (withNodes (overwrite (was m .nodes) 0 (nodesFrom ID-BYTES (now (image .entry)) 4 n))) ⌝ }
-    ensures { λ r. ⌜ r ≡ endFrom ID-BYTES (now (image .entry)) 4 n ⌝ }
-{
-    let mut at = 4;
-    let mut i = 0;
-    // the i records before `at` are loaded
-    while i < n {
-        load_record(image, at, m, i);
-        at = record_end(image, at);
-        i += 1;
+    if limits::PAGES < pages {
+        return false;
     }
-    at
-}
-
-// The second section's digests as the memory's first digests.
-fn load_digests(image: &[u8], end: usize, m: &mut [u8])
-    requires { ⌜ (end ≡ recordsEnd ID-BYTES (now image))
-        × (end + 4 + digestCount ID-BYTES (now image) * DIGEST-BYTES ≡ length (now image))
-        × (digestCount ID-BYTES (now image) ≤ PAGES) × IsMemory m ⌝ }
-    ensures { λ _. ⌜ Becomes m (withDigests (overwrite (was m .digests) 0 (imageDigests ID-BYTES (now (image .entry)))))
-        ⌝ }
-{
-    let k = numbers::u32_at(image, end) as usize;
-    let start = end + 4;
-    memory::put_digests(m, k, &image[start..]);
-}
-
-// The tables of a sound image put into the memory, in place of its nodes and digests; the number of nodes.
-pub fn load_image(image: &[u8], m: &mut [u8]) -> usize
-    requires { ⌜ (isSome (parse ID-BYTES (now image)) ≡ true) × IsMemory m ⌝ }
-    ensures { λ r. ⌜ Loaded (now (image .entry)) (now (m .entry)) (now (m .exit)) r ⌝ }
-    ensures { λ _. ⌜ KeepsLength m ⌝ }
-{
-    let n = numbers::u32_at(image, 0) as usize;
-    let end = load_records(image, n, m);
-    load_digests(image, end, m);
-    n
+    are_sound(image, w, maker, n)
 }

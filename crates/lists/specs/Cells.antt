@@ -6,7 +6,7 @@ use mathlib.Core.List.{List, [], _∷_, _++_}
 use Prim.Native.Nat.{ℕ, zero, suc, _+_, _-_, _≤_, _<_}
 use native.Mathlib.Omega.{arith}
 use lib.Dec.{leb, ltb}
-use lib.ListN.{length, getD, take}
+use lib.ListN.{length, getD, take, replicate}
 use borrow.Author.Tests.{leb-true, leb-false, ltb-true, ltb-false}
 use Rattle.lists.specs.Equal.{Is, isT, isF, is}
 
@@ -78,3 +78,9 @@ module _ {A : Type 0} where
   tab-append (suc n) m f =
       let e : suc n + m ≡ suc (n + m) = omega arith in
       rw e (ap (λ l. f 0 ∷ l) (ap (λ l. tab n (λ i. f (suc i)) ++ l) (tab-cong m _ _ (λ i h. ap f (omega arith))) ∙ tab-append n m (λ i. f (suc i))))
+
+-- an array of zeros
+pub zeros : (n k : ℕ) → _≡_ {A = ℕ} (getD (replicate n 0) k 0) 0
+zeros zero k = refl
+zeros (suc n) zero = refl
+zeros (suc n) (suc k) = zeros n k

@@ -8,6 +8,7 @@ use Prim.Native.Nat.{ℕ, zero, suc}
 use lib.Dec.{leb}
 use lib.ListN.{length, take, drop}
 use Rattle.lists.specs.Pick.{pick}
+use Rattle.lists.specs.Equal.{equal}
 use Rattle.lists.specs.All.{All, Bytes}
 
 -- values that bytes can hold (`ok`), how they are put at the front of bytes and got from there, with the rest; what is put is got back, and what is got
@@ -38,6 +39,11 @@ module _ {A B : Type 0} (F : Form A) (G : A → Form B) where
 
   abbrev pub Ok₂ : A × B → Type 0
   Ok₂ p = F .ok (p .0) × G (p .0) .ok (p .1)
+
+-- a form behind fixed bytes
+module _ {A : Type 0} (bs : List ℕ) (F : Form A) where
+  unfoldable pub get-fixed : List ℕ → Option (A × List ℕ)
+  get-fixed s = bind (front (length bs) (λ b. b) s) (λ p. pick (equal (p .0) bs) (F .get (p .1)) none)
 
 -- the same bytes for another type
 module _ {A B : Type 0} (to : A → B) (F : Form A) where

@@ -10,10 +10,12 @@ use lib.Dec.{leb}
 use lib.ListN.{length, take, drop, length-append, take-append-drop}
 use lib.Seq.{take-at, drop-at, length-take-le}
 use borrow.Author.Tests.{le-leb, leb-true}
-use Rattle.lists.specs.Pick.{pick, pick-true}
+use Rattle.lists.specs.Pick.{pick, pick-true, pick-false}
+use Rattle.lists.specs.Equal.{Is, isT, isF, is, equal, equal-true, equal-yes}
 use Rattle.lists.specs.All.{All, both, none as all-none, all-take, all-drop, Bytes}
 use Rattle.lists.specs.LittleEndian.{encode, decode, encode-decode, decode-below}
-use Rattle.lists.specs.Form.{Form, bind, front, get₂, put₂, Ok₂, get-as, put-all, get-all, OkAll, ended, whole}
+use Rattle.lists.specs.Form.{Form, bind, front, get₂, put₂, Ok₂, get-fixed, get-as, put-all, get-all, OkAll}
+use Rattle.lists.specs.Form.{ended, whole}
 
 pub some≢none : {A : Type 0} (a : A) → some a ≡ none → ⊥
 some≢none a e = let z : _≡_ {A = ℕ} 0 1 = cc in omega arith
@@ -76,6 +78,30 @@ module _ {A B : Type 0} (F : Form A) (G : A → Form B) where
       let z : _≡_ {A = (A × B) × List ℕ} ((u .0, v .0), v .1) (p, r) = cc in
       subst (λ (x : (A × B) × List ℕ). Ok₂ F G (x .0) × (s ≡ put₂ F G (x .0) ++ x .1) × Bytes (x .1)) z
       ((fo, ho), fs ∙ (ap (λ l. F .put (u .0) ++ l) hs ∙ sym (append-assoc (F .put (u .0)) (G (u .0) .put (v .0)) (v .1))), hb)
+
+-- a form behind fixed bytes
+module _ {A : Type 0} (bs : List ℕ) (F : Form A) where
+  pub fixed-read-back : (a : A) (r : List ℕ) → F .ok a → get-fixed bs F ((bs ++ F .put a) ++ r) ≡ some (a, r)
+  unfolding get-fixed bind
+  fixed-read-back a r h =
+      rw (append-assoc bs (F .put a) r, front-put (length bs) (λ b. b) bs (F .put a ++ r) refl)
+      (pick-true _ _ _ (equal-yes bs bs refl) ∙ F .read-back a r h)
+
+  pub fixed-was-written : (s : List ℕ) (a : A) (r : List ℕ) → Bytes s → get-fixed bs F s ≡ some (a, r)
+      → F .ok a × (s ≡ (bs ++ F .put a) ++ r) × Bytes r
+  unfolding get-fixed
+  fixed-was-written s a r h e =
+      let (u, eu, e₂) = bind-some _ _ _ e in
+      let (b, l, d, q, hb, hr) = front-got (length bs) (λ b. b) s (u .0) (u .1) h eu in
+      same (u .0) (u .1) d q hr (is (equal (u .0) bs)) e₂
+    where
+      same : (x t : List ℕ) {b : List ℕ} → b ≡ x → s ≡ b ++ t → Bytes t → Is (equal x bs)
+          → pick (equal x bs) (F .get t) none ≡ some (a, r)
+          → F .ok a × (s ≡ (bs ++ F .put a) ++ r) × Bytes r
+      same x t d q hr (isF n) e = absurd (some≢none (a, r) (sym e ∙ pick-false _ _ _ n))
+      same x t d q hr (isT y) e =
+          let (fo, fs, fb) = F .was-written t a r hr (sym (pick-true _ _ _ y) ∙ e) in
+          (fo, q ∙ (ap₂ _++_ (d ∙ equal-true x bs y) fs ∙ sym (append-assoc bs (F .put a) r)), fb)
 
 -- the same bytes for another type: `to` and `from` undo each other on what the bytes hold
 module _ {A B : Type 0} (to : A → B) (from : B → A) (F : Form A) (there : (b : B) → to (from b) ≡ b) (back : (a : A) → F .ok a → from (to a) ≡ a) where

@@ -7,8 +7,10 @@ use Prim.Native.Nat.{ℕ, _^_, _<_}
 use lib.ListN.{length}
 use Rattle.lists.specs.All.{Bytes}
 use Rattle.lists.specs.LittleEndian.{encode, decode, length-encode, decode-encode}
-use Rattle.lists.specs.Form.{Form, front, get₂, put₂, Ok₂, get-as, put-all, get-all, OkAll}
-use Rattle.lists.specs.FormLaws.{front-put, num-written, bytes-written, read-back₂, was-written₂, as-read-back, as-was-written, all-read-back, all-was-written}
+use Rattle.lists.specs.Form.{Form, front, get₂, put₂, Ok₂, get-fixed, get-as, put-all, get-all, OkAll}
+use Rattle.lists.specs.FormLaws.{front-put, num-written, bytes-written, read-back₂, was-written₂}
+use Rattle.lists.specs.FormLaws.{fixed-read-back, fixed-was-written, as-read-back, as-was-written}
+use Rattle.lists.specs.FormLaws.{all-read-back, all-was-written}
 
 -- a number of w bytes
 abbrev pub num : ℕ → Form ℕ
@@ -34,6 +36,16 @@ bytes n = record {
 module _ {A B : Type 0} (F : Form A) (G : A → Form B) where
   abbrev pub then : Form (A × B)
   then = record { ok = Ok₂ F G; put = put₂ F G; get = get₂ F G; read-back = read-back₂ F G; was-written = was-written₂ F G }
+
+-- a form behind fixed bytes
+abbrev pub fixed : {A : Type 0} → List ℕ → Form A → Form A
+fixed bs F = record {
+  ok = F .ok;
+  put = λ a. bs ++ F .put a;
+  get = get-fixed bs F;
+  read-back = fixed-read-back bs F;
+  was-written = fixed-was-written bs F;
+}
 
 -- the same bytes for another type: `to` and `from` undo each other on what the bytes hold
 module _ {A B : Type 0} (to : A → B) (from : B → A) (F : Form A) (there : (b : B) → to (from b) ≡ b) (back : (a : A) → F .ok a → from (to a) ≡ a) where

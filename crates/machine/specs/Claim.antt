@@ -9,7 +9,7 @@ use lib.ListN.{length}
 use Rattle.lists.specs.All.{All, Bytes}
 use Rattle.lists.specs.Or.{Or}
 use Rattle.filesystem.specs.Tables.{DIGEST-BYTES}
-use Rattle.filesystem.specs.Image.{flatten, print}
+use Rattle.filesystem.specs.Image.{saved, flatten, print}
 use Rattle.rules.specs.Skeleton.{Config, Event, call, reply, save, load, Answer, done, ask, refused, stopped, Outcome, EventBytes}
 use Rattle.machine.specs.Machine.{State, step, fresh, outcomes, final, files, guard}
 use Rattle.machine.specs.Tree.{Saved, digestsOf, tree, guardOf}
@@ -48,14 +48,14 @@ unfoldable pub given : Event → Outcome → List (List ℕ)
 given (call s a q) o = []
 given (reply r a q) o = []
 given (save n) o = givenIf (o .answer) (o .digest)
-given (load i d) o = []
+given (load v i d) o = []
 
 -- a load that was done carried one of these digests
 unfoldable pub LoadOf : List (List ℕ) → Event → Outcome → Type 0
 LoadOf ds (call s a q) o = Unit {0}
 LoadOf ds (reply r a q) o = Unit {0}
 LoadOf ds (save n) o = Unit {0}
-LoadOf ds (load i d) o = isDone (o .answer) → List·Memᴰ d ds
+LoadOf ds (load v i d) o = isDone (o .answer) → List·Memᴰ d ds
 
 module _ (c : Config) where
   -- each load that was done carried a digest that an earlier save of the list gave, by the guard's outcomes (SPECIFICATION 10.4, 10.8)
@@ -84,7 +84,8 @@ module _ (c : Config) where
     pub latest : Saved
     pub earlier : List Saved
     pub saves : t .saves ≡ latest ∷ earlier
-    pub image : i ≡ print (c .width) (latest .files .nodes, flatten (map (digestsOf c) (latest .files .contents)))
+    pub image : i ≡ print (saved (c .width))
+        (latest .files .nodes, flatten (map (digestsOf c) (latest .files .contents)))
     pub digest : d ≡ latest .digest
     pub unchanged : files c (tree c) t ≡ latest .files
 
@@ -92,7 +93,7 @@ module _ (c : Config) where
   HonestAt g t (call s a q) = Unit {0}
   HonestAt g t (reply r a q) = Right c t r
   HonestAt g t (save n) = Unit {0}
-  HonestAt g t (load i d) = isDone (step c (guard c) g (load i d) .outcome .answer) → OfLatest t i d
+  HonestAt g t (load v i d) = isDone (step c (guard c) g (load v i d) .outcome .answer) → OfLatest t i d
 
   -- the host is honest throughout, and each load that was done is of the latest save, the tree unchanged since
   unfoldable pub Honest : State (guard c) → State (tree c) → List Event → Type 0

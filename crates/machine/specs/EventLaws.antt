@@ -14,7 +14,7 @@ use Rattle.lists.specs.All.{All, both, none}
 use Rattle.lists.specs.Search.{without}
 use Rattle.lists.specs.Checks.{Check, Passed, First, decide, decide-passed, decide-ind, decide-exactly, decide-append, decide-map}
 use Rattle.filesystem.specs.Tables.{PAGE-BYTES, Node, Tables}
-use Rattle.filesystem.specs.Image.{imageLength}
+use Rattle.filesystem.specs.Image.{saved, imageLength}
 use Rattle.rules.specs.Pages.{Change, first, last, fetches, cuts}
 use Rattle.rules.specs.Requests.{asked, Pending, idle, creating, opening, closing, removing, changing, listing, stating, mapping, unmapping, reading, fetching, storing, cutting}
 use Rattle.rules.specs.Skeleton.{Config, Event, call, reply, save, Answer, done, ask, refused, stopped, Outcome, plain, answerLength, requestLength}
@@ -265,9 +265,11 @@ module _ (c : Config) (S : Store) where
       go : Passed (eventChecks c (s .skeleton) (reply r a q)) → Room a q
       go (both _ (both _ (both x _))) = room a q x
 
-  pub save-has-room : (s : State S) (n : ℕ) → isRefusal (step c S s (save n) .outcome .answer) ≡ false → imageLength (c .width) (s .skeleton .tables .nodes) ≤ n
+  pub save-has-room : (s : State S) (n : ℕ) → isRefusal (step c S s (save n) .outcome .answer) ≡ false
+      → imageLength (saved (c .width)) (s .skeleton .tables .nodes) ≤ n
   unfolding eventChecks
   save-has-room s n h = go (not-refused s (save n) h)
     where
-      go : Passed (eventChecks c (s .skeleton) (save n)) → imageLength (c .width) (s .skeleton .tables .nodes) ≤ n
+      go : Passed (eventChecks c (s .skeleton) (save n))
+          → imageLength (saved (c .width)) (s .skeleton .tables .nodes) ≤ n
       go (both _ (both _ (both _ (both x _)))) = ltb-false _ _ x

@@ -28,7 +28,7 @@ unfoldable pub pageIn : Pending → Event → List (List ℕ)
 pageIn p (call s a q) = []
 pageIn p (reply r a q) = pick (awaitsPage p) (pick (eqb (length r) PAGE-BYTES) (r ∷ []) []) []
 pageIn p (save n) = []
-pageIn p (load i d) = []
+pageIn p (load v i d) = []
 
 -- the page in a request of kind 7, after descriptor, page and size
 unfoldable pub storedPage : List ℕ → List (List ℕ)
@@ -55,7 +55,7 @@ unfoldable pub imageIn : Event → List (List ℕ)
 imageIn (call s a q) = []
 imageIn (reply r a q) = []
 imageIn (save n) = []
-imageIn (load i d) = i ∷ []
+imageIn (load v i d) = i ∷ []
 
 -- a save that is done gives its image
 unfoldable pub imageGiven : Answer → List (List ℕ)
@@ -68,7 +68,7 @@ unfoldable pub imageOut : Event → Outcome → List (List ℕ)
 imageOut (call s a q) o = []
 imageOut (reply r a q) o = []
 imageOut (save n) o = imageGiven (o .answer)
-imageOut (load i d) o = []
+imageOut (load v i d) o = []
 
 module _ (c : Config) (S : Store) where
   unfoldable pub pages : State S → List Event → List (List ℕ)

@@ -14,12 +14,13 @@ use Rattle.lists.specs.Equal.{equal, equal-true, equal-refl, and-both}
 use Rattle.lists.specs.All.{All, both, none as all-none, all-head, all-tail, all-append}
 use Rattle.lists.specs.Cells.{length-tab}
 use Rattle.lists.specs.Checks.{Check, First, here, later, Passed}
-use Rattle.filesystem.specs.Image.{Image, parse}
+use Rattle.filesystem.specs.Image.{Image, saved, Version, current, layoutOf, parse}
 use Rattle.rules.specs.Pages.{pageOf, Change, first, last, fetches, cuts, storesMore, cutsMore}
 use Rattle.rules.specs.Requests.{asked, Pending, idle, creating, opening, closing, removing, changing, listing, stating, mapping, unmapping, reading, fetching, storing, cutting}
 use Rattle.rules.specs.Skeleton.{Config, Event, reply, EventBytes}
 use Rattle.rules.specs.Rules.{Move, loading, judge, saysFull, tellsFull, replyChecks, mapReasons, reasons}
-use Rattle.machine.specs.Machine.{State, Result, files, readOn, finishChange, pagesStored, askStore, onPage, pagesFrom, cleared, apply, step, fresh, outcomes, final, guard}
+use Rattle.machine.specs.Machine.{State, Result, readOn, finishChange, pagesStored, askStore, onPage, pagesFrom}
+use Rattle.machine.specs.Machine.{cleared, apply, step, fresh, outcomes, final, guard}
 use Rattle.rules.specs.Valid.{Valid, Fits, fRefuse, fHalt, fSend, fFinish, fAdd, fDelete, fRemap, fReadPage, fBegin, fFillPage, fStored, fCutDone, fKeepPages, fGiveUp, fSaving, fLoading}
 use Rattle.rules.specs.FitLaws.{judge-fits}
 use Rattle.rules.specs.MapLaws.{right-map}
@@ -148,13 +149,14 @@ module _ (c : Config) (fit : Fit c) where
   lookup-head s ss d e = rw e (pick-true _ _ _ (equal-refl (s .digest)))
 
   -- a load of the latest save
-  sure-load : (t : State (tree c)) → Kept c Any Any t → (i : Image) (image d : List ℕ) → parse (c .width) image ≡ some i → OfLatest c t image d
-      → Agree c t (loading i d)
-  unfolding goBack
-  sure-load t v i image d hp o =
+  sure-load : (t : State (tree c)) → Kept c Any Any t → (k : Version) (i : Image) (image d : List ℕ)
+      → parse (layoutOf (c .width) k) image ≡ some i → OfLatest c t image d → Agree c t (loading i d)
+  unfolding goBack layoutOf
+  sure-load t v current i image d hp o =
       let gs : GoodSave c Any Any (o .latest) = all-head (subst (All (GoodSave c Any Any)) (o .saves) (v .saves)) in
       rw (o .saves, lookup-head (o .latest) (o .earlier) d (o .digest))
-      (read-back c fit Any Any (o .latest .files) (gs .good) (gs .valid) i (subst (λ x. parse (c .width) x ≡ some i) (o .image) hp))
+      (read-back c fit Any Any (o .latest .files) (gs .good) (gs .valid) i
+      (subst (λ x. parse (saved (c .width)) x ≡ some i) (o .image) hp))
 
   sure : (t : State (tree c)) → Kept c Any Any t → {m : Move} {e : Event} → Fits c (t .skeleton) e m → HonestAt c (guardOf c t) t e
       → judge c (t .skeleton) e ≡ m → Agree c t m
@@ -176,7 +178,8 @@ module _ (c : Config) (fit : Fit c) where
   sure t v (fKeepPages pl w h s l) ho mq = tt
   sure t v (fGiveUp he f) ho mq = tt
   sure t v (fSaving he w z) ho mq = tt
-  sure t v {e = e} (fLoading {i = i} {image = image} {d = d} he z hd hp) ho mq = sure-load t v i image d hp ((rw he at ho) (rw (rw he at mq) tt))
+  sure t v {e = e} (fLoading {i = i} {v = k} {image = image} {d = d} he z hd hp) ho mq =
+      sure-load t v k i image d hp ((rw he at ho) (rw (rw he at mq) tt))
 
   -- one event of an honest list
   pub together : (g : State (guard c)) (t : State (tree c)) (e : Event) → g ≡ guardOf c t → Holds c fit Any Any t → EventBytes e → HonestAt c g t e

@@ -18,7 +18,7 @@ use Rattle.lists.specs.Maps.{map-set, map-without}
 use Rattle.lists.specs.LittleEndian.{encode}
 use Rattle.lists.specs.FormLaws.{some≢none}
 use Rattle.filesystem.specs.Tables.{Node, nodeAt, pagesFor, setSize}
-use Rattle.filesystem.specs.Image.{flatten, print}
+use Rattle.filesystem.specs.Image.{saved, flatten, print}
 use Rattle.rules.specs.Pages.{pageOf, Change, writing, shrinking, growing, first, last, fetches, sizeSent, cuts, bytesAfter, sizeAfter, FitsSize, addedBy, before}
 use Rattle.rules.specs.PageLaws.{Where, low, mid, high, range, length-after, first-last, after-apart, apart-old, page-past, before-first, before-last, before-page, before-uncut}
 use Rattle.rules.specs.FullLaws.{before-change}
@@ -45,7 +45,7 @@ module _ (c : Config) (M N : List ℕ → Type 0) where
     pub known : All Known (f .contents)
 
   abbrev pub imageOfFiles : Files (List ℕ) → List ℕ
-  imageOfFiles f = print (c .width) (f .nodes, flatten (map (digestsOf c) (f .contents)))
+  imageOfFiles f = print (saved (c .width)) (f .nodes, flatten (map (digestsOf c) (f .contents)))
 
   pub record GoodSave (s : Saved) : Type 0 where
     pub good : Good (s .files)

@@ -12,7 +12,7 @@ use Rattle.lists.specs.Pick.{pick}
 use Rattle.lists.specs.Equal.{equal}
 use Rattle.lists.specs.Search.{without}
 use Rattle.filesystem.specs.Tables.{PAGE-BYTES, Node, Tables, nodeAt, openAt, setSize, setCursor}
-use Rattle.filesystem.specs.Image.{Image, flatten, divide, print}
+use Rattle.filesystem.specs.Image.{Image, saved, flatten, divide, print}
 use Rattle.filesystem.specs.Digests.{replaced}
 use Rattle.rules.specs.Pages.{pageOf, pagePart, Change, first, last, fetches, fill, sizeSent, cuts, sizeAfter, cursorAfter, numberOf, before}
 use Rattle.rules.specs.Requests.{fetchRequest, storeRequest, cutRequest, Pending, reading, fetching, storing, cutting}
@@ -147,10 +147,10 @@ module _ (c : Config) (S : Store) where
   trimmed s n = record { skeleton = s .skeleton; contents = s .contents; progress = S .upTo (s .progress) n; saves = s .saves }
 
   abbrev pub imageOf : State S → List ℕ
-  imageOf s = print (c .width) (s .skeleton .tables .nodes, flatten (map (S .digests) (s .contents)))
+  imageOf s = print (saved (c .width)) (s .skeleton .tables .nodes, flatten (map (S .digests) (s .contents)))
 
-  abbrev pub saved : State S → List ℕ → Result S
-  saved s image = record {
+  abbrev pub savedAs : State S → List ℕ → Result S
+  savedAs s image = record {
     outcome = record { answer = done (length image) image; digest = c .digest image };
     state = record { skeleton = resting (s .skeleton) (s .skeleton .tables); contents = s .contents; progress = S .nothing; saves = S .keep (s .saves) (c .digest image) (files s) };
   }
@@ -182,7 +182,7 @@ module _ (c : Config) (S : Store) where
   apply s (cutDone k o q) = finishChange s k o q
   apply s (keepPages k o q i) = finishChange (trimmed s (i - first q)) k o (before q i)
   apply s giveUp = gaveUp s
-  apply s saving = saved s (imageOf s)
+  apply s saving = savedAs s (imageOf s)
   apply s (loading i d) = loaded s (S .restore (s .saves) i d (files s))
 
   unfoldable pub step : State S → Event → Result S

@@ -9,6 +9,7 @@ use Rattle.lists.specs.Pick.{pick-ind}
 use Rattle.lists.specs.All.{All, both}
 use Rattle.lists.specs.Checks.{decide-ind}
 use Rattle.filesystem.specs.Tables.{PAGE-BYTES}
+use Rattle.filesystem.specs.Image.{Version}
 use Rattle.filesystem.specs.MemoryMaps.{Map}
 use Rattle.rules.specs.MapLaws.{ValidMaps, none-valid}
 use Rattle.rules.specs.MapMoves.{MapMove, MapsValid, judge-maps}
@@ -70,10 +71,12 @@ module _ (c : Config) (S : Store) where
   save-leaves s n =
       decide-ind refuse (λ m. apply c S s m .state .skeleton .maps ≡ s .skeleton .maps) (eventChecks c (s .skeleton) (save n)) _ (λ _ _. refl) (λ _. refl)
 
-  pub load-leaves : (s : State S) (i d : List ℕ) → step c S s (load i d) .state .skeleton .maps ≡ s .skeleton .maps
+  pub load-leaves : (s : State S) (v : Version) (i d : List ℕ)
+      → step c S s (load v i d) .state .skeleton .maps ≡ s .skeleton .maps
   unfolding step judge eventAction apply
-  load-leaves s i d =
-      decide-ind refuse (λ m. apply c S s m .state .skeleton .maps ≡ s .skeleton .maps) (eventChecks c (s .skeleton) (load i d)) _ (λ _ _. refl) (λ _. refl)
+  load-leaves s v i d =
+      decide-ind refuse (λ m. apply c S s m .state .skeleton .maps ≡ s .skeleton .maps)
+      (eventChecks c (s .skeleton) (load v i d)) _ (λ _ _. refl) (λ _. refl)
 
   -- and neither looks at them: what comes back, the nodes, the pages and the saves are the same whatever maps live
   abbrev withMaps : State S → List Map → State S
@@ -92,8 +95,10 @@ module _ (c : Config) (S : Store) where
   save-blind s ms n =
       decide-ind refuse (λ m. Beside ms (apply c S s m) (apply c S (withMaps s ms) m)) (eventChecks c (s .skeleton) (save n)) saving (λ _ _. refl) (λ _. refl)
 
-  pub load-blind : (s : State S) (ms : List Map) (i d : List ℕ)
-      → step c S (withMaps s ms) (load i d) ≡ record { outcome = step c S s (load i d) .outcome; state = withMaps (step c S s (load i d) .state) ms }
+  pub load-blind : (s : State S) (ms : List Map) (v : Version) (i d : List ℕ)
+      → step c S (withMaps s ms) (load v i d)
+      ≡ record { outcome = step c S s (load v i d) .outcome; state = withMaps (step c S s (load v i d) .state) ms }
   unfolding step judge eventChecks eventAction apply
-  load-blind s ms i d =
-      decide-ind refuse (λ m. Beside ms (apply c S s m) (apply c S (withMaps s ms) m)) (eventChecks c (s .skeleton) (load i d)) _ (λ _ _. refl) (λ _. refl)
+  load-blind s ms v i d =
+      decide-ind refuse (λ m. Beside ms (apply c S s m) (apply c S (withMaps s ms) m))
+      (eventChecks c (s .skeleton) (load v i d)) _ (λ _ _. refl) (λ _. refl)

@@ -72,7 +72,7 @@ module _ (c : Config) (S : Store) (s : State S) (k o : ℕ) where
     unfolding step judge eventChecks eventAction isIdle reasons replyChecks mapReasons replyAction apply isAsk
     fetch-both (call b x y) f = unfold decide pick in no
     fetch-both (save n) f = unfold decide pick in no
-    fetch-both (load i g) f = unfold decide pick in no
+    fetch-both (load k i g) f = unfold decide pick in no
     fetch-both (reply r x y) f =
         let G : Move → Move → Type 0 = λ m m′. Alike (apply c S (fetched d) m) (apply c S (fetched d′) m′) in
         decide-both G refuse refuse _ (λ n. no)
@@ -88,7 +88,7 @@ module _ (c : Config) (S : Store) (s : State S) (k o : ℕ) where
     unfolding step judge eventChecks eventAction isIdle reasons replyChecks mapReasons replyAction fullAction apply isAsk finishChange first
     store-both (call b x y) f = unfold decide pick in no
     store-both (save n) f = unfold decide pick in no
-    store-both (load i g) f = unfold decide pick in no
+    store-both (load k i g) f = unfold decide pick in no
     store-both (reply r x y) f =
         let G : Move → Move → Type 0 = λ m m′. Alike (apply c S (sending d) m) (apply c S (sending d′) m′) in
         decide-both G refuse refuse _ (λ n. no)

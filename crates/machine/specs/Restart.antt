@@ -32,7 +32,7 @@ unfoldable pub BeginsWith : Event → Outcome → Type 0 → Type 0
 BeginsWith (call s a q) o Next = ⊥
 BeginsWith (reply r a q) o Next = ⊥
 BeginsWith (save n) o Next = ⊥
-BeginsWith (load i d) o Next = isDone (o .answer) ⊎ Next
+BeginsWith (load v i d) o Next = isDone (o .answer) ⊎ Next
 
 unfoldable pub Begins : List Seen → Type 0
 Begins [] = ⊥

@@ -8,7 +8,7 @@ use Prim.Native.Nat.{ℕ}
 use Rattle.lists.specs.All.{All, both, none as all-none, all-head, all-tail}
 use Rattle.lists.specs.Or.{Or, ok, _>>=_}
 use Rattle.lists.specs.Checks.{decide-ind}
-use Rattle.filesystem.specs.Image.{parse}
+use Rattle.filesystem.specs.Image.{Version, layoutOf, parse}
 use Rattle.rules.specs.Requests.{isFetch}
 use Rattle.rules.specs.Skeleton.{Config, Event, call, reply, save, load, EventBytes, Answer, done, ask, refused, stopped}
 use Rattle.rules.specs.Rules.{Move, refuse, loading, imageOr, eventChecks, eventAction, judge}
@@ -31,16 +31,18 @@ use Rattle.machine.specs.SeenLaws.{shown-is, images-shown, loads-shown, 
 use Rattle.machine.specs.Restart.{switchedOn, BeginsWith, Begins, Restarts, pagesOfLives, imagesOfLives, LoadsOfLives, BytesSeen, Quiet, OfFresh, restarted, treeAfter, AgreeLives, FirstHalfOfLives, HonestLives, SecondHalfOfLives}
 
 -- A load in a machine that was just switched on.
-module _ (c : Config) (i d : List ℕ) where
+module _ (c : Config) (k : Version) (i d : List ℕ) where
   abbrev loads : (S : Store) → Files (S .Content) → S .Saves → Result S
-  loads S f v = step c S (switchedOn S f v) (load i d)
+  loads S f v = step c S (switchedOn S f v) (load k i d)
 
   -- it is refused, or the image is taken over; the files that it meets do not matter
-  load-ind : (S : Store) (f : Files (S .Content)) (v : S .Saves) (F : Move → Type 0) → ((n : ℕ) → F (refuse n)) → F (loading (imageOr (parse (c .width) i)) d)
-      → F (judge c (switchedOn S f v .skeleton) (load i d))
+  load-ind : (S : Store) (f : Files (S .Content)) (v : S .Saves) (F : Move → Type 0) → ((n : ℕ) → F (refuse n))
+      → F (loading (imageOr (parse (layoutOf (c .width) k) i)) d)
+      → F (judge c (switchedOn S f v .skeleton) (load k i d))
   unfolding judge eventAction
   load-ind S f v F r l =
-      decide-ind refuse F (eventChecks c (switchedOn S f v .skeleton) (load i d)) (loading (imageOr (parse (c .width) i)) d) (λ n _. r n) (λ _. l)
+      decide-ind refuse F (eventChecks c (switchedOn S f v .skeleton) (load k i d))
+      (loading (imageOr (parse (layoutOf (c .width) k) i)) d) (λ n _. r n) (λ _. l)
 
   -- it comes to the same whatever is kept of pages
   same-outcome : (S T : Store) (f : Files (S .Content)) (v : S .Saves) (g : Files (T .Content)) (w : T .Saves) → loads S f v .outcome ≡ loads T g w .outcome
@@ -82,24 +84,27 @@ module _ (c : Config) where
   abbrev start : State (guard c)
   start = fresh c (guard c)
 
-  abbrev started : List ℕ → List ℕ → Result (guard c)
-  started i d = step c (guard c) start (load i d)
+  abbrev started : Version → List ℕ → List ℕ → Result (guard c)
+  started k i d = step c (guard c) start (load k i d)
 
   -- A life beside the tree t at power-up.
   module _ (t : State (tree c)) where
-    abbrev resumed : List ℕ → List ℕ → Result (tree c)
-    resumed i d = step c (tree c) (restarted c t) (load i d)
+    abbrev resumed : Version → List ℕ → List ℕ → Result (tree c)
+    resumed k i d = step c (tree c) (restarted c t) (load k i d)
 
     module _ (F : List Event → Type 0) where
       -- it holds of what begins with a load that is done: the guard is then as if it had not been switched off
       abbrev Begun : Type 0
-      Begun = (i d : List ℕ) (es : List Event) → started i d ≡ step c (guard c) (guardOf c (restarted c t)) (load i d) → F (load i d ∷ es)
+      Begun =
+          (k : Version) (i d : List ℕ) (es : List Event)
+          → started k i d ≡ step c (guard c) (guardOf c (restarted c t)) (load k i d) → F (load k i d ∷ es)
 
       -- a load that is refused may come before
       abbrev Tried : Type 0
       Tried =
-          (i d : List ℕ) (es : List Event) → started i d .outcome ≡ resumed i d .outcome → started i d .state ≡ start → resumed i d .state ≡ restarted c t
-          → F es → F (load i d ∷ es)
+          (k : Version) (i d : List ℕ) (es : List Event) → started k i d .outcome ≡ resumed k i d .outcome
+          → started k i d .state ≡ start → resumed k i d .state ≡ restarted c t
+          → F es → F (load k i d ∷ es)
 
       life-ind : Begun → Tried → (es : List Event) → Begins (shown c (guard c) start es) → F es
       unfolding shown Begins BeginsWith restarted guardOf progressOf
@@ -107,17 +112,19 @@ module _ (c : Config) where
       life-ind begun tried (call s a q ∷ es) b = absurd b
       life-ind begun tried (reply r a q ∷ es) b = absurd b
       life-ind begun tried (save n ∷ es) b = absurd b
-      life-ind begun tried (load i d ∷ es) b = go (is-done (started i d .outcome .answer)) b (life-ind begun tried es)
+      life-ind begun tried (load k i d ∷ es) b =
+          go (is-done (started k i d .outcome .answer)) b (life-ind begun tried es)
         where
-          go : isDone (started i d .outcome .answer) ⊎ (isDone (started i d .outcome .answer) → ⊥)
-              → isDone (started i d .outcome .answer) ⊎ Begins (shown c (guard c) (started i d .state) es)
-              → (Begins (shown c (guard c) start es) → F es) → F (load i d ∷ es)
-          go (inl h) b ih = begun i d es (same-load c i d _ _ h)
+          go : isDone (started k i d .outcome .answer) ⊎ (isDone (started k i d .outcome .answer) → ⊥)
+              → isDone (started k i d .outcome .answer) ⊎ Begins (shown c (guard c) (started k i d .state) es)
+              → (Begins (shown c (guard c) start es) → F es) → F (load k i d ∷ es)
+          go (inl h) b ih = begun k i d es (same-load c k i d _ _ h)
           go (inr h) (inl x) ih = absurd (h x)
           go (inr h) (inr x) ih =
-              let o = same-outcome c i d (guard c) (tree c) _ tt (files c (tree c) t) (t .saves) in
-              let g = stays-on c i d (guard c) _ tt h in
-              tried i d es o g (stays-on c i d (tree c) (files c (tree c) t) (t .saves) (λ x. h (subst (λ y. isDone (y .answer)) (sym o) x)))
+              let o = same-outcome c k i d (guard c) (tree c) _ tt (files c (tree c) t) (t .saves) in
+              let g = stays-on c k i d (guard c) _ tt h in
+              tried k i d es o g (stays-on c k i d (tree c) (files c (tree c) t) (t .saves)
+              (λ x. h (subst (λ y. isDone (y .answer)) (sym o) x)))
               (ih (subst (λ y. Begins (shown c (guard c) y es)) g x))
 
 module _ (c : Config) (fit : Fit c) where
@@ -160,11 +167,11 @@ module _ (c : Config) (fit : Fit c) where
     Within g t es = PagesIn g t es × ((p : List ℕ) → List·Memᴰ p (images c (guard c) g es) → N p)
 
     -- a load that is refused leaves a guard that awaits no page
-    stays : (i d r : List ℕ) → Stands c r from → EventBytes (load i d) → started c i d .state ≡ from
-        → Stands c (standing r (load i d) (started c i d .outcome .answer)) from
+    stays : (k : Version) (i d r : List ℕ) → Stands c r from → EventBytes (load k i d) → started c k i d .state ≡ from
+        → Stands c (standing r (load k i d) (started c k i d .outcome .answer)) from
     unfolding step
-    stays i d r st b g = subst (Stands c (standing r (load i d) (started c i d .outcome .answer))) g
-        (move-stands c r from st (judge-fits c (from .skeleton) (fresh-valid (c .width) (fit .wide)) (load i d) b))
+    stays k i d r st b g = subst (Stands c (standing r (load k i d) (started c k i d .outcome .answer))) g
+        (move-stands c r from st (judge-fits c (from .skeleton) (fresh-valid (c .width) (fit .wide)) (load k i d) b))
 
     -- one life that is not the first
     later-life : (t : State (tree c)) → Holds c fit M N t → (es : List Event) → Begins (shown c (guard c) from es)
@@ -179,15 +186,19 @@ module _ (c : Config) (fit : Fit c) where
             → Or (Bad c fit M N) (Simulated c fit M N from (restarted c t) es)
 
         begun : Begun c t F
-        begun i d es z bs lo ((r, st, np), ni) = do
-          s ← simulate c fit M N PagesIn seen-history (load i d ∷ es) (guardOf c (restarted c t)) (restarted c t) refl (restarted-holds M N t h) bs
-              (subst (λ r. LoadOf (kept t) (load i d) (r .outcome) × LoadsOfSaves c (kept t) (r .state) es) z lo) (
+        begun k i d es z bs lo ((r, st, np), ni) = do
+          s ← simulate c fit M N PagesIn seen-history (load k i d ∷ es) (guardOf c (restarted c t)) (restarted c t) refl
+              (restarted-holds M N t h) bs
+              (subst (λ r. LoadOf (kept t) (load k i d) (r .outcome) × LoadsOfSaves c (kept t) (r .state) es) z lo) (
                 r,
                 st,
-                subst (λ y. (p : List ℕ) → List·Memᴰ p (pagesAfter c r (restarted c t) (record { event = load i d; outcome = y .outcome }
+                subst (λ y. (p : List ℕ)
+                    → List·Memᴰ p (pagesAfter c r (restarted c t) (record { event = load k i d; outcome = y .outcome }
                     ∷ shown c (guard c) (y .state) es)) → M p) z np,
               )
-              (subst (λ r. (p : List ℕ) → List·Memᴰ p ((imageIn (load i d) ++ imageOut (load i d) (r .outcome)) ++ images c (guard c) (r .state) es) → N p) z ni)
+              (subst (λ r. (p : List ℕ)
+              → List·Memᴰ p ((imageIn (load k i d) ++ imageOut (load k i d) (r .outcome))
+              ++ images c (guard c) (r .state) es) → N p) z ni)
           ok (record {
             same = ap (λ r. r .outcome ∷ outcomes c (guard c) (r .state) es) z ∙ s .same;
             left = ap (λ r. final c (guard c) (r .state) es) z ∙ s .left;
@@ -196,19 +207,24 @@ module _ (c : Config) (fit : Fit c) where
           })
 
         tried : Tried c t F
-        tried i d es o g u ih bs lo ((r, st, np), ni) = do
+        tried k i d es o g u ih bs lo ((r, st, np), ni) = do
           s ← ih (all-tail bs) (subst (λ y. LoadsOfSaves c (kept t) y es) g (lo .1)) (
             (
-              standing r (load i d) (started c i d .outcome .answer),
-              stays i d r st (all-head bs) g,
+              standing r (load k i d) (started c k i d .outcome .answer),
+              stays k i d r st (all-head bs) g,
               λ p m. np p
-                  (Memᴰ·append-right (pageReplied r (load i d) ++ pageOut (resumed c t i d .state .skeleton) (started c i d .outcome .answer))
-                  (subst (λ y. List·Memᴰ p (pagesAfter c (standing r (load i d) (started c i d .outcome .answer)) y (shown c (guard c) (started c i d .state) es)))
+                  (Memᴰ·append-right (pageReplied r (load k i d)
+                  ++ pageOut (resumed c t k i d .state .skeleton) (started c k i d .outcome .answer))
+                  (subst (λ y. List·Memᴰ p
+                  (pagesAfter c (standing r (load k i d) (started c k i d .outcome .answer)) y
+                  (shown c (guard c) (started c k i d .state) es)))
                   (sym u)
-                  (subst (λ y. List·Memᴰ p (pagesAfter c (standing r (load i d) (started c i d .outcome .answer)) (restarted c t) (shown c (guard c) y es)))
+                  (subst (λ y. List·Memᴰ p
+                  (pagesAfter c (standing r (load k i d) (started c k i d .outcome .answer)) (restarted c t)
+                  (shown c (guard c) y es)))
                   (sym g) m))),
             ),
-            (λ p m. ni p (Memᴰ·append-right (imageIn (load i d) ++ imageOut (load i d) (started c i d .outcome))
+            (λ p m. ni p (Memᴰ·append-right (imageIn (load k i d) ++ imageOut (load k i d) (started c k i d .outcome))
                 (subst (λ y. List·Memᴰ p (images c (guard c) y es)) (sym g) m))),
           )
           ok (record {
@@ -294,17 +310,20 @@ module _ (c : Config) (fit : Fit c) where
       F es = All EventBytes es → Honest c from (restarted c t) es → All NoStop (outcomes c (guard c) from es) × Same (restarted c t) es
 
       begun : Begun c t F
-      begun i d es z bs ho =
-          let (n, (s, l)) = quiet c fit (load i d ∷ es) (guardOf c (restarted c t)) (restarted c t) refl (restarted-holds Any Any t h) bs
-          (subst (λ r. (isDone (r .outcome .answer) → OfLatest c (restarted c t) i d) × Honest c (r .state) (resumed c t i d .state) es) z ho) in (
+      begun k i d es z bs ho =
+          let (n, (s, l)) = quiet c fit (load k i d ∷ es) (guardOf c (restarted c t)) (restarted c t) refl
+          (restarted-holds Any Any t h) bs
+          (subst (λ r. (isDone (r .outcome .answer) → OfLatest c (restarted c t) i d)
+          × Honest c (r .state) (resumed c t k i d .state) es) z ho) in (
             subst (λ r. All NoStop (r .outcome ∷ outcomes c (guard c) (r .state) es)) (sym z) n,
             (ap (λ r. r .outcome ∷ outcomes c (guard c) (r .state) es) z ∙ s, ap (λ r. final c (guard c) (r .state) es) z ∙ l),
           )
 
       tried : Tried c t F
-      tried i d es o g u ih bs (_, ho) =
-          let (n, (s, l)) = ih (all-tail bs) (subst (λ y. Honest c from y es) u (subst (λ y. Honest c y (resumed c t i d .state) es) g ho)) in (
-            both (no-stop-load c i d (guard c) _ tt) (subst (λ y. All NoStop (outcomes c (guard c) y es)) (sym g) n),
+      tried k i d es o g u ih bs (_, ho) =
+          let (n, (s, l)) = ih (all-tail bs)
+          (subst (λ y. Honest c from y es) u (subst (λ y. Honest c y (resumed c t k i d .state) es) g ho)) in (
+            both (no-stop-load c k i d (guard c) _ tt) (subst (λ y. All NoStop (outcomes c (guard c) y es)) (sym g) n),
             (
               ap₂ _∷_ o (ap (λ y. outcomes c (guard c) y es) g ∙ s ∙ ap (λ y. outcomes c (tree c) y es) (sym u)),
               ap (λ y. final c (guard c) y es) g ∙ l ∙ ap (λ y. guardOf c (final c (tree c) y es)) (sym u),

@@ -16,7 +16,7 @@ use Rattle.lists.specs.Or.{Or, bad, ok, _>>=_}
 use Rattle.lists.specs.Cells.{tab}
 use Rattle.lists.specs.Places.{all-tab}
 use Rattle.filesystem.specs.Tables.{PAGE-BYTES, Node, pagesFor}
-use Rattle.filesystem.specs.Image.{Image, flatten, divide, sound, parse}
+use Rattle.filesystem.specs.Image.{Image, saved, Version, current, layoutOf, flatten, divide, sound, parse}
 use Rattle.filesystem.specs.ImageLaws.{Divided, Digest, length-flatten, divide-flatten, all-flatten, parse-print}
 use Rattle.rules.specs.Pages.{pageOf, Change, first, last, fetches, cuts}
 use Rattle.rules.specs.Requests.{Pending}
@@ -69,14 +69,16 @@ module _ (c : Config) (fit : Fit c) (M N : List ℕ → Type 0) where
   all-digests (x ∷ xs) = both (all-tab (pagesFor (length x)) _ (λ i h. (fit .long (pageOf x i), fit .bytes (pageOf x i)))) (all-digests xs)
 
   -- tables read back from the image of good ones
-  pub read-back : (f : Files (List ℕ)) → Good c M N f → ValidNodes (c .width) (f .nodes) → (i : Image) → parse (c .width) (imageOfFiles c M N f) ≡ some i
+  pub read-back : (f : Files (List ℕ)) → Good c M N f → ValidNodes (c .width) (f .nodes) → (i : Image)
+      → parse (saved (c .width)) (imageOfFiles c M N f) ≡ some i
       → _≡_ {A = Files (List (List ℕ))} (record { nodes = i .0; contents = divide (i .0) (i .1) }) (filesOf c f)
   unfolding filesOf sound
   read-back f g v i e =
       let ds : List (List (List ℕ)) = map (digestsOf c) (f .contents) in
       let dv = divided-digests (f .nodes) (f .contents) (g .aligned) in
       let s : sound (c .width) (f .nodes, flatten ds) ≡ true = and-both _ _ (v .sound) (eq-eqb _ _ (length-flatten (f .nodes) ds dv)) in
-      let p = parse-print (c .width) (f .nodes, flatten ds) s (record { names = v .named; digests = all-flatten (all-digests (f .contents)) }) in
+      let p = parse-print (saved (c .width)) (f .nodes, flatten ds) s
+      (record { names = v .named; digests = all-flatten (all-digests (f .contents)) }) in
       let z : _≡_ {A = Image} (f .nodes, flatten ds) i = cc in
       ap (λ (j : Image). record { nodes = j .0; contents = divide (j .0) (j .1) }) (sym z)
       ∙ ap (λ (d : List (List (List ℕ))). record { nodes = f .nodes; contents = d }) (divide-flatten (f .nodes) ds dv)
@@ -92,10 +94,11 @@ module _ (c : Config) (fit : Fit c) (M N : List ℕ → Type 0) where
       go false q ih (inl e) = absurd (equal-false _ _ q (sym e))
       go false q ih (inr m) = ih m
 
-  agree-image : (t : State (tree c)) → Kept c M N t → (i : Image) (image d : List ℕ) → parse (c .width) image ≡ some i → c .digest image ≡ d → N image
+  agree-image : (t : State (tree c)) → Kept c M N t → (k : Version) (i : Image) (image d : List ℕ)
+      → parse (layoutOf (c .width) k) image ≡ some i → c .digest image ≡ d → N image
       → List·Memᴰ d (map (λ s. s .digest) (t .saves)) → Or Bad (Agree c t (loading i d))
-  unfolding goBack
-  agree-image t v i image d hp hd ni m = go (found (t .saves) d m)
+  unfolding goBack layoutOf
+  agree-image t v current i image d hp hd ni m = go (found (t .saves) d m)
     where
       go : (s : Saved) × (lookup (t .saves) d ≡ some s) → Or Bad (Agree c t (loading i d))
       go (s, e) = same (is (equal image (imageOfFiles c M N (s .files))))
@@ -104,7 +107,9 @@ module _ (c : Config) (fit : Fit c) (M N : List ℕ → Type 0) where
           gs = lookup-good c M N (t .saves) d (v .saves) s e
 
           same : Is (equal image (imageOfFiles c M N (s .files))) → Or Bad (Agree c t (loading i d))
-          same (isT q) = ok (rw e (read-back (s .files) (gs .0 .good) (gs .0 .valid) i (subst (λ x. parse (c .width) x ≡ some i) (equal-true _ _ q) hp)))
+          same (isT q) =
+              ok (rw e (read-back (s .files) (gs .0 .good) (gs .0 .valid) i
+              (subst (λ x. parse (saved (c .width)) x ≡ some i) (equal-true _ _ q) hp)))
           same (isF q) = bad (inr (image, imageOfFiles c M N (s .files), ni, gs .0 .image, equal-false _ _ q, hd ∙ (sym (gs .1) ∙ gs .0 .sealed)))
 
   -- a page that a reply brought is of the history
@@ -135,8 +140,8 @@ module _ (c : Config) (fit : Fit c) (M N : List ℕ → Type 0) where
   agree t v (fKeepPages pl w h s l) np ni lo = ok tt
   agree t v (fGiveUp he f) np ni lo = ok tt
   agree t v (fSaving he w z) np ni lo = ok tt
-  agree t v (fLoading {i = i} {image = image} {d = d} he z hd hp) np ni lo =
-      agree-image t v i image d hp hd (ni image (rw he (List·Memᴰ·head refl))) ((rw he at lo) tt)
+  agree t v (fLoading {i = i} {v = k} {image = image} {d = d} he z hd hp) np ni lo =
+      agree-image t v k i image d hp hd (ni image (rw he (List·Memᴰ·head refl))) ((rw he at lo) tt)
 
   -- The digests that the tree keeps are those that were given.
   abbrev digestsKept : List Saved → List (List ℕ)
@@ -150,21 +155,21 @@ module _ (c : Config) (fit : Fit c) (M N : List ℕ → Type 0) where
   given-plain (call s a q) o p = refl
   given-plain (reply r a q) o p = refl
   given-plain (save n) o p = absurd p
-  given-plain (load i d) o p = absurd p
+  given-plain (load k i d) o p = absurd p
 
   given-refused : (e : Event) (n : ℕ) → given e (record { answer = refused n; digest = [] }) ≡ []
   unfolding given givenIf
   given-refused (call s a q) n = refl
   given-refused (reply r a q) n = refl
   given-refused (save m) n = refl
-  given-refused (load i d) n = refl
+  given-refused (load k i d) n = refl
 
   given-ask : (e : Event) (q : List ℕ) → given e (record { answer = ask q; digest = [] }) ≡ []
   unfolding given givenIf
   given-ask (call s a b) q = refl
   given-ask (reply r a b) q = refl
   given-ask (save m) q = refl
-  given-ask (load i d) q = refl
+  given-ask (load k i d) q = refl
 
   is-plain : (e : Event) (r : List ℕ) (a q : ℕ) → e ≡ reply r a q → Plain e
   is-plain e r a q he = rw he tt

@@ -35,7 +35,7 @@ unfoldable pub leftBy : (request : List ℕ) → Event → (number : ℕ) → Li
 leftBy q (call s a b) n = q
 leftBy q (reply r a b) n = pick (eqb n 28) [] q
 leftBy q (save m) n = q
-leftBy q (load i d) n = q
+leftBy q (load v i d) n = q
 
 unfoldable pub standing : (request : List ℕ) → Event → Answer → List ℕ
 standing q e (done n b) = []
@@ -48,7 +48,7 @@ unfoldable pub pageReplied : (request : List ℕ) → Event → List (List ℕ)
 pageReplied q (call s a b) = []
 pageReplied q (reply r a b) = pick (isFetch q) (pick (eqb (length r) PAGE-BYTES) (r ∷ []) []) []
 pageReplied q (save n) = []
-pageReplied q (load i d) = []
+pageReplied q (load v i d) = []
 
 -- The pages of the history (SPECIFICATION 10.3), where this request stands at first. The bytes of a cut do not tell a growth from a shrinking: there
 -- the history follows the tree's run.
@@ -83,7 +83,7 @@ module _ (c : Config) where
   HonestIn t (call s a q) o = Unit {0}
   HonestIn t (reply r a q) o = Right c t r
   HonestIn t (save n) o = Unit {0}
-  HonestIn t (load i d) o = isDone (o .answer) → OfLatest c t i d
+  HonestIn t (load v i d) o = isDone (o .answer) → OfLatest c t i d
 
   -- the host is honest throughout, and each load that was done is of the latest save, the tree unchanged since
   unfoldable pub HonestSeen : State (tree c) → List Seen → Type 0

@@ -63,7 +63,7 @@ module _ (c : Config) where
   honest-same g t (call s a q) = refl
   honest-same g t (reply r a q) = refl
   honest-same g t (save n) = refl
-  honest-same g t (load i d) = refl
+  honest-same g t (load v i d) = refl
 
   pub honest-shown : (g : State (guard c)) (t : State (tree c)) (es : List Event) → HonestSeen c t (shown c (guard c) g es) ≡ Honest c g t es
   unfolding shown HonestSeen Honest
@@ -104,7 +104,7 @@ module _ (c : Config) where
   left-stands q g h (call s a b) n f = h
   left-stands q g h (reply r a b) n f = ap isFetch (pick-false _ _ _ (not-full g r a b n f)) ∙ h
   left-stands q g h (save m) n f = h
-  left-stands q g h (load i d) n f = h
+  left-stands q g h (load v i d) n f = h
 
   pub move-stands : (q : List ℕ) (g : State (guard c)) → Stands q g → {m : Move} {e : Event} → Fits c (g .skeleton) e m → StandsAfter q e (apply c (guard c) g m)
   unfolding apply readOn askStore finishChange standing isFetch awaitsPage fetchRequest storeRequest
@@ -134,14 +134,14 @@ module _ (c : Config) where
   page-replied q p (call s a b) h = refl
   page-replied q p (reply r a b) h = ap (λ w. pick w (pick (eqb (length r) PAGE-BYTES) (r ∷ []) []) []) h
   page-replied q p (save n) h = refl
-  page-replied q p (load i d) h = refl
+  page-replied q p (load v i d) h = refl
 
 -- A digest comes with a save that is done, and with nothing else.
 abbrev pub NoSave : Event → Type 0
 NoSave (call s a q) = Unit {0}
 NoSave (reply r a q) = Unit {0}
 NoSave (save n) = ⊥
-NoSave (load i d) = Unit {0}
+NoSave (load v i d) = Unit {0}
 
 module _ (c : Config) (S : Store) where
   abbrev Bare : Result S → Type 0

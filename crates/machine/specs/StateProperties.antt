@@ -19,7 +19,8 @@ use Rattle.lists.specs.Search.{without}
 use Rattle.lists.specs.Places.{all-tab, all-place, all-without}
 use Rattle.lists.specs.Maps.{map-set, map-without}
 use Rattle.filesystem.specs.Tables.{Node, OpenFile, pagesFor, setSize}
-use Rattle.filesystem.specs.Image.{Image, flatten, divide, soundNodes, sound, print, parse}
+use Rattle.filesystem.specs.Image.{Image, saved, Version, current, layoutOf, flatten, divide, soundNodes, sound}
+use Rattle.filesystem.specs.Image.{print, parse}
 use Rattle.filesystem.specs.ImageLaws.{Divided, Digest, Shaped, length-flatten, divide-flatten, divided, all-flatten, parse-print, parse-was-printed}
 use Rattle.filesystem.specs.Digests.{replaced}
 use Rattle.rules.specs.Pages.{Change, first, last, fetches, cuts, before}
@@ -70,48 +71,56 @@ module _ (c : Config) where
   }
 
   -- what is loaded was so saved
-  parsed-shape : {e : Event} → EventBytes e → (s d : List ℕ) (i : Image) → e ≡ load s d → parse (c .width) s ≡ some i → (sound (c .width) i ≡ true) × Shaped i
-  unfolding EventBytes
-  parsed-shape b s d i he hp = let (t, h, q) = parse-was-printed (c .width) s i (subst EventBytes he b .0) hp in (t, h)
+  parsed-shape : {e : Event} → EventBytes e → (v : Version) (s d : List ℕ) (i : Image) → e ≡ load v s d
+      → parse (layoutOf (c .width) v) s ≡ some i → (sound (c .width) i ≡ true) × Shaped i
+  unfolding EventBytes layoutOf
+  parsed-shape b current s d i he hp =
+      let (t, h, q) = parse-was-printed (saved (c .width)) s i (subst EventBytes he b .0) hp in (t, h)
 
   loaded-nodes : {sk : Skeleton} {e : Event} {i : Image} {d : List ℕ} → EventBytes e → Fits c sk e (loading i d) → ValidNodes (c .width) (i .0)
   unfolding sound
-  loaded-nodes {i = i} {d = d} b (fLoading {image = s} he z hd hp) = let (t, h) = parsed-shape b s d i he hp in record { sound = and-fst _ _ t; named = h .names }
+  loaded-nodes {i = i} {d = d} b (fLoading {v = v} {image = s} he z hd hp) =
+      let (t, h) = parsed-shape b v s d i he hp in record { sound = and-fst _ _ t; named = h .names }
 
   -- The image of such a state loads again, and as it was.
-  pub loads-again : (g : State (guard c)) → Holds g → parse (c .width) (imageOf c (guard c) g) ≡ some (g .skeleton .tables .nodes, flatten (g .contents))
+  pub loads-again : (g : State (guard c)) → Holds g
+      → parse (saved (c .width)) (imageOf c (guard c) g) ≡ some (g .skeleton .tables .nodes, flatten (g .contents))
   unfolding sound
   loads-again g h =
       let ns = g .skeleton .tables .nodes in
       let n = h .valid .tables .nodes-valid in
-      ap (λ (l : List (List (List ℕ))). parse (c .width) (print (c .width) (ns, flatten l))) (map-id (g .contents))
-      ∙ parse-print (c .width) (ns, flatten (g .contents)) (and-both _ _ (n .sound) (eq-eqb _ _ (length-flatten ns (g .contents) (h .pages .counted))))
+      ap (λ (l : List (List (List ℕ))). parse (saved (c .width)) (print (saved (c .width)) (ns, flatten l)))
+      (map-id (g .contents))
+      ∙ parse-print (saved (c .width)) (ns, flatten (g .contents))
+      (and-both _ _ (n .sound) (eq-eqb _ _ (length-flatten ns (g .contents) (h .pages .counted))))
       (record { names = n .named; digests = all-flatten (h .pages .digested) })
 
   -- so another guard that runs, waits for nothing and has no file open loads it
   module _ (g h : State (guard c)) (v : Holds g) (running : h .skeleton .stopped ≡ false) (quiet : h .skeleton .pending ≡ idle)
       (closed : h .skeleton .tables .opens ≡ []) where
-    abbrev saved : List ℕ
-    saved = imageOf c (guard c) g
+    abbrev written : List ℕ
+    written = imageOf c (guard c) g
 
-    pub load-judged : judge c (h .skeleton) (load saved (c .digest saved)) ≡ loading (g .skeleton .tables .nodes, flatten (g .contents)) (c .digest saved)
-    unfolding judge eventChecks eventAction isIdle isNone imageOr
+    pub load-judged : judge c (h .skeleton) (load current written (c .digest written))
+        ≡ loading (g .skeleton .tables .nodes, flatten (g .contents)) (c .digest written)
+    unfolding judge eventChecks eventAction isIdle isNone imageOr layoutOf
     load-judged =
         let e = loads-again g v in
         decide-passed refuse _ _
         (both running
         (both (ap (λ p. not (isIdle p)) quiet)
         (both (ap (λ (os : List OpenFile). ltb 0 (length os)) closed)
-        (both (ap not (equal-refl (c .digest saved)))
+        (both (ap not (equal-refl (c .digest written)))
         (both (ap isNone e) none)))))
-        ∙ ap (λ i. loading (imageOr i) (c .digest saved)) e
+        ∙ ap (λ i. loading (imageOr i) (c .digest written)) e
 
   -- and the same guard, at once: that is done and changes nothing
   module _ (g : State (guard c)) (h : Holds g) (running : g .skeleton .stopped ≡ false) (quiet : g .skeleton .pending ≡ idle) (closed : g .skeleton .tables .opens ≡ []) where
     abbrev image : List ℕ
     image = imageOf c (guard c) g
 
-    pub load-keeps : step c (guard c) g (load image (c .digest image)) ≡ record { outcome = plain (done 0 []); state = cleared c (guard c) g }
+    pub load-keeps : step c (guard c) g (load current image (c .digest image))
+        ≡ record { outcome = plain (done 0 []); state = cleared c (guard c) g }
     unfolding step apply
     load-keeps =
         ap (λ m. apply c (guard c) g m) (load-judged g g h running quiet closed)
@@ -198,8 +207,8 @@ module _ (c : Config) (digest-fits : (s : List ℕ) → Digest (c .digest s)) wh
       finish-digested (trimmed c (guard c) g (i - first q)) k o (before q i) (record { counted = h .counted; digested = h .digested; sent = all-take (i - first q) (h .sent) })
   keeps-digested g h m e b (fGiveUp he f) = record { counted = h .counted; digested = h .digested; sent = none }
   keeps-digested g h m e b (fSaving he w z) = record { counted = h .counted; digested = h .digested; sent = none }
-  keeps-digested g h m e b (fLoading {i = i} {image = s} {d = d} he z hd hp) =
-      let (t, x) = parsed-shape c b s d i he hp in
+  keeps-digested g h m e b (fLoading {i = i} {v = v} {image = s} {d = d} he z hd hp) =
+      let (t, x) = parsed-shape c b v s d i he hp in
       record { counted = divided (i .0) (i .1) (eqb-true _ _ (and-snd (soundNodes (c .width) (i .0)) _ t)); digested = all-divide (i .0) (i .1) (x .digests); sent = none }
 
   -- one event, whatever it is
@@ -235,5 +244,6 @@ module _ (c : Config) (digest-fits : (s : List ℕ) → Digest (c .digest s)) wh
     always-digests = always-holds .pages .digested
 
     -- what is saved loads again, and as it was
-    pub always-loads : parse (c .width) (imageOf c (guard c) at-end) ≡ some (at-end .skeleton .tables .nodes, flatten (at-end .contents))
+    pub always-loads : parse (saved (c .width)) (imageOf c (guard c) at-end)
+        ≡ some (at-end .skeleton .tables .nodes, flatten (at-end .contents))
     always-loads = loads-again c at-end always-holds

@@ -165,7 +165,7 @@ module _ (c : Config) (S : Store) where
       go (call b a q) = rw h here
       go (reply r a q) = rw h here
       go (save k) = rw h here
-      go (load i d) = rw h here
+      go (load k i d) = rw h here
 
 -- A fresh one takes a create of a name of the right form and length: its request goes out.
 pub fresh-creates : (c : Config) (S : Store) (m : ℕ) (x : List ℕ) (a q : ℕ) → m ≤ 7 → componentForm x ≡ true → length x ≤ NAME-BYTES → Bytes x

@@ -26,7 +26,7 @@ unfoldable pub lastLoaded : List ℕ → Event → Outcome → List ℕ
 lastLoaded image (call s a q) o = image
 lastLoaded image (reply r a q) o = image
 lastLoaded image (save n) o = image
-lastLoaded image (load i d) o = loadedIf (o .answer) i image
+lastLoaded image (load v i d) o = loadedIf (o .answer) i image
 
 module _ (c : Config) where
   abbrev pub Guard : Type 0
@@ -38,7 +38,7 @@ module _ (c : Config) where
   Gives image (reply r a q) o = Unit {0}
   Gives image (save n) o =
       isDone (o .answer) → o ≡ record { answer = done (length image) image; digest = c .digest image }
-  Gives image (load i d) o = Unit {0}
+  Gives image (load v i d) o = Unit {0}
 
   unfoldable pub AsLoaded : List ℕ → Guard → List Event → Type 0
   AsLoaded image g [] = imageOf c (guard c) g ≡ image

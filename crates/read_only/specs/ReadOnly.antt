@@ -59,7 +59,7 @@ module _ (c : Config) where
   takes (call s a q) = takesCall (callOr (readCall (c .width) s))
   takes (reply r a q) = true
   takes (save n) = true
-  takes (load i d) = true
+  takes (load v i d) = true
 
   -- the events of a list that are taken
   unfoldable pub taken : List Event → List Event
@@ -77,7 +77,7 @@ module _ (c : Config) where
   readOnlyChecks sk (call s a q) = formChecks sk s a q ++ ((30, not (takesCall (callOr (readCall (c .width) s)))) ∷ [])
   readOnlyChecks sk (reply r a q) = []
   readOnlyChecks sk (save n) = []
-  readOnlyChecks sk (load i d) = []
+  readOnlyChecks sk (load v i d) = []
 
   module _ (S : Store) where
     abbrev pub refusal : State S → ℕ → Result S

@@ -2,10 +2,10 @@
 use mathlib.Core.Path.{_≡_, refl}
 use mathlib.Core.List.{List, [], _∷_}
 use Prim.Native.Nat.{ℕ}
-use Rattle.rules.specs.Skeleton.{save, load}
+use Rattle.rules.specs.Skeleton.{save}
 use Rattle.rule_examples.specs.Bytes.{nothing, under}
 use Rattle.rule_examples.specs.Given.{file, root, opened, Given, given, imageOf}
-use Rattle.rule_examples.specs.Events.{callOf, lent, create, close, seek, says, gives, loads}
+use Rattle.rule_examples.specs.Events.{callOf, lent, create, close, seek, says, gives, load, loads}
 use Rattle.rule_examples.specs.Rows.{isDone, isSaved, isRefused, isStopped, _⇒_, holds, _then_, end, sendsItself, Row, row, one, passes}
 use Rattle.rule_examples.specs.Evaluation.{wrong}
 

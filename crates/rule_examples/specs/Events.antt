@@ -1,9 +1,10 @@
--- Events: the fifteen calls, replies, loads.
+-- Events: the fifteen calls, replies, loads of images of the current version.
 use mathlib.Core.List.{List, _∷_, _++_}
 use Prim.Native.Nat.{ℕ, _-_, _^_}
 use Prim.Native.String.{String}
 use lib.ListN.{length}
-use Rattle.rules.specs.Skeleton.{Event, call, reply, save, load}
+use Rattle.filesystem.specs.Image.{current}
+use Rattle.rules.specs.Skeleton.{Event, call, reply, save, load as loadOf}
 use Rattle.rule_examples.specs.Bytes.{bytesOf, four, eight, padded, digest}
 
 -- Events, with buffers just long enough.
@@ -18,7 +19,7 @@ unfoldable pub lent : (answer request : ℕ) → Event → Event
 lent a q (call s _ _) = call s a q
 lent a q (reply s _ _) = reply s a q
 lent a q (save n) = save n
-lent a q (load i d) = load i d
+lent a q (loadOf v i d) = loadOf v i d
 
 -- one byte for the kind, then the fields (SPECIFICATION 4.1)
 abbrev pub create : (mode : ℕ) → String → Event
@@ -87,6 +88,9 @@ entry i k n = four i ++ (k ∷ length (bytesOf n) ∷ bytesOf n)
 
 abbrev pub statOf : (id kind mode size : ℕ) → List ℕ
 statOf i k m s = four i ++ (k ∷ m ∷ four s)
+
+abbrev pub load : (image digest : List ℕ) → Event
+load i d = loadOf current i d
 
 abbrev pub loads : List ℕ → Event
 loads image = load image (digest image)

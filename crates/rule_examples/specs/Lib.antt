@@ -22,5 +22,6 @@ pub mod Maps
 pub mod ReadOnly
 pub mod SaveLoad
 pub mod Soundness
+pub mod Layouts
 pub mod LargeNumbers
 pub mod Limits

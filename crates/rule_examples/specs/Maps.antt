@@ -2,10 +2,10 @@
 use mathlib.Core.Path.{_≡_, refl}
 use mathlib.Core.List.{List, [], _∷_, _++_}
 use Rattle.filesystem.specs.MemoryMaps.{Map}
-use Rattle.rules.specs.Skeleton.{save, load}
+use Rattle.rules.specs.Skeleton.{save}
 use Rattle.rule_examples.specs.Bytes.{four, eight, many, nothing, digest}
 use Rattle.rule_examples.specs.Given.{root, Given, map-at, mapped, imageOf}
-use Rattle.rule_examples.specs.Events.{callOf, replies, lent, stat, mapOf, unmap, hands, says, saysMinus}
+use Rattle.rule_examples.specs.Events.{callOf, replies, lent, stat, mapOf, unmap, hands, says, saysMinus, load}
 use Rattle.rule_examples.specs.Rows.{isDone, isSaved, asks, isRefused, isStopped, _⇒_, holds, lives, _then_, end, sendsItself, Row, row, one}
 use Rattle.rule_examples.specs.Rows.{passes}
 use Rattle.rule_examples.specs.Evaluation.{wrong}

@@ -1,16 +1,16 @@
 -- The read-only guard: the calls that it takes, and 30 after 36 and before every table (SPECIFICATION 14).
 use mathlib.Core.Path.{_≡_, refl}
-use mathlib.Core.List.{List, [], _∷_, _++_}
+use mathlib.Core.List.{List, [], _∷_}
 use Prim.Native.Nat.{ℕ}
 use Prim.Native.String as S
 use Prim.Native.String.{String}
 use Rattle.filesystem.specs.Tables.{OpenFile}
-use Rattle.rules.specs.Skeleton.{Event, save, load}
+use Rattle.rules.specs.Skeleton.{Event, save}
 use Rattle.rule_examples.specs.Bytes.{bytesOf, many, nothing, name}
 use Rattle.rule_examples.specs.Given.{Item, file, folder, root, opened, Given, given, imageOf}
 use Rattle.rule_examples.specs.Events.{callOf, replies, lent, create, mkdir, openFor, close, seek, read, write}
 use Rattle.rule_examples.specs.Events.{truncate, remove, rmdir, chmod, readdir, stat, mapOf, unmap, says, gives}
-use Rattle.rule_examples.specs.Events.{saysMinus, givesPage, entry, statOf, loads}
+use Rattle.rule_examples.specs.Events.{saysMinus, givesPage, entry, statOf, load, loads}
 use Rattle.rule_examples.specs.Rows.{isDone, isSaved, isRefused, isStopped, closes, fetches, _⇒_, holds, lives}
 use Rattle.rule_examples.specs.Rows.{_then_, end, sendsItself, Row, row, one}
 use Rattle.rule_examples.specs.Evaluation.{readerSide, wrongOn, wrongReading}

@@ -64,7 +64,7 @@ unfoldable pub itsBytes : Event → List ℕ
 itsBytes (call s _ _) = s
 itsBytes (reply s _ _) = s
 itsBytes (save n) = []
-itsBytes (load i d) = i
+itsBytes (load v i d) = i
 
 -- a request that is the call itself (SPECIFICATION 5.2)
 abbrev pub sendsItself : Event → Line

@@ -5,12 +5,12 @@ use Prim.Native.Nat.{ℕ, _-_, _/_, _%_}
 use lib.ListN.{take, length}
 use Rattle.lists.specs.Cells.{tab}
 use Rattle.filesystem.specs.Tables.{ID-BYTES}
-use Rattle.rules.specs.Skeleton.{Config, save, load}
+use Rattle.rules.specs.Skeleton.{Config, save}
 use Rattle.machine.specs.Tree.{digestsOf}
 use Rattle.rule_examples.specs.Bytes.{bytesOf, four, many, nothing, digest}
 use Rattle.rule_examples.specs.Given.{Item, folder, file, sized, root, opened, Given, given}
 use Rattle.rule_examples.specs.Given.{imageOf, imageWith, concatenated}
-use Rattle.rule_examples.specs.Events.{create, openFor, close, remove, chmod, says, gives, loads}
+use Rattle.rule_examples.specs.Events.{create, openFor, close, remove, chmod, says, gives, load, loads}
 use Rattle.rule_examples.specs.Rows.{isDone, isSaved, isRefused, closes, _⇒_, holds, _then_, end, sendsItself, Row, row, one}
 use Rattle.rule_examples.specs.Evaluation.{guardSide, treeSide, wrong, wrongOn}
 

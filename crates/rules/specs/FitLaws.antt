@@ -23,7 +23,7 @@ use Rattle.filesystem.specs.Tables.{OPEN-FILES, FILE-BYTES, NAME-BYTES, PATH-BY
 use Rattle.filesystem.specs.Rights.{covers}
 use Rattle.filesystem.specs.Paths.{Path, pathBytes, joined, componentForm, tooLong, childAt, walk, walkChecks, parentChecks, parentOf, lastOf}
 use Rattle.filesystem.specs.PathLaws.{walk-place, walk-last, parent-place}
-use Rattle.filesystem.specs.Image.{Image, parse}
+use Rattle.filesystem.specs.Image.{Image, Version, layoutOf, parse}
 use Rattle.filesystem.specs.Sound.{gone, Sound, to-sound, limits-at, by-kind, findId-only}
 use Rattle.filesystem.specs.SoundLaws.{root-parent-length, file-children}
 use Rattle.rules.specs.Calls.{Call, create, mkdir, openAs, close, seek, read, write, truncate, remove, rmdir, chmod, readdir, stat, callBytes, readCall, mapMemory, unmap}
@@ -289,11 +289,11 @@ module _ (c : Config) (sk : Skeleton) (v : Valid (c .width) sk) where
   read-call-fits s a b bs none e i p = absurd (true≢false i)
   read-call-fits s a b bs (some q) e i p = call-fits c sk (v .tables) (call s a b) tt q (call-was-written (c .width) s q bs e .1) p
 
-  loading-fits : (image d : List ℕ) → sk .tables .opens ≡ [] → c .digest image ≡ d → (o : Option Image) → parse (c .width) image ≡ o → isNone o ≡ false
-      → Fits c sk (load image d) (loading (imageOr o) d)
+  loading-fits : (k : Version) (image d : List ℕ) → sk .tables .opens ≡ [] → c .digest image ≡ d → (o : Option Image)
+      → parse (layoutOf (c .width) k) image ≡ o → isNone o ≡ false → Fits c sk (load k image d) (loading (imageOr o) d)
   unfolding isNone imageOr
-  loading-fits image d z h none e i = absurd (true≢false i)
-  loading-fits image d z h (some j) e i = fLoading refl z h e
+  loading-fits k image d z h none e i = absurd (true≢false i)
+  loading-fits k image d z h (some j) e i = fLoading refl z h e
 
   -- a full disk
   gives-up : (r : List ℕ) (a b : ℕ) (p : Pending) → sk .pending ≡ p → tellsFull (c .width) r p ≡ true → finished p ≡ false → Fits c sk (reply r a b) giveUp
@@ -322,8 +322,9 @@ module _ (c : Config) (sk : Skeleton) (v : Valid (c .width) sk) where
       (λ p. reply-fits c sk (v .tables) r a b bs (sk .pending) refl i (v .pending)
       (unfold reasons in all-left (replyChecks (c .width) (sk .tables) r (sk .pending)) (mapReasons (sk .maps) r (sk .pending)) p)))
   action-fits (save n) bs (both _ (both i (both o _))) = fSaving refl (is-idle (sk .pending) (not-false _ i)) (none-open _ o)
-  action-fits (load image d) bs (both _ (both i (both o (both h (both p _))))) =
-      loading-fits image d (none-open _ o) (equal-true _ _ (not-false _ h)) (parse (c .width) image) refl p
+  action-fits (load k image d) bs (both _ (both i (both o (both h (both p _))))) =
+      loading-fits k image d (none-open _ o) (equal-true _ _ (not-false _ h))
+      (parse (layoutOf (c .width) k) image) refl p
 
   fits-here : (e : Event) → EventBytes e → Fits c sk e (judge c sk e)
   unfolding judge

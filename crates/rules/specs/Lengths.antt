@@ -83,7 +83,7 @@ abbrev pub longestTables : Tables
 longestTables = record { nodes = full; opens = [] }
 
 pub longest-valid : ValidTables 4 longestTables
-longest-valid = bare-valid 4 full (record { sound = full-sound; named = full-named })
+longest-valid = bare-valid 4 full (record { sound = full-sound 4 (omega arith); named = full-named })
 
 pub longest-listing : (r : List ℕ) × RightListing 4 longestTables r 0 × (length r ≡ 9690)
 longest-listing =
@@ -204,7 +204,7 @@ module _ (c : Config) (sk : Skeleton) (v : Valid (c .width) sk) where
       (λ p. reply-modest c (sk .tables) r b (v .tables .nodes-valid) (sk .pending) (v .pending)
       (unfold reasons in all-left (replyChecks (c .width) (sk .tables) r (sk .pending)) (mapReasons (sk .maps) r (sk .pending)) p)))
   action-modest (save n) b p = tt
-  action-modest (load i d) b p = tt
+  action-modest (load v i d) b p = tt
 
   pub judge-modest : (e : Event) → EventBytes e → Modest c (judge c sk e)
   unfolding judge

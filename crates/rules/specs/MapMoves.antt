@@ -125,7 +125,7 @@ module _ (c : Config) where
       (λ x. reply-maps (sk .maps) (c .width) (sk .tables) r (sk .pending) (v .valid) (v .pending)
       (unfold reasons in all-right (replyChecks (c .width) (sk .tables) r (sk .pending)) (mapReasons (sk .maps) r (sk .pending)) x)))
   action-maps sk v (save n) b p = tt
-  action-maps sk v (load i d) b p = tt
+  action-maps sk v (load k i d) b p = tt
 
   pub judge-maps : (sk : Skeleton) → MapsValid sk → (e : Event) → EventBytes e → MapMove (sk .maps) (judge c sk e)
   unfolding judge

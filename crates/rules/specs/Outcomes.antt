@@ -22,7 +22,7 @@ use Rattle.filesystem.specs.MemoryMaps.{Map}
 use Rattle.rules.specs.MapRules.{mapFaults}
 use Rattle.rules.specs.Requests.{asked, Pending, idle, creating, opening, closing, removing, changing, listing, stating, mapping, unmapping, reading, fetching, storing, cutting}
 use Rattle.rules.specs.Pages.{first}
-use Rattle.rules.specs.Skeleton.{Config, Event, call, reply, save, load, stopped, answerLength, requestLength, Skeleton}
+use Rattle.rules.specs.Skeleton.{Config, Event, call, reply, save, load, answerLength, requestLength, Skeleton}
 use Rattle.rules.specs.Rules.{Move, refuse, halt, send, finish, add, delete, remap, readPage, begin, fillPage, stored, cutDone, keepPages, giveUp, saving, loading, callChecks, readAction, callAction, replyChecks, replyAction, tellsFull, finished, fullAction, givesUp, mapChecks, mapReasons, reasons, isIdle, callOr, isNone, eventChecks, eventAction, judge}
 
 -- SPECIFICATION 7.1
@@ -113,7 +113,7 @@ checks-known c sk (call s a q) =
     (all-append (call-known (sk .tables) (callOr (readCall (c .width) s))) (map-known (sk .maps) (callOr (readCall (c .width) s)))))))
 checks-known c sk (reply r a q) = both refl (both refl (both refl all-none))
 checks-known c sk (save n) = both refl (both refl (both refl (both refl all-none)))
-checks-known c sk (load i d) = both refl (both refl (both refl (both refl (both refl all-none))))
+checks-known c sk (load v i d) = both refl (both refl (both refl (both refl (both refl all-none))))
 
 -- A move that is no refusal; if a stop, one for a reason; if a request, one that something waits for; a call given up
 -- only where that may be.
@@ -235,7 +235,7 @@ module _ (c : Config) (sk : Skeleton) where
       pick-ind (Acts true) (tellsFull (c .width) r (sk .pending)) (λ _. full-acts (sk .pending))
       (λ _. judged-acts true r i)
   action-acts (save n) p = tt
-  action-acts (load i d) p = tt
+  action-acts (load v i d) p = tt
 
   -- an event is refused n exactly where n is the first of its numbers whose condition holds
   pub refused-exactly : (e : Event) (n : ℕ) → (judge c sk e ≡ refuse n) ↔ First n (eventChecks c sk e)
@@ -272,7 +272,7 @@ module _ (c : Config) (sk : Skeleton) where
       go (isT e) = and-both _ _ e (ap not (full-gives (sk .pending) .0 (sym (pick-true _ _ _ e) ∙ x)))
       go (isF e) = absurd (false≢true (subst (Acts false) (sym (pick-false _ _ _ e) ∙ x) (judged-acts false r i)))
   up-to (save n) p x = absurd (false≢true (subst (Acts false) x tt))
-  up-to (load i d) p x = absurd (false≢true (subst (Acts false) x tt))
+  up-to (load v i d) p x = absurd (false≢true (subst (Acts false) x tt))
 
   up-from : (e : Event) → givesUp c sk e ≡ true → eventAction c sk e ≡ giveUp
   unfolding eventAction givesUp
@@ -282,7 +282,7 @@ module _ (c : Config) (sk : Skeleton) where
       let n = and-snd (tellsFull (c .width) r (sk .pending)) _ g in
       pick-true _ _ _ f ∙ full-gives (sk .pending) .1 (not-true _ n)
   up-from (save n) g = absurd (true≢false (sym g))
-  up-from (load i d) g = absurd (true≢false (sym g))
+  up-from (load v i d) g = absurd (true≢false (sym g))
 
   pub gives-up-exactly : (e : Event) → (judge c sk e ≡ giveUp) ↔ (Passed (eventChecks c sk e) × (givesUp c sk e ≡ true))
   unfolding judge

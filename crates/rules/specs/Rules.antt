@@ -1,7 +1,8 @@
 -- The rules: for each event the numbers in their order (SPECIFICATION 7.4 to 7.8, 8.2, 8.3), and what is to be done where none of them holds.
 -- Nothing here knows what is kept of a page.
 -- Letters: t tables, p a path (in pages: a position), h a handle, k a node's place, o an open file's place, m a mode, r rights or a reply, n a number or
--- a count, d bytes of a write, w the width of ids, c the configuration, sk what is held beside pages.
+-- a count, d bytes of a write, w the width of ids, v an image's version, c the configuration, sk what is held beside
+-- pages.
 -- Assumes nothing.
 use mathlib.Core.Bool.{Bool, true, false, _&&_, _||_, not}
 use mathlib.Core.List.{List, [], _∷_, _++_, map}
@@ -22,7 +23,7 @@ use Rattle.lists.specs.Checks.{Check, decide}
 use Rattle.filesystem.specs.Tables.{NODES, OPEN-FILES, PAGES, PAGE-BYTES, FILE-BYTES, DESCRIPTORS, Node, OpenFile, Tables, isDirectory, hasBit, pageTotal, nodeAt, openAt, absent, present, findId, findHandle, findDescriptor, children, newNode, newOpenFile, setMode, setSize, setCursor}
 use Rattle.filesystem.specs.Rights.{covers}
 use Rattle.filesystem.specs.Paths.{Path, tooLong, walk, walkChecks, parentChecks, parentOf, lastOf}
-use Rattle.filesystem.specs.Image.{Image, imageLength, parse}
+use Rattle.filesystem.specs.Image.{Image, saved, layoutOf, imageLength, parse}
 use Rattle.filesystem.specs.MemoryMaps.{Map, MAPS}
 use Rattle.rules.specs.MapRules.{MapChange, begins, ends, mapIn, findMap, mapFaults}
 use Rattle.rules.specs.Calls.{Call, create, mkdir, openAs, close, seek, read, write, truncate, remove, rmdir, chmod, readdir, stat, callBytes, readCall, mapMemory, unmap}
@@ -363,9 +364,11 @@ module _ (c : Config) (sk : Skeleton) where
       stoppedCheck ∷ busyCheck ∷ shortCheck answer request ∷ (22, isNone (readCall (c .width) s))
       ∷ (callChecks (sk .tables) (callOr (readCall (c .width) s)) ++ mapChecks (sk .maps) (callOr (readCall (c .width) s)))
   eventChecks (reply r answer request) = stoppedCheck ∷ (61, isIdle (sk .pending)) ∷ shortCheck answer request ∷ []
-  eventChecks (save buffer) = stoppedCheck ∷ busyCheck ∷ inUseCheck ∷ (34, ltb buffer (imageLength (c .width) (sk .tables .nodes))) ∷ []
-  eventChecks (load image digest) =
-      stoppedCheck ∷ busyCheck ∷ inUseCheck ∷ (74, not (equal (c .digest image) digest)) ∷ (84, isNone (parse (c .width) image)) ∷ []
+  eventChecks (save buffer) =
+      stoppedCheck ∷ busyCheck ∷ inUseCheck ∷ (34, ltb buffer (imageLength (saved (c .width)) (sk .tables .nodes))) ∷ []
+  eventChecks (load v image digest) =
+      stoppedCheck ∷ busyCheck ∷ inUseCheck ∷ (74, not (equal (c .digest image) digest))
+      ∷ (84, isNone (parse (layoutOf (c .width) v) image)) ∷ []
 
   unfoldable pub eventAction : Event → Move
   eventAction (call s answer request) = callAction (sk .tables) (c .width) (callOr (readCall (c .width) s))
@@ -373,7 +376,7 @@ module _ (c : Config) (sk : Skeleton) where
       pick (tellsFull (c .width) r (sk .pending)) (fullAction (sk .pending))
       (decide halt (reasons (c .width) sk r) (replyAction (c .width) (sk .tables) r (sk .pending)))
   eventAction (save buffer) = saving
-  eventAction (load image digest) = loading (imageOr (parse (c .width) image)) digest
+  eventAction (load v image digest) = loading (imageOr (parse (layoutOf (c .width) v) image)) digest
 
   unfoldable pub judge : Event → Move
   judge e = decide refuse (eventChecks e) (eventAction e)
@@ -383,4 +386,4 @@ module _ (c : Config) (sk : Skeleton) where
   givesUp (call s answer request) = false
   givesUp (reply r answer request) = tellsFull (c .width) r (sk .pending) && not (finished (sk .pending))
   givesUp (save buffer) = false
-  givesUp (load image digest) = false
+  givesUp (load v image digest) = false

@@ -7,6 +7,7 @@ use Prim.Native.Nat.{ℕ, _+_, _-_, _*_}
 use Rattle.lists.specs.All.{Bytes}
 use Rattle.lists.specs.Parts.{overwrite}
 use Rattle.filesystem.specs.Tables.{NODES, NAME-BYTES, Tables, freshTables}
+use Rattle.filesystem.specs.Image.{Version}
 use Rattle.filesystem.specs.MemoryMaps.{Map}
 use Rattle.rules.specs.Requests.{storeLength, Pending, idle}
 
@@ -19,14 +20,14 @@ pub record Config : Type 0 where
 pub data Event : Type 0 where
   call reply : (bytes : List ℕ) (answer request : ℕ) → Event
   save : (buffer : ℕ) → Event
-  load : (image digest : List ℕ) → Event
+  load : Version → (image digest : List ℕ) → Event
 
 -- what is handed in is bytes
 unfoldable pub EventBytes : Event → Type 0
 EventBytes (call s a q) = Bytes s
 EventBytes (reply r a q) = Bytes r
 EventBytes (save n) = Unit {0}
-EventBytes (load i d) = Bytes i × Bytes d
+EventBytes (load v i d) = Bytes i × Bytes d
 
 -- exactly one of four (SPECIFICATION 1.3)
 pub data Answer : Type 0 where

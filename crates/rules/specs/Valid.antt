@@ -14,7 +14,7 @@ use Rattle.lists.specs.Search.{unique, without}
 use Rattle.lists.specs.Checks.{First}
 use Rattle.filesystem.specs.Tables.{NODES, OPEN-FILES, PAGES, PAGE-BYTES, FILE-BYTES, NAME-BYTES, PATH-BYTES, DESCRIPTORS, Node, OpenFile, Tables, isFile, isDirectory, pageTotal, nodeAt, openAt, findId, findChild, findHandle, children, setSize}
 use Rattle.filesystem.specs.Paths.{componentForm}
-use Rattle.filesystem.specs.Image.{Image, soundNodes, pathLength, parse}
+use Rattle.filesystem.specs.Image.{Image, Version, layoutOf, soundNodes, pathLength, parse}
 use Rattle.rules.specs.Pages.{pageAt, Change, first, last, sizeAfter, FitsSize, storesMore}
 use Rattle.rules.specs.Requests.{isFetch, asked, Pending, idle, creating, opening, closing, removing, changing, listing, stating, mapping, unmapping, reading, fetching, storing, cutting}
 use Rattle.rules.specs.MapRules.{MapChange}
@@ -156,7 +156,7 @@ abbrev pub Plain : Event → Type 0
 Plain (call s a q) = Unit {0}
 Plain (reply r a q) = Unit {0}
 Plain (save n) = ⊥
-Plain (load i d) = ⊥
+Plain (load v i d) = ⊥
 
 -- What holds of the move that the rules come to.
 pub data Fits (c : Config) (sk : Skeleton) (e : Event) : Move → Type 0 where
@@ -183,5 +183,5 @@ pub data Fits (c : Config) (sk : Skeleton) (e : Event) : Move → Type 0 where
       → storesMore q ≡ true → first q < i → Fits c sk e (keepPages k o q i)
   fGiveUp : {r : List ℕ} {a q : ℕ} → e ≡ reply r a q → givesUp c sk e ≡ true → Fits c sk e giveUp
   fSaving : {n : ℕ} → e ≡ save n → sk .pending ≡ idle → sk .tables .opens ≡ [] → Fits c sk e saving
-  fLoading : {i : Image} {image d : List ℕ} → e ≡ load image d → sk .tables .opens ≡ [] → c .digest image ≡ d → parse (c .width) image ≡ some i
-      → Fits c sk e (loading i d)
+  fLoading : {i : Image} {v : Version} {image d : List ℕ} → e ≡ load v image d → sk .tables .opens ≡ []
+      → c .digest image ≡ d → parse (layoutOf (c .width) v) image ≡ some i → Fits c sk e (loading i d)

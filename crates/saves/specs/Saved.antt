@@ -10,7 +10,7 @@ use Prim.Native.Nat.{ℕ}
 use lib.Dec.{ltb}
 use Rattle.lists.specs.Checks.{decide}
 use Rattle.lists.specs.Equal.{equal}
-use Rattle.filesystem.specs.Image.{imageLength, parse}
+use Rattle.filesystem.specs.Image.{saved, imageLength, parse}
 use Rattle.rules.specs.Skeleton.{Config, atFront, imageAfter}
 use Rattle.rules.specs.Rules.{Move, refuse, saving, loading, inUseCheck, isNone, imageOr}
 use Rattle.machine.specs.Machine.{State, Result, apply, guard as digestStore}
@@ -22,17 +22,17 @@ module _ (c : Config) (s : State (digestStore c)) where
   -- SPECIFICATION 8.2, into a buffer of n bytes
   unfoldable pub saveMove : ℕ → Move
   saveMove n = decide refuse (inUseCheck c (s .skeleton)
-      ∷ (34, ltb n (imageLength (c .width) (s .skeleton .tables .nodes))) ∷ []) saving
+      ∷ (34, ltb n (imageLength (saved (c .width)) (s .skeleton .tables .nodes))) ∷ []) saving
 
   unfoldable pub savedInto : ℕ → Result (digestStore c)
   savedInto n = apply c (digestStore c) s (saveMove n)
 
-  -- SPECIFICATION 8.3, of image i with digest d
+  -- SPECIFICATION 8.3, of image i of the current version with digest d
   unfoldable pub loadMove : (i d : List ℕ) → Move
   loadMove i d =
-      decide refuse (inUseCheck c (s .skeleton) ∷ (74, not (equal (c .digest i) d)) ∷ (84, isNone (parse (c .width) i))
-      ∷ [])
-      (loading (imageOr (parse (c .width) i)) d)
+      decide refuse (inUseCheck c (s .skeleton) ∷ (74, not (equal (c .digest i) d))
+      ∷ (84, isNone (parse (saved (c .width)) i)) ∷ [])
+      (loading (imageOr (parse (saved (c .width)) i)) d)
 
   unfoldable pub loadedFrom : (i d : List ℕ) → Result (digestStore c)
   loadedFrom i d = apply c (digestStore c) s (loadMove i d)

@@ -9,6 +9,7 @@ use Rattle.lists.specs.All.{Bytes}
 use Rattle.lists.specs.PartLaws.{overwrite-none}
 use Rattle.digest.specs.Sha256.{sha256}
 use Rattle.filesystem.specs.Tables.{ID-BYTES, PAGES, DIGEST-BYTES, pageTotal}
+use Rattle.filesystem.specs.Image.{current}
 use Rattle.memory.specs.Layout.{memorySize}
 use Rattle.rules.specs.Skeleton.{Event, call, reply, save, load, EventBytes, Answer, done, ask, refused, stopped}
 use Rattle.rules.specs.Skeleton.{answerBytes, requestBytes, atFront, Buffers, buffersAfter, answerLength, requestLength}
@@ -61,7 +62,7 @@ module _ (s : GuardState) where
   save-behind : (n : ℕ) → Behind s (save n) 114 0 (saveMove delivered s n)
   save-behind n = record { first = save-first delivered s n }
 
-  load-behind : (i d : List ℕ) → Behind s (load i d) 114 0 (loadMove delivered s i d)
+  load-behind : (i d : List ℕ) → Behind s (load current i d) 114 0 (loadMove delivered s i d)
   load-behind i d = record { first = load-first delivered s i d }
 
 -- with the number r that was found: it is refused, or the machine goes on with the move
@@ -149,16 +150,16 @@ module _ (m i d : List ℕ) {r : ℕ} (t : r ≡ firstOf 114 0 (held m .skeleton
       (sym (move-stepped (held m) (save-behind (held m) (length i)) t z))
       (f (k (sym t ∙ z))))
 
--- A load of image i with digest d.
+-- A load of image i, of the current version, with digest d.
 module _ (m i d : List ℕ) {r : ℕ} (t : r ≡ firstOf 114 0 (held m .skeleton)) where
-  pub load-turned : (r ≡ 0 → ⊥) → Steps (held m) (load i d) (Refused r) (held m) [] []
+  pub load-turned : (r ≡ 0 → ⊥) → Steps (held m) (load current i d) (Refused r) (held m) [] []
   unfolding step settled
   load-turned h =
       let l = refusal-sends delivered (held m) _ r m [] (turned-move (held m) (load-behind (held m) i d) t h) refl in
       record { state = l .state; answer = l .answer []; count = l .count }
 
   pub load-taken : r ≡ 0 → (o : Outcome) (m′ : List ℕ) → Loads delivered (loadedFrom delivered (held m) i d) o m′
-      → Steps (held m) (load i d) o (held m′) [] []
+      → Steps (held m) (load current i d) o (held m′) [] []
   unfolding loadedFrom
   load-taken z o m′ f =
       let l = subst (λ (y : Result (digestStore delivered)). Loads delivered y o m′)
@@ -230,13 +231,13 @@ module _ (m f : List ℕ) (long : memorySize ≤ length m) (same : length f ≡ 
   }
 
   pub load-promised : (i d : List ℕ) → Bytes i → Bytes d → (r : Outcome)
-      → Steps (held (take memorySize m)) (load i d) r (held f) [] []
+      → Steps (held (take memorySize m)) (load current i d) r (held f) [] []
       → LoadPromise m i d r (f ++ drop memorySize m)
   unfolding EventBytes
   load-promised i d x y r h = record {
     bytes = (x, y);
     own = front-own m f long same;
-    loads = λ _. of-fronts m f long same (λ s s′. Steps s (load i d) r s′ [] []) h;
+    loads = λ _. of-fronts m f long same (λ s s′. Steps s (load current i d) r s′ [] []) h;
     short = λ l. absurd (omega arith);
   }
 

@@ -11,6 +11,7 @@ use borrow.Author.Tests.{eq-eqb, ne-eqb, lt-ltb, le-ltb, ltb-false}
 use Rattle.lists.specs.Equal.{or-fst, or-snd}
 use Rattle.lists.specs.Pick.{pick, pick-true, pick-false}
 use Rattle.lists.specs.Checks.{Check, decide, check-last, check-stops, check-passes}
+use Rattle.filesystem.specs.Image.{current, layoutOf}
 use Rattle.rules.specs.Requests.{storeLength}
 use Rattle.rules.specs.Skeleton.{Config, Event, call, reply, save, load, answerLength, requestLength, Skeleton}
 use Rattle.rules.specs.Calls.{readCall}
@@ -125,6 +126,7 @@ module _ (c : Config) (s : State (digestStore c)) where
   unfolding judge eventChecks eventAction firstOf saveMove
   save-first n = busy-first (s .skeleton .stopped) (isIdle (s .skeleton .pending)) _ _
 
-  pub load-first : (i d : List ℕ) → judge c (s .skeleton) (load i d) ≡ First 114 0 (s .skeleton) (loadMove c s i d)
-  unfolding judge eventChecks eventAction firstOf loadMove
+  pub load-first : (i d : List ℕ)
+      → judge c (s .skeleton) (load current i d) ≡ First 114 0 (s .skeleton) (loadMove c s i d)
+  unfolding judge eventChecks eventAction firstOf loadMove layoutOf
   load-first i d = busy-first (s .skeleton .stopped) (isIdle (s .skeleton .pending)) _ _

@@ -5,6 +5,7 @@ use mathlib.Core.List.{List}
 use Prim.Native.Nat.{ℕ, _≤_}
 use native.Mathlib.Omega.{arith}
 use lib.ListN.{length}
+use Rattle.filesystem.specs.Image.{current}
 use Rattle.filesystem.specs.ImageLaws.{Digest}
 use Rattle.filesystem.specs.Sound.{to-sound}
 use Rattle.memory.specs.Layout.{memorySize}
@@ -26,7 +27,7 @@ kept-ready m k (call b a q) = λ _ _ _. k .consistent
 kept-ready m k (reply b a q) = λ _ _ _. k .consistent
 kept-ready m k (save n) = λ _. to-sound (delivered .width) _
     (k .consistent .holds .valid .tables .nodes-valid .sound) .pages
-kept-ready m k (load i d) = tt
+kept-ready m k (load v i d) = tt
 
 pub fresh-kept : (m : List ℕ) (r : Outcome) (m′ : List ℕ) → memorySize ≤ length m → FreshPromise m r m′ → Kept m′
 unfolding delivered
@@ -56,4 +57,5 @@ save-kept m r m′ i i′ d d′ k p =
     (p .saves (k .long) (kept-ready m k (save (length i))) .steps .state)
 
 pub load-kept : (m i d : List ℕ) (r : Outcome) (m′ : List ℕ) → Kept m → LoadPromise m i d r m′ → Kept m′
-load-kept m i d r m′ k p = step-kept m m′ (load i d) (p .bytes) k (p .own .same-length) (p .loads (k .long) .state)
+load-kept m i d r m′ k p =
+    step-kept m m′ (load current i d) (p .bytes) k (p .own .same-length) (p .loads (k .long) .state)

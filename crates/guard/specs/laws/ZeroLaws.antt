@@ -25,7 +25,7 @@ module _ (s : GuardState) (h : s .skeleton .stopped ≡ true) where
   stopped-ready (call b a q) = λ z. absurd (goes-never 114 0 z)
   stopped-ready (reply b a q) = λ z. absurd (goes-never 0 61 z)
   stopped-ready (save n) = λ z. absurd (goes-never 114 0 z)
-  stopped-ready (load i d) = tt
+  stopped-ready (load v i d) = tt
 
 module _ (m : List ℕ) (h : Zeros m) where
   pub zeros-ready : (e : Event) → Ready (held m) e

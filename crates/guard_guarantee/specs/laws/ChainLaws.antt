@@ -15,6 +15,7 @@ use Rattle.lists.specs.Checks.{decide-ind}
 use Rattle.lists.specs.PartLaws.{overwrite-all}
 use Rattle.filesystem.specs.Tables.{DIGEST-BYTES}
 use Rattle.digest.specs.Sha256.{sha256}
+use Rattle.filesystem.specs.Image.{current}
 use Rattle.rules.specs.Skeleton.{Event, Buffers, call, save, load, EventBytes, Answer, done, plain, atFront}
 use Rattle.configuration.specs.Delivered.{delivered}
 use Rattle.machine.specs.Machine.{outcomes, final, fresh, guard as digestStore}
@@ -150,7 +151,7 @@ module _ (m m′ : List ℕ) (k : Kept m) where
       }
 
   load-steps : (i d : List ℕ) (r : GuardOutcome) → Shown (λ o. LoadPromise m i d o m′) r
-      → Steps false m m′ (seenAs (load i d) (answerRead r [] []))
+      → Steps false m m′ (seenAs (load current i d) (answerRead r [] []))
   unfolding pick
   load-steps i d r h =
       let p = h .promised in

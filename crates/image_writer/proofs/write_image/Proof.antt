@@ -1,7 +1,7 @@
 -- `image_writer::write_image` meets its contract. Assumes nothing.
 use native.Mathlib.Omega.{arith}
-use Rattle.filesystem.specs.Tables.{ID-BYTES}
 use Rattle.filesystem.specs.Image.{imageLength}
+use Rattle.filesystem.specs.Layouts.{layout}
 use Rattle.image_writer.specs.laws.Written.{image-written}
 use borrow.Author.Needs.{needs}
 use Rattle.image_writer.proofs.write_image.Statement.{statement}
@@ -52,8 +52,8 @@ returns c =
     let p = h .before .before in
     let s = p .before .before .before in
     let a = s .args in
-    image-written ID-BYTES (a .n) (a .out .now) (a .m .now) (a .at) (r .write-records .result) (p .first-page .result)
-    (d .digests .result .now)
+    image-written (layout (a .w) (a .maker)) (a .n) (a .out .now) (a .m .now) (a .at) (r .write-records .result)
+    (p .first-page .result) (d .digests .result .now)
     (omega arith) (omega arith) (omega arith) (r .write-records .ensures .1) (p .first-page .ensures .0)
     (d .digests .ensures .0) (d .digests .ensures .1)
     (h .put-number .ensures) (r .write-records .ensures .0) (k .put-number2 .ensures) (c .before .before .put .ensures)

@@ -12,7 +12,8 @@ use mathlib.Core.Bool.{true}
 use Rattle.filesystem.specs.Tables.{ID-BYTES, NODES, children}
 use Rattle.filesystem.specs.Image.{soundNodes}
 use Rattle.listings.specs.Listing.{unseen, marks}
-use Rattle.listings.specs.laws.ListingLaws.{Left, left-first, count-first, no-marks, left-next, count-next}
+use Rattle.lists.specs.Cells.{zeros}
+use Rattle.listings.specs.laws.ListingLaws.{Left, left-first, count-first, left-next, count-next}
 use Rattle.listings.specs.laws.ListingLaws.{cut-end, there-end, end-front, listing-cut, listing-missing}
 use Rattle.listings.specs.laws.ListingLaws.{listing-twice, listing-few, listing-whole, listing-stops}
 use Rattle.listings.specs.laws.ListingLaws.{listing-passes}
@@ -38,8 +39,8 @@ loop-holds c =
       omega arith,
       omega arith,
       refl,
-      λ v. count-first ns (a .id) (a .reply .now) (replicate NODES 0) (no-marks NODES),
-      left-first ns (a .id) (a .reply .now) (replicate NODES 0) (no-marks NODES),
+      λ v. count-first ns (a .id) (a .reply .now) (replicate NODES 0) (zeros NODES),
+      left-first ns (a .id) (a .reply .now) (replicate NODES 0) (zeros NODES),
     )
 
 entry-end-requires : tie.Need-entry-end-requires Inv-loop μ-loop

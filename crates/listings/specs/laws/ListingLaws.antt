@@ -7,7 +7,7 @@ use mathlib.Core.Option.{Option, some, none}
 use Prim.Native.Nat.{ℕ, zero, suc, _+_, _-_, _≤_, _<_}
 use native.Mathlib.Omega.{arith}
 use lib.Dec.{eqb, leb, ltb}
-use lib.ListN.{length, getD, take, drop, set, replicate, length-drop, drop-of-length-le}
+use lib.ListN.{length, getD, take, drop, set, length-drop, drop-of-length-le}
 use lib.Seq.{drop-drop, getD-set-same, getD-set-other}
 use borrow.Author.Tests.{eqb-true, eq-eqb, le-leb, lt-leb, leb-true, leb-false, lt-ltb, le-ltb}
 use Rattle.lists.specs.Pick.{pick, pick-true, pick-false}
@@ -535,9 +535,3 @@ unfolding entryAt entryEnd part
 entry-name w s at start end p q =
     let n : end - start ≡ getD s (at + w + 1) 0 = omega arith in
     rw (n, p)
-
--- Marks of 0.
-pub no-marks : (n j : ℕ) → _≡_ {A = ℕ} (getD (replicate n 0) j 0) 0
-no-marks zero j = refl
-no-marks (suc n) zero = refl
-no-marks (suc n) (suc j) = no-marks n j

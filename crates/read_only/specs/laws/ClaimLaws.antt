@@ -9,7 +9,7 @@ use Rattle.lists.specs.Pick.{pick, pick-ind}
 use Rattle.lists.specs.All.{All, Bytes, both}
 use Rattle.lists.specs.Checks.{decide, decide-ind}
 use Rattle.filesystem.specs.Tables.{Tables}
-use Rattle.filesystem.specs.Image.{flatten, print}
+use Rattle.filesystem.specs.Image.{saved, Version, flatten, print}
 use Rattle.rules.specs.Skeleton.{Config, Event, call, reply, save, load, EventBytes, Answer, done, ask, refused}
 use Rattle.rules.specs.Skeleton.{stopped}
 use Rattle.rules.specs.Rules.{refuse, eventChecks, eventAction, judge}
@@ -37,7 +37,7 @@ module _ (c : Config) where
   image g = imageOf c G g
 
   same-image : (s t : State G) → SameFiles c G s t → image t ≡ image s
-  same-image s t f = ap₂ (λ ns x. print (c .width) (ns, flatten (map (G .digests) x))) (f .nodes) (f .contents)
+  same-image s t f = ap₂ (λ ns x. print (saved (c .width)) (ns, flatten (map (G .digests) x))) (f .nodes) (f .contents)
 
   done-goes : (a : Answer) → isDoneAnswer a ≡ true → isRefusal c G a ≡ false
   unfolding isDoneAnswer isRefusal
@@ -47,16 +47,16 @@ module _ (c : Config) where
   done-goes (stopped n) h = refl
 
   -- a done load leaves its image, any other the one of before
-  load-follows : (g : State G) (i d : List ℕ) → Bytes i
-      → image (readOnlyStep c G g (load i d) .state)
-      ≡ loadedIf (readOnlyStep c G g (load i d) .outcome .answer) i (image g)
+  load-follows : (g : State G) (v : Version) (i d : List ℕ) → Bytes i
+      → image (readOnlyStep c G g (load v i d) .state)
+      ≡ loadedIf (readOnlyStep c G g (load v i d) .outcome .answer) i (image g)
   unfolding readOnlyStep readOnlyChecks decide
-  load-follows g i d b =
-      let r = step c G g (load i d) in
+  load-follows g v i d b =
+      let r = step c G g (load v i d) in
       pick-ind (λ x. image (r .state) ≡ x) (isDoneAnswer (r .outcome .answer))
-      (λ h. load-was-saved c g i d b (done-goes _ h) .1)
-      (λ h. let u = only-done-changes c G g (load i d) h in
-      ap₂ (λ (t : Tables) x. print (c .width) (t .nodes, flatten (map (G .digests) x))) (u .0) (u .1))
+      (λ h. load-was-saved c g v i d b (done-goes _ h) .1)
+      (λ h. let u = only-done-changes c G g (load v i d) h in
+      ap₂ (λ (t : Tables) x. print (saved (c .width)) (t .nodes, flatten (map (G .digests) x))) (u .0) (u .1))
       ∙ sym (loaded-if (r .outcome .answer) i (image g))
 
   -- the image after an event is the one that the last done load was handed
@@ -66,7 +66,7 @@ module _ (c : Config) where
   image-follows g l (call b a q) bs = same-image _ _ (read-only-keeps c G g l (call b a q) (unfold isLoad in refl) .1)
   image-follows g l (reply r a q) bs = same-image _ _ (read-only-keeps c G g l (reply r a q) (unfold isLoad in refl) .1)
   image-follows g l (save n) bs = same-image _ _ (read-only-keeps c G g l (save n) (unfold isLoad in refl) .1)
-  image-follows g l (load i d) bs = load-follows g i d (bs .0)
+  image-follows g l (load v i d) bs = load-follows g v i d (bs .0)
 
   save-gives : (g : State G) (e : Event) → Gives c (image g) e (readOnlyStep c G g e .outcome)
   unfolding Gives
@@ -77,7 +77,7 @@ module _ (c : Config) where
       (λ m. isDone (apply c G g m .outcome .answer)
       → apply c G g m .outcome ≡ record { answer = done (length (image g)) (image g); digest = c .digest (image g) })
       (eventChecks c (g .skeleton) (save n)) _ (λ _ _ h. absurd h) (λ _ _. refl)
-  save-gives g (load i d) = tt
+  save-gives g (load v i d) = tt
 
   as-loaded : (x : List ℕ) (g : State G) → OnlyReads g → image g ≡ x → (es : List Event) → All EventBytes es
       → AsLoaded c x g es

@@ -42,7 +42,7 @@ unfoldable leftBy : Phase → Event → (number : ℕ) → Phase
 leftBy f (call s a q) n = f
 leftBy f (reply r a q) n = pick (eqb n 28) (record { stopped = false; idle = true }) f
 leftBy f (save m) n = f
-leftBy f (load i d) n = f
+leftBy f (load v i d) n = f
 
 unfoldable phaseAfter : Phase → Event → Answer → Phase
 phaseAfter f e (done n b) = record { stopped = false; idle = true }
@@ -97,14 +97,14 @@ module _ (c : Config) (S : Store) where
   refusal-follows s (reply r a q) n f =
       pick-false _ _ _ (first-has {F = λ ch. eqb (ch .0) 28 ≡ false} (both refl (both refl (both refl none))) f)
   refusal-follows s (save m) n f = refl
-  refusal-follows s (load i d) n f = refl
+  refusal-follows s (load v i d) n f = refl
 
   gives-up-at : (sk : Skeleton) (e : Event) → givesUp c sk e ≡ true → GivenUp e
   unfolding givesUp leftBy pick
   gives-up-at sk (call b a q) h f = absurd (false≢true h)
   gives-up-at sk (reply r a q) h f = refl
   gives-up-at sk (save n) h f = absurd (false≢true h)
-  gives-up-at sk (load i d) h f = absurd (false≢true h)
+  gives-up-at sk (load v i d) h f = absurd (false≢true h)
 
   step-follows : (s : State S) (e : Event) → Follows (phaseOf (s .skeleton)) e (step c S s e)
   unfolding step judge
@@ -127,7 +127,7 @@ module _ (c : Config) where
   refusedAs f (call s a q) = decide (λ n. plain (refused n)) (phaseChecks f s a q) (plain (refused 30))
   refusedAs f (reply r a q) = plain (refused 30)
   refusedAs f (save n) = plain (refused 30)
-  refusedAs f (load i d) = plain (refused 30)
+  refusedAs f (load v i d) = plain (refused 30)
 
   refused-as : (S : Store) (s : State S) (e : Event) → takes c e ≡ false
       → readOnlyStep c S s e .outcome ≡ refusedAs (phaseOf (s .skeleton)) e
@@ -137,7 +137,7 @@ module _ (c : Config) where
       ∙ decide-map (refusal c S s) (λ r. r .outcome) (formChecks c (s .skeleton) b a q) (refusal c S s 30)
   refused-as S s (reply r a q) h = absurd (true≢false h)
   refused-as S s (save n) h = absurd (true≢false h)
-  refused-as S s (load i d) h = absurd (true≢false h)
+  refused-as S s (load v i d) h = absurd (true≢false h)
 
   unfoldable merged : Phase → List Event → List Outcome → List Outcome
   merged f [] os = []
@@ -201,7 +201,7 @@ module _ (c : Config) where
       decide-ind (λ n. plain (refused n)) NoStop (phaseChecks f b a q) (plain (refused 30)) (λ _ _. refl) (λ _. refl)
   refused-no-stop f (reply r a q) = refl
   refused-no-stop f (save n) = refl
-  refused-no-stop f (load i d) = refl
+  refused-no-stop f (load v i d) = refl
 
   merged-no-stop : (f : Phase) (es : List Event) (os : List Outcome) → All NoStop os → All NoStop (merged f es os)
   unfolding merged

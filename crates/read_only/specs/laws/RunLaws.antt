@@ -13,6 +13,7 @@ use Rattle.lists.specs.All.{All, both, none, all-append}
 use Rattle.lists.specs.Places.{all-without}
 use Rattle.lists.specs.Checks.{decide-ind}
 use Rattle.filesystem.specs.Tables.{PAGE-BYTES, OpenFile, Tables, openAt, setCursor}
+use Rattle.filesystem.specs.Image.{Version}
 use Rattle.rules.specs.Calls.{Call, create, mkdir, openAs, close, seek, read, write, truncate, remove, rmdir, chmod}
 use Rattle.rules.specs.Calls.{readdir, stat, mapMemory, unmap, readCall}
 use Rattle.rules.specs.Requests.{asked, Pending, idle, creating, opening, closing, removing, changing, listing, stating}
@@ -177,7 +178,7 @@ module _ (c : Config) (S : Store) where
   isLoad (call s a q) = false
   isLoad (reply r a q) = false
   isLoad (save n) = false
-  isLoad (load i d) = true
+  isLoad (load v i d) = true
 
   judge-quiet : (s : State S) → OnlyReads s → (e : Event) → takes c e ≡ true → isLoad e ≡ false
       → Quiet (s .skeleton .tables) (judge c (s .skeleton) e)
@@ -193,7 +194,7 @@ module _ (c : Config) (S : Store) where
       (λ _. reply-quiet (c .width) (s .skeleton .tables) r (s .skeleton .pending) (l .pending) (l .handles))))
   judge-quiet s l (save n) h x = decide-ind refuse (Quiet (s .skeleton .tables))
       (eventChecks c (s .skeleton) (save n)) _ (λ _ _. tt) (λ _. tt)
-  judge-quiet s l (load i d) h x = absurd (true≢false x)
+  judge-quiet s l (load v i d) h x = absurd (true≢false x)
 
   -- Each event leaves one that takesCall, and all but a load leave the nodes and the pages.
   pub read-only-keeps : (s : State S) → OnlyReads s → (e : Event) → isLoad e ≡ false → Left s (readOnlyStep c S s e)
@@ -204,18 +205,18 @@ module _ (c : Config) (S : Store) where
           (unfold step in move-reads s l (judge c (s .skeleton) e) (judge-quiet s l e h x))
       go (isF h) = subst (λ t. OnlyReads t × SameFiles s t) (sym (not-taken c S s e h)) (l, same s)
 
-  load-reads : (s : State S) → OnlyReads s → (i d : List ℕ) → OnlyReads (step c S s (load i d) .state)
+  load-reads : (s : State S) → OnlyReads s → (v : Version) (i d : List ℕ) → OnlyReads (step c S s (load v i d) .state)
   unfolding step judge eventAction apply reads
-  load-reads s l i d =
-      decide-ind refuse (λ m. OnlyReads (apply c S s m .state)) (eventChecks c (s .skeleton) (load i d)) _ (λ _ _. l)
+  load-reads s l v i d =
+      decide-ind refuse (λ m. OnlyReads (apply c S s m .state)) (eventChecks c (s .skeleton) (load v i d)) _ (λ _ _. l)
       (λ _. record { pending = refl; handles = l .handles })
 
   pub read-only-reads : (s : State S) → OnlyReads s → (e : Event) → OnlyReads (readOnlyStep c S s e .state)
   read-only-reads s l (call b a q) = read-only-keeps s l (call b a q) (unfold isLoad in refl) .0
   read-only-reads s l (reply r a q) = read-only-keeps s l (reply r a q) (unfold isLoad in refl) .0
   read-only-reads s l (save n) = read-only-keeps s l (save n) (unfold isLoad in refl) .0
-  read-only-reads s l (load i d) = subst (λ (r : Result S). OnlyReads (r .state))
-      (sym (as-guard c S s (load i d) (unfold takes in refl))) (load-reads s l i d)
+  read-only-reads s l (load v i d) = subst (λ (r : Result S). OnlyReads (r .state))
+      (sym (as-guard c S s (load v i d) (unfold takes in refl))) (load-reads s l v i d)
 
   -- so no handle ever has the right to write, whatever the host replies
   pub always-reads : (s : State S) → OnlyReads s → (es : List Event) → OnlyReads (readOnlyFinal c S s es)

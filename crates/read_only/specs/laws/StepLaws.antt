@@ -110,14 +110,14 @@ module _ (c : Config) (S : Store) where
   as-guard s (call b a q) h = call-taken s b a q h
   as-guard s (reply r a q) h = unfold readOnlyStep readOnlyChecks decide in refl
   as-guard s (save n) h = unfold readOnlyStep readOnlyChecks decide in refl
-  as-guard s (load i d) h = unfold readOnlyStep readOnlyChecks decide in refl
+  as-guard s (load v i d) h = unfold readOnlyStep readOnlyChecks decide in refl
 
   pub not-taken : (s : State S) (e : Event) → takes c e ≡ false → readOnlyStep c S s e .state ≡ s
   unfolding takes
   not-taken s (call b a q) h = barred-stays s b a q h
   not-taken s (reply r a q) h = absurd (true≢false h)
   not-taken s (save n) h = absurd (true≢false h)
-  not-taken s (load i d) h = absurd (true≢false h)
+  not-taken s (load v i d) h = absurd (true≢false h)
 
   -- What is left is what the guard's run over those leaves.
   pub read-only-left : (s : State S) (es : List Event) → readOnlyFinal c S s es ≡ final c S s (taken c es)

@@ -45,11 +45,10 @@ returns-3 c =
     )
 
 load-image-requires : tie.Need-load-image-requires
-load-image-requires c κs = let p = c .before .before in (
-  sym (p .is-sound .ensures)
-      ∙ not-false _ (c .before .if3 .left),
-  omega arith,
-)
+load-image-requires c κs =
+    let p = c .before .before in
+    let h = sym (p .is-sound .ensures) ∙ not-false _ (c .before .if3 .left) in
+    search needs
 
 rest-requires : tie.Need-rest-requires
 rest-requires c κs = (c .before .before .before .load-image .ensures .0 .few, omega arith, omega arith)

@@ -21,7 +21,8 @@ image-length-requires : tie.Need-image-length-requires
 image-length-requires c κs =
     let l = c .before .before .before in
     let a = l .before .before .before .before .before .args in
-    (counts-fit (a .m .now) _ (l .load .ensures) .0, omega arith)
+    let h = counts-fit (a .m .now) _ (l .load .ensures) in
+    search needs
 
 returns-2 : tie.Need-returns-2
 returns-2 c =

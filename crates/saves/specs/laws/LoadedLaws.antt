@@ -12,7 +12,7 @@ use Rattle.lists.specs.Checks.{check-last, check-stops, check-passes}
 use Rattle.lists.specs.Equal.{equal}
 use Rattle.digest.specs.Sha256.{sha256}
 use Rattle.filesystem.specs.Tables.{ID-BYTES, OpenFile, Tables, pageTotal}
-use Rattle.filesystem.specs.Image.{Image, divide, parse}
+use Rattle.filesystem.specs.Image.{Image, saved, divide, parse}
 use Rattle.filesystem.specs.MemoryMaps.{Map}
 use Rattle.memory.specs.Layout.{Mem, memOf}
 use Rattle.tables.specs.View.{viewOf}
@@ -24,9 +24,9 @@ use Rattle.guard_state.specs.declared.Guard.{Guard}
 use Rattle.rules.specs.Requests.{idle}
 use Rattle.guard_state.specs.State.{numbersOf, stateWith, stateIn, stateOf, mapCount, mapsIn, gatheredNone}
 use Rattle.guard_state.specs.Waits.{ends, restingState}
-use Rattle.image_writer.specs.Width.{nodesIn, imageIn}
-use Rattle.image_reader.specs.Records.{isSome}
-use Rattle.image_reader.specs.Loaded.{Loaded}
+use Rattle.image_writer.specs.Images.{nodesIn, imageIn}
+use Rattle.image_records.specs.Records.{isSome}
+use Rattle.image_loader.specs.Loaded.{Loaded}
 use Rattle.outcomes.specs.declared.Outcome.the-variants.{Done, Refused}
 use Rattle.outcomes.specs.Sent.{settled}
 use Rattle.outcomes.specs.laws.SentLaws.{refusal-sends, done-sends}
@@ -58,21 +58,25 @@ module _ (c : Config) (m : List ℕ) (g : Guard) (e : g ≡ numbersOf (memOf m .
           ∙ ap not h)
 
       module _ (known : same ≡ true) (wide : c .width ≡ ID-BYTES) (good : Bool)
-          (judged : good ≡ isSome (parse ID-BYTES i)) where
-        parsed : isNone (parse (c .width) i) ≡ not good
-        parsed = ap (λ (w : ℕ). isNone (parse w i)) wide ∙ none-some (parse ID-BYTES i) ∙ ap not (sym judged)
+          (judged : good ≡ isSome (parse (saved ID-BYTES) i)) where
+        parsed : isNone (parse (saved (c .width)) i) ≡ not good
+        parsed =
+            ap (λ (w : ℕ). isNone (parse (saved w) i)) wide ∙ none-some (parse (saved ID-BYTES) i) ∙ ap not (sym judged)
 
         pub load-unsound : good ≡ false → loadMove c here i d ≡ refuse 84
         unfolding loadMove
         load-unsound h =
-            check-passes refuse 16 _ _ _ (none-open c m g e closed) ∙ check-passes refuse 74 _ _ _ (sealed ∙ ap not known)
+            check-passes refuse 16 _ _ _ (none-open c m g e closed)
+            ∙ check-passes refuse 74 _ _ _ (sealed ∙ ap not known)
             ∙ check-stops refuse 84 _ _ _ (parsed ∙ ap not h)
 
-        pub load-goes : good ≡ true → loadMove c here i d ≡ loading (imageOr (parse ID-BYTES i)) d
+        pub load-goes : good ≡ true → loadMove c here i d ≡ loading (imageOr (parse (saved ID-BYTES) i)) d
         unfolding loadMove
         load-goes h =
-            check-passes refuse 16 _ _ _ (none-open c m g e closed) ∙ check-passes refuse 74 _ _ _ (sealed ∙ ap not known)
-            ∙ check-last refuse 84 _ _ (parsed ∙ ap not h) ∙ ap (λ (w : ℕ). loading (imageOr (parse w i)) d) wide
+            check-passes refuse 16 _ _ _ (none-open c m g e closed)
+            ∙ check-passes refuse 74 _ _ _ (sealed ∙ ap not known)
+            ∙ check-last refuse 84 _ _ (parsed ∙ ap not h)
+            ∙ ap (λ (w : ℕ). loading (imageOr (parse (saved w) i)) d) wide
 
   pub load-refused : (n : ℕ) → loadMove c here i d ≡ refuse n → Loads c (loadedFrom c here i d) (Refused n) m
   unfolding loadedFrom settled
@@ -91,14 +95,14 @@ module _ (c : Config) (m : List ℕ) (g : Guard) (e : g ≡ numbersOf (memOf m .
       ap (λ (k : ℕ). take k (memOf m .opens)) z
 
   -- the memory with the image's tables, at rest, is what the machine goes on with
-  module _ (closed : g .opens ≤ 0) (after : List ℕ) (n : ℕ) (l : Loaded i m after n) where
+  module _ (closed : g .opens ≤ 0) (after : List ℕ) (n : ℕ) (l : Loaded (saved ID-BYTES) i m after n) where
     abbrev tables : Tables
     tables = record { nodes = nodesIn n after; opens = here .skeleton .tables .opens }
 
     abbrev contents : List (List (List ℕ))
     contents = divide (nodesIn n after) (imageIn n after .1)
 
-    move-loads : loadMove c here i d ≡ loading (imageOr (parse ID-BYTES i)) d
+    move-loads : loadMove c here i d ≡ loading (imageOr (parse (saved ID-BYTES) i)) d
         → apply c (digestStore c) here (loadMove c here i d) ≡ ending c (digestStore c) here (done 0 []) tables contents
     unfolding apply imageOr
     move-loads z = ap (apply c (digestStore c) here) (z ∙ ap (λ (y : Option Image). loading (imageOr y) d) (l .tables))
@@ -118,7 +122,7 @@ module _ (c : Config) (m : List ℕ) (g : Guard) (e : g ≡ numbersOf (memOf m .
         ∙ ap₂ (λ (o : List OpenFile) (x : List (List (List ℕ))). ends c here
         (record { nodes = nodesIn n after; opens = o }) x) (sym (no-opens closed)) same-contents
 
-    pub load-done : (m′ : List ℕ) → loadMove c here i d ≡ loading (imageOr (parse ID-BYTES i)) d
+    pub load-done : (m′ : List ℕ) → loadMove c here i d ≡ loading (imageOr (parse (saved ID-BYTES) i)) d
         → stateOf c m′ ≡ restingState c (viewOf n 0 (memOf after))
         → Loads c (loadedFrom c here i d) (Done 0 0) m′
     unfolding loadedFrom settled

@@ -14,7 +14,7 @@ use Rattle.lists.specs.Parts.{overwrite}
 use Rattle.lists.specs.PartLaws.{take-overwrite, overwrite-front}
 use Rattle.digest.specs.Sha256.{sha256}
 use Rattle.filesystem.specs.Tables.{ID-BYTES, PAGES, Node, pageTotal}
-use Rattle.filesystem.specs.Image.{flatten, divide, print, imageLength}
+use Rattle.filesystem.specs.Image.{saved, flatten, divide, print, imageLength}
 use Rattle.filesystem.specs.ImageLaws.{flatten-divide}
 use Rattle.memory.specs.Layout.{memOf}
 use Rattle.memory.specs.laws.MemLaws.{length-digests}
@@ -22,12 +22,12 @@ use Rattle.tables.specs.View.{viewOf}
 use Rattle.tables.specs.laws.ContentLaws.{divide-same}
 use Rattle.rules.specs.Skeleton.{Config, done, answerBytes, atFront, imageAfter}
 use Rattle.rules.specs.Rules.{Move, refuse, saving}
-use Rattle.machine.specs.Machine.{State, Result, imageOf, saved, apply, guard as digestStore}
+use Rattle.machine.specs.Machine.{State, Result, imageOf, savedAs, apply, guard as digestStore}
 use Rattle.guard_state.specs.declared.Guard.{Guard}
 use Rattle.guard_state.specs.State.{numbersOf, stateIn, stateOf}
 use Rattle.guard_state.specs.Waits.{ends}
 use Rattle.guard_state.specs.laws.LoadedLaws.{opens-count}
-use Rattle.image_writer.specs.Width.{nodesIn, imageIn}
+use Rattle.image_writer.specs.Images.{nodesIn, imageIn}
 use Rattle.outcomes.specs.declared.Outcome.the-variants.{Done, Refused}
 use Rattle.outcomes.specs.Values.{lengthOf, bytesIn, answerIn}
 use Rattle.saves.specs.Saved.{saveMove, savedInto, Saves}
@@ -71,13 +71,13 @@ module _ (c : Config) (m : List ℕ) (g : Guard) (e : g ≡ numbersOf (memOf m .
 
   -- the image of the state is that of the rows in use
   pub image-held : c .width ≡ ID-BYTES → pageTotal (nodesIn (g .nodes) m) ≤ PAGES
-      → imageOf c (digestStore c) here ≡ print ID-BYTES (imageIn (g .nodes) m)
+      → imageOf c (digestStore c) here ≡ print (saved ID-BYTES) (imageIn (g .nodes) m)
   image-held wide few =
       let ns = nodesIn (g .nodes) m in
       let f = flatten-front ns (memOf m .digests) (rw (length-digests m) few) in
       let d = ap flatten (map-id (here .contents) ∙ contents-held) ∙ f in
-      ap (λ (w : ℕ). print w (here .skeleton .tables .nodes, flatten (map (λ x. x) (here .contents)))) wide
-      ∙ ap₂ (λ (u : List Node) (v : List (List ℕ)). print ID-BYTES (u, v)) nodes-held d
+      ap (λ (w : ℕ). print (saved w) (here .skeleton .tables .nodes, flatten (map (λ x. x) (here .contents)))) wide
+      ∙ ap₂ (λ (u : List Node) (v : List (List ℕ)). print (saved ID-BYTES) (u, v)) nodes-held d
 
   -- more pages than the limit are in no valid tables
   pub save-never : (i d : List ℕ) (p : ℕ) → pageTotal (here .skeleton .tables .nodes) ≤ PAGES
@@ -85,29 +85,30 @@ module _ (c : Config) (m : List ℕ) (g : Guard) (e : g ≡ numbersOf (memOf m .
       → Saves c (savedInto c here (length i)) (Refused 28) m i i d d
   save-never i d p few count h = absurd (omega (arith, ap pageTotal nodes-held))
 
-  length-held : c .width ≡ ID-BYTES → imageLength (c .width) (here .skeleton .tables .nodes) ≡ imageLength ID-BYTES
-      (nodesIn (g .nodes) m)
-  length-held wide = ap₂ imageLength wide nodes-held
+  length-held : c .width ≡ ID-BYTES
+      → imageLength (saved (c .width)) (here .skeleton .tables .nodes)
+      ≡ imageLength (saved ID-BYTES) (nodesIn (g .nodes) m)
+  length-held wide = ap₂ (λ (w : ℕ) (ns : List Node). imageLength (saved w) ns) wide nodes-held
 
   -- which move: 16, 34, or the save
   pub save-used : (n : ℕ) → 0 < g .opens → saveMove c here n ≡ refuse 16
   unfolding saveMove
   save-used n h = check-stops refuse 16 _ _ _ (some-open h)
 
-  module _ (closed : g .opens ≤ 0) (wide : c .width ≡ ID-BYTES) (n l : ℕ) (measured : l ≡ imageLength ID-BYTES
-      (nodesIn (g .nodes) m)) where
+  module _ (closed : g .opens ≤ 0) (wide : c .width ≡ ID-BYTES) (n l : ℕ)
+      (measured : l ≡ imageLength (saved ID-BYTES) (nodesIn (g .nodes) m)) where
     pub save-short : n < l → saveMove c here n ≡ refuse 34
     unfolding saveMove
     save-short h =
         check-passes refuse 16 _ _ _ (none-open closed)
-        ∙ check-stops refuse 34 _ _ _ (lt-ltb n (imageLength (c .width) (here .skeleton .tables .nodes))
+        ∙ check-stops refuse 34 _ _ _ (lt-ltb n (imageLength (saved (c .width)) (here .skeleton .tables .nodes))
         (omega (arith, length-held wide)))
 
     pub save-goes : l ≤ n → saveMove c here n ≡ saving
     unfolding saveMove
     save-goes h =
         check-passes refuse 16 _ _ _ (none-open closed)
-        ∙ check-last refuse 34 _ _ (le-ltb n (imageLength (c .width) (here .skeleton .tables .nodes))
+        ∙ check-last refuse 34 _ _ (le-ltb n (imageLength (saved (c .width)) (here .skeleton .tables .nodes))
         (omega (arith, length-held wide)))
 
 -- a refusal leaves everything alone
@@ -137,9 +138,9 @@ pub save-done : (c : Config) (m i d m′ i′ d′ x : List ℕ) (l : ℕ) → c
 unfolding savedInto apply answerIn lengthOf bytesIn imageAfter answerBytes ends
 save-done c m i d m′ i′ d′ x l hash z y s f g k =
     let S = digestStore c in
-    let R : Result S = saved c S (stateOf c m) x in
+    let R : Result S = savedAs c S (stateOf c m) x in
     let q : savedInto c (stateOf c m) (length i) ≡ R = ap (apply c S (stateOf c m)) z
-    ∙ ap (saved c S (stateOf c m)) y in
+    ∙ ap (savedAs c S (stateOf c m)) y in
     record {
       state = s ∙ ap (λ (r : Result S). r .state) (sym q);
       answer = ap₂ done k (ap₂ take k f ∙ take-overwrite i 0 x (length x) (omega arith) (omega arith))
