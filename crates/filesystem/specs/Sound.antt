@@ -212,7 +212,8 @@ of-sound w (r ∷ ns) s =
     (and-both _ _ (le-leb _ _ (s .count))
     (and-both _ _ (at-every (inLimits w) noNode all (s .limits))
     (and-both _ _ (at-every isNamed noNode ns (λ k h. s .names (suc k) (omega arith) (omega arith)))
-    (and-both _ _ (same-unique sameId noNode all (λ i j h l t. s .ids i j h l (eqb-true (nodeAt all i .id) (nodeAt all j .id) t)))
+    (and-both _ _ (same-unique sameId noNode all (λ i j h l t.
+    s .ids i j h l (eqb-true (nodeAt all i .id) (nodeAt all j .id) t)))
     (and-both _ _ (same-unique sameChild noNode all (λ i j h l t.
     s .siblings i j h l (eqb-true (nodeAt all i .parent) (nodeAt all j .parent) (and-fst _ _ t))
     (equal-true _ _ (and-snd (eqb (nodeAt all i .parent) (nodeAt all j .parent)) _ t))))

@@ -4,7 +4,7 @@ use mathlib.Core.Path.{_≡_, ap, ap₂, sym, _∙_}
 use Prim.Native.Nat.{_+_, _-_, _≤_}
 use Rattle.filesystem.specs.Layouts.{layout}
 use Rattle.image_records.specs.Records.{endFrom, markedFrom}
-use Rattle.image_records.specs.laws.RecordLaws.{record-least, record-in, end-next, marked-next, marked-not}
+use Rattle.image_records.specs.laws.RecordLaws.{front-in, end-next, marked-next, marked-not}
 use Rattle.image_records.specs.laws.RecordLaws.{marked-last}
 use Rattle.image_records.specs.laws.TestLaws.{unmade, made, made-otherwise}
 use borrow.Author.Needs.{needs}
@@ -35,28 +35,22 @@ shared-slice-read-if2 : tie.Need-shared-slice-read-if2 Inv-loop μ-loop
 shared-slice-read-if2 c =
     let a = c .before .before .before .before .before .args in
     let l = c .before .before .loop in
-    let y = layout (a .w) (a .maker) in
-    let h = record-in y (a .image .now) (l .at) (a .n - l .i) (omega arith) in
-    let g = record-least y (a .image .now) (l .at) in
-    omega (arith, h, g, l .inv .1)
+    let h = front-in (layout (a .w) (a .maker)) (a .image .now) (l .at) (a .n - l .i) (omega arith) in
+    omega (arith, h, l .inv .1)
 
 add-if2 : tie.Need-add-if2 Inv-loop μ-loop
 add-if2 c =
     let a = c .before .before .before .before .args in
     let l = c .before .loop in
-    let y = layout (a .w) (a .maker) in
-    let h = record-in y (a .image .now) (l .at) (a .n - l .i) (omega arith) in
-    let g = record-least y (a .image .now) (l .at) in
-    omega (arith, h, g, l .inv .1)
+    let h = front-in (layout (a .w) (a .maker)) (a .image .now) (l .at) (a .n - l .i) (omega arith) in
+    omega (arith, h, l .inv .1)
 
 add-if2-2 : tie.Need-add-if2-2 Inv-loop μ-loop
 add-if2-2 c =
     let a = c .before .before .before .before .args in
     let l = c .before .loop in
-    let y = layout (a .w) (a .maker) in
-    let h = record-in y (a .image .now) (l .at) (a .n - l .i) (omega arith) in
-    let g = record-least y (a .image .now) (l .at) in
-    omega (arith, h, g, l .inv .1)
+    let h = front-in (layout (a .w) (a .maker)) (a .image .now) (l .at) (a .n - l .i) (omega arith) in
+    omega (arith, h, l .inv .1)
 
 returns-2 : tie.Need-returns-2 Inv-loop μ-loop
 returns-2 c =
@@ -70,10 +64,8 @@ record-end-requires : tie.Need-record-end-requires Inv-loop μ-loop
 record-end-requires c κs =
     let a = c .before .before .before .before .before .before .args in
     let l = c .before .before .before .loop in
-    let y = layout (a .w) (a .maker) in
-    let h = record-in y (a .image .now) (l .at) (a .n - l .i) (omega arith) in
-    let g = record-least y (a .image .now) (l .at) in
-    (c .before .before .before .before .before .before .pre .0, omega (arith, h, g, l .inv .1))
+    let h = front-in (layout (a .w) (a .maker)) (a .image .now) (l .at) (a .n - l .i) (omega arith) in
+    (c .before .before .before .before .before .before .pre .0, omega (arith, h, l .inv .1))
 
 loop-again : tie.Need-loop-again Inv-loop μ-loop
 loop-again c =
@@ -83,9 +75,8 @@ loop-again c =
     let y = layout (a .w) (a .maker) in
     let e : a .n - (l .i + 1) ≡ a .n - l .i - 1 = omega arith in
     let r = c .record-end .ensures .0 in
-    let h = record-in y s (l .at) (a .n - l .i) (omega arith) in
-    let g = record-least y s (l .at) in
-    let t = made (a .w) (a .maker) s (l .at) (omega arith) (omega (arith, h, g, l .inv .1)) (c .before .if2 .left) in (
+    let h = front-in y s (l .at) (a .n - l .i) (omega arith) in
+    let t = made (a .w) (a .maker) s (l .at) (omega arith) (omega (arith, h, l .inv .1)) (c .before .if2 .left) in (
       omega arith,
       ap₂ (endFrom y s) r e ∙ sym (end-next y s (l .at) (a .n - l .i) (omega arith)) ∙ l .inv .1,
       ap₂ (markedFrom y s) r e ∙ sym (marked-next y s (l .at) (a .n - l .i) (omega arith) t) ∙ l .inv .2,

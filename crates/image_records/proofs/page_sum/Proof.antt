@@ -3,7 +3,7 @@ use native.Mathlib.Omega.{arith}
 use mathlib.Core.Path.{_≡_, ap, ap₂, sym, _∙_}
 use Rattle.image_records.specs.Records.{nodesFrom, endFrom}
 use Prim.Native.Nat.{ℕ, _+_, _-_, _*_, _≤_}
-use Rattle.image_records.specs.laws.RecordLaws.{record-least, record-in, end-next}
+use Rattle.image_records.specs.laws.RecordLaws.{front-in, end-next}
 use Rattle.image_records.specs.laws.RecordLaws.{pages-next, pages-last}
 use Rattle.filesystem.specs.Tables.{pagesFor, pageTotal}
 use Rattle.filesystem.specs.Layouts.{layout}
@@ -36,9 +36,8 @@ record-size-requires c κs =
     let s = a .image .now in
     let y = layout (a .w) (a .maker) in
     let l = c .before .loop in
-    let h = record-in y s (l .at) (a .n - l .i) (omega arith) in
-    let g = record-least y s (l .at) in
-    (c .before .before .before .pre .0, omega (arith, h, g, l .inv .1))
+    let h = front-in y s (l .at) (a .n - l .i) (omega arith) in
+    (c .before .before .before .pre .0, omega (arith, h, l .inv .1))
 
 add-total : tie.Need-add-total Inv-loop μ-loop
 add-total c = omega arith
@@ -49,9 +48,8 @@ record-end-requires c κs =
     let s = a .image .now in
     let y = layout (a .w) (a .maker) in
     let l = c .before .before .before .loop in
-    let h = record-in y s (l .at) (a .n - l .i) (omega arith) in
-    let g = record-least y s (l .at) in
-    (c .before .before .before .before .before .pre .0, omega (arith, h, g, l .inv .1))
+    let h = front-in y s (l .at) (a .n - l .i) (omega arith) in
+    (c .before .before .before .before .before .pre .0, omega (arith, h, l .inv .1))
 
 loop-again : tie.Need-loop-again Inv-loop μ-loop
 loop-again c =

@@ -133,6 +133,9 @@ module _ (y : Layout) (s : List ℕ) where
   pub record-in : (at n : ℕ) → 0 < n → recordEnd y s at ≤ endFrom y s at n
   record-in at n h = rw (end-next at n h) (end-least (recordEnd y s at) (n - 1))
 
+  pub front-in : (at n : ℕ) → 0 < n → at + frontLength y ≤ endFrom y s at n
+  front-in at n h = omega (arith, record-least at, record-in at n h)
+
 -- The image's form, case by case.
 module _ (y : Layout) (s : List ℕ) where
   pub formed-short : length s < 4 → formed y s ≡ false
