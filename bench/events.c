@@ -119,6 +119,30 @@ static void chained(void)
 
 enum { CHAINED = IMAGE - CHAIN * (NAME - 1) }; /* the bytes of its image */
 
+/* The same, each folder of the chain before the one that it stands in. */
+static void deepest_first(void)
+{
+    begin_image(NODES);
+    add_root();
+    for (uint32_t k = 1; k <= CHAIN; k++)
+        add_node(k + 1, k == CHAIN ? 1 : k + 2, 2, 0, "d");
+    for (uint32_t k = CHAIN + 1; k < NODES; k++)
+        add_node(k + 1, 1, 1, 8 * PAGE, name_of(CHILD, k));
+    load_image();
+}
+
+/* Two folders, the first with all other nodes in it. */
+static void one_folder(void)
+{
+    begin_image(NODES);
+    add_root();
+    add_node(2, 1, 2, 0, "d");
+    add_node(3, 1, 2, 0, "g");
+    for (uint32_t k = 3; k < NODES; k++)
+        add_node(k + 1, 2, 1, 4 * PAGE, name_of(CHILD, k));
+    load_image();
+}
+
 static void smallest(void)
 {
     begin_image(1);
@@ -304,6 +328,17 @@ static void fifteen_maps(void)
     }
 }
 
+/* A rename that is sent on: the call's bytes with its kind and the first path's length before them. */
+static void renamed(const char *bytes, size_t n)
+{
+    expect(call(bytes, n), ASK, 0);
+    expect(reply("\0\0\0\0", 4), DONE, 0);
+}
+
+static void step_rename(void) { renamed("\x10\x0d/file-0000247/file-renamed", 28); }
+static void step_rename_folder(void) { renamed("\x10\2/d/g/folder", 13); }
+static void step_beneath(void) { expect(call("\x10\x0d/fold-0000248/fold-0000248/fold-0000249/x", 43), REFUSED, 22); }
+
 static void step_save(void) { expect(save(), DONE, image_length); }
 static void step_load(void) { expect(load(), DONE, 0); }
 
@@ -350,6 +385,8 @@ static const struct row rows[] = {
     {"write 3 pages, third full", full_open, to_position, step_write_full, GUARD_WRITE, PAGE, 3 * PAGE,
         {3, PAGE, 3 * PAGE, 1}},
     {"grow by 32 pages, disk full", full_open, NULL, step_grow_full, GUARD_TRUNCATE, 40 * PAGE, 0, {0, 0, 0, 1}},
+    {"rename a file, 256 nodes", full, restore, step_rename, NO_CALL, 0, 0, {0, 0, 40, NODES}},
+    {"rename a directory of 253", one_folder, restore, step_rename_folder, NO_CALL, 0, 0, {0, 0, 19, NODES}},
     {"readdir, 255 children", largest, NULL, step_readdir, GUARD_READDIR, 0, NODES - 1, {0, 0, ANSWER, NODES}},
     {"readdir, 255 shuffled", largest, NULL, step_readdir, GUARD_READDIR, 1, NODES - 1, {0, 0, ANSWER, NODES}},
     {"map 4,096", smallest, restore, step_map, GUARD_MAP, UNIT, UNIT, {0, 0, UNIT, 0}},
@@ -361,8 +398,10 @@ static const struct row rows[] = {
     {"load, 23 bytes", smallest, NULL, step_load, NO_CALL, 0, 0, {1, 23, 23, 1}},
     {"load, 44,776 bytes", largest, NULL, step_load, NO_CALL, 0, 0, {1, IMAGE, IMAGE, NODES}},
     {"load, 127 in a chain", chained, NULL, step_load, NO_CALL, 0, 0, {1, CHAINED, CHAINED, NODES}},
+    {"load, 127 deepest first", deepest_first, NULL, step_load, NO_CALL, 0, 0, {1, CHAINED, CHAINED, NODES}},
     {"load, names alike", alike, NULL, step_load, NO_CALL, 0, 0, {1, IMAGE, IMAGE, NODES}},
     {"refused 22, a path's form", small, NULL, step_malformed, NO_CALL, 0, 0, {0, 0, 0, 1}},
+    {"refused 22, under itself", full, NULL, step_beneath, NO_CALL, 0, 0, {0, 0, 0, NODES}},
     {"refused 2, absent, 256 nodes", full, NULL, step_absent, NO_CALL, 0, 0, {0, 0, 0, NODES}},
     {"refused 30, read-only", full, NULL, step_read_only, NO_CALL, 0, 0, {0, 0, 0, 1}},
     {"stat, read-only, 256 nodes", full, NULL, step_reader_stat, GUARD_STAT, 1, 0, {0, 0, 24, NODES}},

@@ -14,7 +14,10 @@ SHUFFLED = 1.5  # a listing in no order, in instructions of the same in order
 ZERO_TEST, REST_OF_A_MAP = 1.10, 2500  # of plain C's instructions; instructions
 UNITS = 16  # of the longest map
 # loads of 256 nodes, in instructions of their own hashing and of what the longest save takes beside its hashing
-LOADS = {"load, 44,776 bytes": 1.15, "load, 127 in a chain": 1.15, "load, names alike": 1.30}
+LOADS = {
+    "load, 44,776 bytes": 1.15, "load, 127 in a chain": 1.15, "load, 127 deepest first": 1.15,
+    "load, names alike": 1.30,
+}
 HASH = "digest::sha256"  # in the archive
 
 # Rows that miss a bar, and why.

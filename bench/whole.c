@@ -59,6 +59,13 @@ static const char *name_of(int k)
     return name;
 }
 
+static const char *listed_of(int k)
+{
+    static char name[32];
+    snprintf(name, sizeof name, "/list/file-%03d", k);
+    return name;
+}
+
 /* ---- the loads: by the client, and straight */
 
 static void guarded_read(const int *order)
@@ -94,6 +101,23 @@ static void guarded_listing(const int *order)
     done(client_readdir(&c, "/list"), FILES);
 }
 
+static void guarded_rename(const char *first, const char *second)
+{
+    char call[64];
+    int n = snprintf(call, sizeof call, "\x10%c%s%s", (int)strlen(first), first, second);
+    done(client_call(&c, (const uint8_t *)call, (size_t)n), 0);
+}
+
+/* Each file into the other folder, then back. */
+static void guarded_renames(const int *order)
+{
+    (void)order;
+    for (int k = 0; k < FILES; k++)
+        guarded_rename(listed_of(k), name_of(k));
+    for (int k = 0; k < FILES; k++)
+        guarded_rename(name_of(k), listed_of(k));
+}
+
 static void direct_read(const int *order)
 {
     for (int i = 0; i < CHUNKS; i++)
@@ -117,6 +141,15 @@ static void direct_files(const int *order)
         must(unlinkat(direct, name_of(k) + 1, 0) == 0, "unlinkat");
 }
 
+static void direct_renames(const int *order)
+{
+    (void)order;
+    for (int k = 0; k < FILES; k++)
+        must(renameat(direct, listed_of(k) + 1, direct, name_of(k) + 1) == 0, "renameat");
+    for (int k = 0; k < FILES; k++)
+        must(renameat(direct, name_of(k) + 1, direct, listed_of(k) + 1) == 0, "renameat");
+}
+
 static void direct_listing(const int *order)
 {
     int count = 0;
@@ -136,6 +169,7 @@ static const struct load { const char *name; void (*guarded)(const int *),
     {"sequential writes of 4 KB", guarded_write, direct_write, NULL},
     {"random writes of 4 KB", guarded_write, direct_write, shuffled},
     {"create and delete 100 files", guarded_files, direct_files, NULL},
+    {"rename 100 files and back", guarded_renames, direct_renames, NULL},
     {"a listing of 100 files", guarded_listing, direct_listing, NULL},
 };
 
@@ -154,10 +188,8 @@ static void set_up(const char *directory)
     client_begin(&c, timed_host, the_host, NULL);
     must(client_mkdir(&c, "/many", 7).kind == GUARD_DONE && client_mkdir(&c, "/list", 7).kind == GUARD_DONE, "mkdir");
     for (int k = 0; k < FILES; k++) {
-        char name[32];
-        snprintf(name, sizeof name, "/list/file-%03d", k);
-        must(client_create(&c, name, 7).kind == GUARD_DONE, "create");
-        must(close(openat(direct, name + 1, O_CREAT | O_RDWR, 0600)) == 0, "openat");
+        must(client_create(&c, listed_of(k), 7).kind == GUARD_DONE, "create");
+        must(close(openat(direct, listed_of(k) + 1, O_CREAT | O_RDWR, 0600)) == 0, "openat");
     }
     must(client_create(&c, "/file", 7).kind == GUARD_DONE, "create");
     handle = (uint32_t)client_open(&c, "/file", 3).number;

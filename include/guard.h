@@ -36,7 +36,7 @@
 extern "C" {
 #endif
 
-#define GUARD_VERSION "1.5"
+#define GUARD_VERSION "1.6"
 
 /* How the functions of these headers are compiled: inline, in each program that includes them. Whoever cannot use inline
  * functions takes libguard_client.so, which has each of them and the archive's entries as symbols (guard_exports.c,
@@ -111,11 +111,23 @@ enum {
  *     stat            path                               the size, and the reply's bytes the call itself
  *     map             length (4)                         the map's address, no bytes     the call itself
  *     unmap           address (8)                        0                               the call itself
+ *     rename          the first path's length (1),       0                               the call itself, or nothing
+ *                     that path, the second path
  *
  * Reads and writes begin at the file's cursor, which is 0 after an open, and move it; a read ends at the end of the
  * file. A position is at most the size. A truncation to more than the size makes the file longer by zeros, and asks for
  * one cut; the cursor stays. After one to less, a cursor that stood behind the new end is at that end, unlike POSIX.
  * A read or write of no bytes and a truncation to the same size ask for nothing.
+ *
+ * A rename gives the node of the first path the second one, in the same directory or another. Id, mode, size and bytes
+ * stay as they are, and so do the nodes beneath a directory, whose paths begin with the new one from then on. Files may
+ * be open: handle, rights and cursor stay. Nothing is ever replaced, unlike POSIX. Its numbers, in this order:
+ * - 22 for the form of the call and of both paths, then 36 for a path or component of either that is too long. The
+ *   first path's length is not 0, and bytes are left behind that path.
+ * - 20, 13 and 2 on the way of the first path, as a stat has them, then on that of the second, as a create has them.
+ * - 16 where the first is the root. Done with 0, and nothing is asked for, where both paths lead to one node.
+ * - 17 where the second exists, whatever it is; 22 where its parent is the first or lies beneath it; 13 for bit 2 of
+ *   either parent; 36 where the path of the node, or of one beneath it, would have more than 255 bytes.
  *
  * A host whose disk is full may say so to a create, a mkdir, a store of a write and the cut of a truncation that grows
  * (below). That ends the call and its request, and the guard goes on:
@@ -136,6 +148,7 @@ enum {
  *
  *     on the way                                         1 of each directory that a component is looked up in; "/" has no component
  *     create, mkdir, remove, rmdir                       2 of the parent; none of the node itself
+ *     rename                                             2 of the parent that the node has and of the one that it gets
  *     open                                               4 of the file to read, 2 to write
  *     readdir                                            4 of the directory
  *     chmod, stat                                        none of the node
@@ -145,7 +158,7 @@ enum {
 enum {
     GUARD_CREATE = 1, GUARD_MKDIR = 2, GUARD_OPEN = 3, GUARD_CLOSE = 4, GUARD_SEEK = 5, GUARD_READ = 6, GUARD_WRITE = 7,
     GUARD_TRUNCATE = 8, GUARD_REMOVE = 9, GUARD_RMDIR = 10, GUARD_CHMOD = 11, GUARD_READDIR = 12, GUARD_STAT = 13,
-    GUARD_MAP = 14, GUARD_UNMAP = 15
+    GUARD_MAP = 14, GUARD_UNMAP = 15, GUARD_RENAME = 16
 };
 
 /* Requests that are not the call itself, and the right replies to each (5). A host obeys a request before it replies.
@@ -158,7 +171,7 @@ enum {
  *     create, mkdir                                      an id (4), not 0, that no node has, and not GUARD_FULL_ID; the
  *                                                        root has 1
  *     open                                               a descriptor (4), 0 to 1,023, that no open file has
- *     close, cut, remove, rmdir, chmod, unmap            a status (4), 0; a status is signed
+ *     close, cut, remove, rmdir, chmod, unmap, rename    a status (4), 0; a status is signed
  *     store                                              a status (4), 1,024
  *     fetch                                              the page's 1,024 bytes, zeros past the end of the file
  *     readdir                                            each child once, in any order: id (4), kind (1: 1 a file, 2 a directory),
@@ -187,15 +200,18 @@ enum {
     GUARD_PENDING = 114,        /* EALREADY      a call, save or load while a request is pending */
     GUARD_NOT_PENDING = 61,     /* ENODATA       a reply, but no request is pending */
     GUARD_SHORT_BUFFER = 34,    /* ERANGE        the answer, request or image buffer is too short */
-    GUARD_MALFORMED = 22,       /* EINVAL        the form of a call or path; a seek beyond the size; an unmap of no map */
-    GUARD_TOO_LONG = 36,        /* ENAMETOOLONG  a component over 32 bytes, a path over 255 */
+    GUARD_MALFORMED = 22,       /* EINVAL        the form of a call or path; a seek beyond the size; an unmap of no map;
+                                 *               a rename of a directory to a path beneath itself */
+    GUARD_TOO_LONG = 36,        /* ENAMETOOLONG  a component over 32 bytes, a path over 255, also one beneath a
+                                 *               node that is renamed */
     GUARD_READ_ONLY = 30,       /* EROFS         a read-only guard takes no such call */
     GUARD_NOT_DIRECTORY = 20,   /* ENOTDIR       a path leads through a file; rmdir or readdir of a file */
     GUARD_BARRED = 13,          /* EACCES        the mode lacks a bit */
     GUARD_ABSENT = 2,           /* ENOENT        there is no such node */
-    GUARD_PRESENT = 17,         /* EEXIST        create or mkdir of a node that is there */
+    GUARD_PRESENT = 17,         /* EEXIST        create or mkdir of a node that is there, rename to one */
     GUARD_IS_DIRECTORY = 21,    /* EISDIR        open or remove of a directory */
-    GUARD_IN_USE = 16,          /* EBUSY         the file is open; rmdir of the root; save or load with open files */
+    GUARD_IN_USE = 16,          /* EBUSY         the file is open; rmdir or rename of the root; save or load with open
+                                 *               files */
     GUARD_NOT_EMPTY = 39,       /* ENOTEMPTY     rmdir of a directory with children */
     GUARD_TOO_MANY_OPEN = 24,   /* EMFILE        32 files are open */
     GUARD_TOO_MANY_MAPS = 12,   /* ENOMEM        16 maps live */
@@ -279,7 +295,11 @@ GUARD_FUNCTION guard_outcome guard_save(guard *g, uint8_t *image, size_t image_l
 }
 
 /* Takes an image back, in place of all that the guard holds but its maps, if it has this digest: that of the last save.
- * No file may be open. Done with 0. An image that the host kept is copied to memory that the host cannot write first. */
+ * No file may be open. Done with 0. An image that the host kept is copied to memory that the host cannot write first.
+ *
+ * An image's records may come in any order, but for the root's, which is the first: after a rename a node may stand
+ * before its parent. Each must reach the root by its parents, all of them directories, else it is refused
+ * GUARD_UNSOUND_IMAGE. An older guard refuses an image in which a node stands before its parent. */
 GUARD_FUNCTION guard_outcome guard_load(guard *g, const uint8_t *image, size_t length, const uint8_t *digest, size_t digest_length)
 {
     return guard_entry_load(g->memory, sizeof g->memory, image, length, digest, digest_length);

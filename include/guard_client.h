@@ -63,7 +63,8 @@ GUARD_FUNCTION void guard_copy(void *to, const void *from, size_t length)
  *
  * A path's form and length are left to the guard, which has a number for each (22, 36). Where the buffer has GUARD_CALL_LENGTH bytes, a 0 may be
  * handed in as a call of no bytes: the guard refuses it GUARD_MALFORMED, as it would the whole; but a path that has no room there, which is over
- * 4,000 bytes long, it would call too long. */
+ * 4,000 bytes long, it would call too long. So it is with a rename's first path of more than 255 bytes: its length
+ * stands in one byte. */
 
 GUARD_FUNCTION size_t guard_path_call(uint8_t *to, size_t room, uint8_t kind, const char *path)
 {
@@ -178,6 +179,19 @@ GUARD_FUNCTION size_t guard_unmap_call(uint8_t *to, size_t room, uint64_t addres
     return guard_number_call(to, room, GUARD_UNMAP, address, GUARD_ADDRESS_LENGTH);
 }
 
+/* The second path is not there yet: nothing is replaced. */
+GUARD_FUNCTION size_t guard_rename_call(uint8_t *to, size_t room, const char *path, const char *new_path)
+{
+    size_t n = strlen(path), m = strlen(new_path);
+    if (n > GUARD_PATH_LENGTH || room < 2 + n || m > room - 2 - n)
+        return 0;
+    to[0] = GUARD_RENAME;
+    to[1] = (uint8_t)n;
+    guard_copy(to + 2, path, n);
+    guard_copy(to + 2 + n, new_path, m);
+    return 2 + n + m;
+}
+
 /* ---- what a stat and a readdir that are done have in their answer (5.5) */
 
 typedef struct { uint32_t id; uint8_t kind, mode; uint32_t size; } guard_stat;
@@ -238,7 +252,7 @@ GUARD_FUNCTION int guard_is_path(const char *path, size_t length)
 
 /* ---- requests, for a host (5.1) */
 
-/* What the kind has no field for is 0. A path has no 0 behind it; path and page point into the request. */
+/* What the kind has no field for is 0. A path has no 0 behind it; paths and page point into the request. */
 typedef struct {
     int kind;
     uint8_t mode; /* of an open: its rights */
@@ -246,8 +260,8 @@ typedef struct {
     uint32_t page, size;
     uint32_t length;  /* of a map */
     uint64_t address; /* of an unmap */
-    size_t path_length;
-    const char *path;
+    size_t path_length, new_path_length;
+    const char *path, *new_path; /* the new one of a rename */
     const uint8_t *bytes; /* of a store: the page */
 } guard_request;
 
@@ -293,6 +307,15 @@ GUARD_FUNCTION int guard_get_unmap(const uint8_t *bytes, size_t length, guard_re
     return r->address > 0 && r->address % GUARD_MAP_UNIT == 0;
 }
 
+GUARD_FUNCTION int guard_get_rename(const uint8_t *bytes, size_t length, guard_request *r)
+{
+    if (length < 1 || bytes[0] > length - 1)
+        return 0;
+    r->new_path = (const char *)bytes + 1 + bytes[0];
+    r->new_path_length = length - 1 - bytes[0];
+    return guard_get_path(bytes + 1, bytes[0], r) && guard_is_path(r->new_path, r->new_path_length);
+}
+
 /* 1, or 0 where no guard sends these bytes: then only the kind can be relied upon. */
 GUARD_FUNCTION int guard_get_request(const uint8_t *bytes, size_t length, guard_request *r)
 {
@@ -306,6 +329,7 @@ GUARD_FUNCTION int guard_get_request(const uint8_t *bytes, size_t length, guard_
     case GUARD_CLOSE: case GUARD_FETCH: case GUARD_STORE: case GUARD_CUT: return guard_get_descriptor(bytes + 1, length - 1, r);
     case GUARD_MAP: return guard_get_map(bytes + 1, length - 1, r);
     case GUARD_UNMAP: return guard_get_unmap(bytes + 1, length - 1, r);
+    case GUARD_RENAME: return guard_get_rename(bytes + 1, length - 1, r);
     default: return 0;
     }
 }
@@ -398,7 +422,7 @@ GUARD_FUNCTION const char *guard_number_text(uint64_t number)
     case GUARD_PENDING: return "busy: a request is pending";
     case GUARD_NOT_PENDING: return "unasked: no request is pending";
     case GUARD_SHORT_BUFFER: return "short: a lent buffer is too short";
-    case GUARD_MALFORMED: return "malformed: the form of the call or path, a seek beyond the size, or an unmap of no map";
+    case GUARD_MALFORMED: return "malformed: the form of the call or path; a seek, unmap or rename to no such place";
     case GUARD_TOO_LONG: return "long: a component over 32 bytes or a path over 255";
     case GUARD_READ_ONLY: return "read-only: a read-only guard takes no such call";
     case GUARD_NOT_DIRECTORY: return "no folder: a file where a directory is needed";
@@ -453,6 +477,7 @@ GUARD_FUNCTION const char *guard_call_name(int kind)
     case GUARD_STAT: return "stat";
     case GUARD_MAP: return "map";
     case GUARD_UNMAP: return "unmap";
+    case GUARD_RENAME: return "rename";
     default: return "no call";
     }
 }
@@ -464,7 +489,7 @@ GUARD_FUNCTION const char *guard_request_name(int kind)
     case GUARD_STORE: return "store";
     case GUARD_CUT: return "cut";
     case GUARD_SEEK: return "no request";
-    default: return kind < GUARD_CREATE || kind > GUARD_UNMAP ? "no request" : guard_call_name(kind);
+    default: return kind < GUARD_CREATE || kind > GUARD_RENAME ? "no request" : guard_call_name(kind);
     }
 }
 

@@ -1,12 +1,14 @@
-/* The file guard in plain C (guard.h). In the specification's order: tables, paths, calls, maps, the read-only guard,
- * replies, saves and loads. */
+/* The file guard in plain C (guard.h). In the specification's order: tables, paths, calls, renames, maps, the read-only
+ * guard, replies, saves and loads. */
 #include "guard.h"
 #include <stdbool.h>
 #include <string.h>
 
 void HASH(const uint8_t *message, size_t length, uint8_t out[DIGEST]);
 
-enum { CREATE = 1, MKDIR, OPEN, CLOSE, SEEK, READ, WRITE, TRUNCATE, REMOVE, RMDIR, CHMOD, READDIR, STAT, MAP, UNMAP };
+enum {
+    CREATE = 1, MKDIR, OPEN, CLOSE, SEEK, READ, WRITE, TRUNCATE, REMOVE, RMDIR, CHMOD, READDIR, STAT, MAP, UNMAP, RENAME
+};
 enum { IS_FILE = 1, IS_DIRECTORY = 2, MODE_READ = 4, MODE_WRITE = 2, MODE_SEARCH = 1, RIGHT_READ = 1, RIGHT_WRITE = 2 };
 
 enum { NO_SPACE = -28 }; /* the status of a full disk */
@@ -239,6 +241,84 @@ static outcome call_by_path(struct plain_guard *g, const uint8_t *call, size_t n
     }
     memcpy(request, call, n);
     return ask(n);
+}
+
+/* ---- renames */
+
+/* 22, 36, or 0 where the form of both paths is right. */
+static unsigned rename_form(const uint8_t *call, size_t n)
+{
+    if (n < 2 || call[1] > n - 2)
+        return 22;
+    unsigned first = path_fault(call + 2, call[1]), second = path_fault(call + 2 + call[1], n - 2 - call[1]);
+    return first == 22 || second == 22 ? 22 : larger(first, second);
+}
+
+static bool is_at_or_beneath(const struct plain_guard *g, uint32_t k, uint32_t top)
+{
+    while (k != top && k != 0)
+        k = find_id(g, g->node[k].parent);
+    return k == top;
+}
+
+/* How much longer the longest path beneath a node is than its own: its directories in turn, each with its children. */
+static uint32_t length_beneath(const struct plain_guard *g, uint32_t top)
+{
+    uint8_t place[NODES] = {(uint8_t)top}, length[NODES] = {0};
+    uint32_t longest = 0, count = 1;
+    for (uint32_t at = 0; at < count; at++) {
+        const struct node *d = g->node + place[at];
+        for (uint32_t i = 0; d->kind == IS_DIRECTORY && i < g->nodes; i++)
+            if (g->node[i].parent == d->id) {
+                place[count] = (uint8_t)i;
+                length[count] = (uint8_t)(length[at] + 1 + g->node[i].length);
+                longest = larger(longest, length[count++]);
+            }
+    }
+    return longest;
+}
+
+/* What is wrong once both walks are done, and the two ways lead to different nodes; `length` is the second path's. */
+static unsigned rename_fault(const struct plain_guard *g, const struct way *from, const struct way *to, size_t length)
+{
+    if (to->node < g->nodes)
+        return 17;
+    if (is_at_or_beneath(g, to->parent, from->node))
+        return 22;
+    if (!(g->node[from->parent].mode & g->node[to->parent].mode & MODE_WRITE))
+        return 13;
+    return length + length_beneath(g, from->node) > PATH ? 36 : 0;
+}
+
+static outcome call_rename(struct plain_guard *g, const uint8_t *call, size_t n, uint8_t *request)
+{
+    unsigned fault = rename_form(call, n);
+    if (fault)
+        return refused(fault);
+    size_t length = n - 2 - call[1];
+    struct way from = walk(g, call + 2, call[1]), to = walk(g, call + 2 + call[1], length);
+    if (from.fault || from.node == g->nodes)
+        return refused(from.fault ? from.fault : 2);
+    if (to.fault || from.node == 0)
+        return refused(to.fault ? to.fault : 16);
+    if (from.node == to.node)
+        return done(0, 0);
+    fault = rename_fault(g, &from, &to, length);
+    if (fault)
+        return refused(fault);
+    g->pending = (struct pending){.call = RENAME, .length = (uint8_t)to.length, .node = (uint16_t)from.node,
+        .parent = (uint16_t)to.parent};
+    memcpy(g->data, to.name, to.length);
+    memcpy(request, call, n);
+    return ask(n);
+}
+
+static void move_node(struct plain_guard *g, const struct pending *p)
+{
+    struct node *k = g->node + p->node;
+    k->parent = g->node[p->parent].id;
+    k->length = p->length;
+    memcpy(k->name, g->data, p->length);
 }
 
 /* ---- requests of pages */
@@ -494,6 +574,7 @@ static inline __attribute__((always_inline)) outcome take_call(struct plain_guar
         return call_by_handle(g, call, n, request);
     case MAP: return call_map(g, call, n, request);
     case UNMAP: return call_unmap(g, call, n, request);
+    case RENAME: return call_rename(g, call, n, request);
     default:
         return refused(22);
     }
@@ -527,6 +608,7 @@ static unsigned form_fault(const uint8_t *call, size_t n)
     case WRITE: case TRUNCATE: return handle_form(call, n) ? 0 : 22;
     case MAP: return map_fault(call, n);
     case UNMAP: return n == 9 ? 0 : 22;
+    case RENAME: return rename_form(call, n);
     default: return 22;
     }
 }
@@ -630,7 +712,7 @@ static outcome mapped(struct plain_guard *g, const uint8_t *reply, size_t n)
     return finish(g, address, 0);
 }
 
-/* close, remove, rmdir, chmod and unmap. */
+/* close, remove, rmdir, chmod, unmap and rename. */
 static outcome told(struct plain_guard *g, const uint8_t *reply, size_t n)
 {
     const struct pending *p = &g->pending;
@@ -643,6 +725,8 @@ static outcome told(struct plain_guard *g, const uint8_t *reply, size_t n)
         g->node[p->node].mode = p->number;
     else if (p->call == UNMAP)
         g->map[p->node] = g->map[--g->maps];
+    else if (p->call == RENAME)
+        move_node(g, p);
     else
         remove_node(g, p->node);
     return finish(g, 0, 0);
@@ -922,50 +1006,70 @@ static bool is_name(const uint8_t *name, size_t n)
     return !memchr(name, 0, n) && !memchr(name, '/', n);
 }
 
-/* The length of the path of node i, or PATH + 1 where it may not stand behind those before it. */
-static uint32_t path_length(const struct node *node, uint32_t i, const uint8_t *lengths)
+/* Whether node i may stand behind those before it. Where its parent is among them, or a child, the parent's place
+ * is noted. */
+static bool may_follow(const struct node *node, uint32_t i, uint8_t *parent)
 {
     const struct node *k = node + i;
-    uint32_t parent = i;
     if (!in_limits(k) || !is_name(k->name, k->length))
-        return PATH + 1;
+        return false;
     for (uint32_t j = 0; j < i; j++) {
         if (node[j].id == k->id)
-            return PATH + 1;
+            return false;
         if (node[j].id == k->parent)
-            parent = j;
+            parent[i] = (uint8_t)j;
+        if (node[j].parent == k->id)
+            parent[j] = (uint8_t)i;
         if (node[j].parent == k->parent && node[j].length == k->length && memcmp(node[j].name, k->name, k->length) == 0)
-            return PATH + 1;
+            return false;
     }
-    if (parent == i || node[parent].kind != IS_DIRECTORY)
-        return PATH + 1;
-    return lengths[parent] + 1u + k->length;
+    return true;
+}
+
+/* Whether each node reaches the root by its parents, which are directories, on a path that is not too long. Each goes
+ * up to one whose path is known; a way longer than there are nodes goes round. */
+static bool all_reach_root(const struct node *node, uint32_t count, const uint8_t *parent)
+{
+    uint8_t length[NODES] = {0}, known[NODES] = {1}, way[NODES];
+    for (uint32_t i = 1; i < count; i++) {
+        uint32_t k = i, n = 0;
+        for (; !known[k]; k = parent[k]) {
+            if (n == count)
+                return false;
+            way[n++] = (uint8_t)k;
+        }
+        for (; n > 0; k = way[n]) {
+            uint32_t path = length[k] + 1u + node[way[--n]].length;
+            if (node[k].kind != IS_DIRECTORY || path > PATH)
+                return false;
+            length[way[n]] = (uint8_t)path;
+            known[way[n]] = 1;
+        }
+    }
+    return true;
+}
+
+static bool is_root(const struct node *k)
+{
+    return k->id == 1 && k->parent == 0 && k->kind == IS_DIRECTORY && k->length == 0 && in_limits(k);
 }
 
 /* The nodes of a sound image; the place behind their records, or 0 where they are not sound. */
 static size_t read_nodes(const uint8_t *image, size_t n, struct node *node, uint32_t count, uint32_t *pages)
 {
-    uint8_t lengths[NODES] = {0};
+    uint8_t parent[NODES];
     size_t at = 4;
     *pages = 0;
     for (uint32_t i = 0; i < count; i++) {
         size_t length = read_record(image + at, n - at, node + i);
-        if (length == 0)
+        parent[i] = (uint8_t)i; /* its own: none is found yet */
+        if (length == 0 || !(i == 0 ? is_root(node) : may_follow(node, i, parent)))
             return 0;
         at += length;
-        if (i > 0) {
-            uint32_t path = path_length(node, i, lengths);
-            if (path > PATH)
-                return 0;
-            lengths[i] = (uint8_t)path;
-        } else if (node->id != 1 || node->parent != 0 || node->kind != IS_DIRECTORY || node->length != 0 ||
-            !in_limits(node)) {
-            return 0;
-        }
         node[i].first = (uint16_t)*pages;
         *pages += pages_for(node[i].size);
     }
-    return at;
+    return all_reach_root(node, count, parent) ? at : 0;
 }
 
 outcome plain_load(struct plain_guard *g, const uint8_t *image, size_t n, const uint8_t *digest, size_t d)

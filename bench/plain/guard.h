@@ -33,9 +33,9 @@ struct open_file {
 
 /* The call that waits for a reply. */
 struct pending {
-    /* number: mode or rights; length: of a new node's name; digests: how many are staged */
+    /* number: mode or rights; length: of a new name; digests: how many are staged */
     uint8_t call, number, length, digests;
-    uint16_t node, opened; /* node: of an unmap the map's place */
+    uint16_t node, opened, parent; /* node: of an unmap the map's place; parent: where a renamed node goes */
     uint32_t position, end, page, bytes; /* bytes: how many a read has gathered, or a map will have */
 };
 
@@ -49,7 +49,7 @@ struct plain_guard {
     struct open_file open[OPEN_FILES];
     struct map map[MAPS];
     uint8_t digest[PAGES][DIGEST];
-    uint8_t data[DATA];               /* a read's bytes, a write's, a new node's name */
+    uint8_t data[DATA];               /* a read's bytes, a write's, a new name */
     uint8_t staged[DATA / PAGE + 1][DIGEST]; /* of the pages that a change has sent */
 };
 

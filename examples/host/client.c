@@ -77,6 +77,11 @@ guard_outcome client_stat(client *c, const char *path) { return submit(c, guard_
 guard_outcome client_map(client *c, size_t length) { return submit(c, guard_map_call(c->call, ROOM, length)); }
 guard_outcome client_unmap(client *c, uint64_t address) { return submit(c, guard_unmap_call(c->call, ROOM, address)); }
 
+guard_outcome client_rename(client *c, const char *path, const char *new_path)
+{
+    return submit(c, guard_rename_call(c->call, ROOM, path, new_path));
+}
+
 guard_outcome client_write(client *c, uint32_t handle, const void *bytes, size_t length)
 {
     return submit(c, guard_write_call(c->call, ROOM, handle, bytes, length));

@@ -55,5 +55,6 @@ guard_outcome client_readdir(client *c, const char *path);
 guard_outcome client_stat(client *c, const char *path);
 guard_outcome client_map(client *c, size_t length); /* done with the address */
 guard_outcome client_unmap(client *c, uint64_t address);
+guard_outcome client_rename(client *c, const char *path, const char *new_path);
 
 #endif

@@ -1,6 +1,6 @@
 /* A client, the guard and a host over a directory of this machine; the disk fills up, and the client goes on; a
- * read-only guard shows the files; then someone tampers with the disk, and the guard stops. Ends with status 1 where
- * anything comes back that is not what is told here.
+ * read-only guard shows the files; a batch is renamed while a file in it is open; then someone tampers with the disk,
+ * and the guard stops. Ends with status 1 where anything comes back that is not what is told here.
  *
  *     demo [--budget BYTES]       how many bytes the disk has that fills up; with another than BUDGET, what comes is
  *                                 shown, and nothing but a stop is wrong */
@@ -20,6 +20,7 @@
 /* The host's part of the directory and the client's own, which the host cannot reach. */
 #define LOG "host/tree/cellar/log"
 #define NOTE "host/tree/cellar/note"
+#define LOT "host/tree/cellar/lot 12"
 #define OLD_IMAGE "host/image.0" /* of the first save; the second writes the other */
 #define DIGEST "client/digest"
 
@@ -312,6 +313,41 @@ static void read_only(stage *s)
     save_loaded(s);
 }
 
+/* ---- a rename */
+
+/* A batch with a file that is open: its handle. Ids go on from what a full disk has let be made. */
+static uint32_t make_batch(stage *s)
+{
+    static const char must[] = "Riesling, 84 Oe\n";
+    client *c = &s->client;
+    guard_outcome o = client_mkdir(c, "/batch", 7);
+    row(s, o, GUARD_DONE, o.number, "mkdir /batch, mode 7");
+    o = client_create(c, "/batch/must", 6);
+    row(s, o, GUARD_DONE, o.number, "create /batch/must, mode 6");
+    row(s, client_open(c, "/batch/must", 3), GUARD_DONE, o.number, "open /batch/must, read and write");
+    row(s, client_write(c, (uint32_t)o.number, must, sizeof must - 1), GUARD_DONE, sizeof must - 1, "write a line");
+    return (uint32_t)o.number;
+}
+
+static void lot_name(stage *s)
+{
+    client *c = &s->client;
+    start(s);
+    uint32_t handle = make_batch(s);
+    row(s, client_rename(c, "/batch", "/cellar/lot 12"), GUARD_DONE, 0, "rename /batch to /cellar/lot 12");
+    row(s, client_seek(c, handle, 0), GUARD_DONE, 0, "seek to 0: the file is still open");
+    row(s, client_read(c, handle, GUARD_TRANSFER_LENGTH), GUARD_DONE, 16, "read up to 4,096 bytes");
+    show_text(s, 16);
+    disk_show("ls -p host/tree/cellar");
+    row(s, client_rename(c, "/cellar/lot 12", "/cellar/note"), GUARD_REFUSED, GUARD_PRESENT,
+        "rename it to /cellar/note");
+    row(s, client_rename(c, "/cellar", "/cellar/lot 12/x"), GUARD_REFUSED, GUARD_MALFORMED,
+        "rename /cellar into itself");
+    row(s, client_close(c, handle), GUARD_DONE, 0, "close");
+    row(s, client_remove(c, "/cellar/lot 12/must"), GUARD_DONE, 0, "remove /cellar/lot 12/must");
+    row(s, client_rmdir(c, "/cellar/lot 12"), GUARD_DONE, 0, "rmdir /cellar/lot 12");
+}
+
 /* ---- tampering */
 
 static void read_log(stage *s, int kind, uint64_t number)
@@ -395,6 +431,15 @@ static void map_is_dirty(stage *s)
     row(s, client_map(&s->client, 8192), GUARD_STOPPED, GUARD_STOP_MAP, "map 8,192 bytes");
 }
 
+/* The host's table has lost the note then, so the lives after this one look at the log alone. */
+static void rename_undone(stage *s)
+{
+    start(s);
+    row(s, client_rename(&s->client, "/cellar/note", "/cellar/lot 12"), GUARD_DONE, 0, "rename /cellar/note to lot 12");
+    disk_move(LOT, NOTE);
+    row(s, client_readdir(&s->client, "/cellar"), GUARD_STOPPED, GUARD_STOP_LISTING, "readdir /cellar");
+}
+
 static void old_image(stage *s) { load(s, OLD_IMAGE, GUARD_REFUSED, GUARD_WRONG_DIGEST); }
 
 static void untouched(stage *s)
@@ -419,6 +464,8 @@ static const struct { const char *title; void (*act)(stage *); begin *begin; } l
     {"A read-only guard shows the files of the last image, which it loads with its digest. It changes nothing.",
         read_only,
         client_begin_reader},
+    {"A batch gets its lot name, and goes to the cellar with a file that is open. Nothing is ever replaced.", lot_name,
+        client_begin},
     {"Someone changes byte 1,500 of the log on the disk; it is the read-only guard that meets it.", byte_changed,
         client_begin_reader},
     {"Someone puts an old page back, after the client has written a newer one.", old_page, client_begin},
@@ -428,6 +475,7 @@ static const struct { const char *title; void (*act)(stage *); begin *begin; } l
     {"The host lends memory within memory that it has lent already.", map_overlaps, client_begin},
     {"The host lends memory again as the client has left it, what it wrote there included.", map_is_dirty,
         client_begin},
+    {"Someone gives a note that was renamed its old name back.", rename_undone, client_begin},
     {"The host hands out the image of the save before the last.", old_image, client_begin},
     {"Nobody does anything.", untouched, client_begin},
 };
@@ -487,7 +535,7 @@ int main(int count, char **words)
         perror("/");
     disk_clear(place);
     puts(wrong ? "\nNot everything came back as told."
-               : "\nA full disk cost a call, a read-only guard changed nothing, each of the eight was caught;"
-                 " what nobody touched is served.");
+               : "\nA full disk cost a call, a read-only guard changed nothing, an open file was renamed, each of the"
+                 " nine was caught; what nobody touched is served.");
     return wrong;
 }

@@ -24,7 +24,7 @@ struct host {
     table table;
 };
 
-/* A request taken apart, its path with a 0 behind it. */
+/* A request taken apart, its paths with a 0 behind each. */
 typedef guard_request request;
 
 /* ---- replies */
@@ -169,13 +169,53 @@ static size_t make_directory(host *h, const request *r, uint8_t *reply)
     return status ? not_made(reply) : added(h, r, AT_REMOVEDIR, reply);
 }
 
-/* On a full disk the table stays as it is there: to remove is to make room, and a row without its node does no harm. */
+/* The end of a request by which rows have gone. On a full disk the table stays as it is there: a row without its node
+ * does no harm, and the next start drops it. */
+static size_t forgotten(host *h, uint8_t *reply)
+{
+    return table_write(&h->table) && !is_full() ? failed(reply) : status_reply(reply, 0);
+}
+
 static size_t removed(host *h, const request *r, int flag, uint8_t *reply)
 {
     if (unlink_node(h, r->path, flag))
         return failed(reply);
     table_remove(&h->table, r->path);
-    return table_write(&h->table) && !is_full() ? failed(reply) : status_reply(reply, 0);
+    return forgotten(h, reply);
+}
+
+/* Waits until the names in a directory are on the disk. */
+static int sync_names(int directory)
+{
+    int file = whole_open(directory, ".", O_RDONLY | O_DIRECTORY);
+    int status = file < 0 ? -1 : whole_sync(file);
+    whole_leave(file);
+    return status;
+}
+
+/* Files that are open go on: this machine's descriptors know no path. */
+static int move_node(const host *h, const char *path, const char *new_path)
+{
+    const char *name, *new_name;
+    int from = reach(h, path, &name), to = from < 0 ? -1 : reach(h, new_path, &new_name);
+    int status = to < 0 || whole_move(from, name, to, new_name) || sync_names(from) || sync_names(to) ? -1 : 0;
+    whole_leave(from);
+    whole_leave(to);
+    return status;
+}
+
+/* Whenever power is lost, the nodes have their ids and modes wherever the disk has them: the table has both paths
+ * before the rename, and the old ones go after it is on the disk. */
+static size_t renamed(host *h, const request *r, uint8_t *reply)
+{
+    table_remove_all(&h->table, r->new_path);
+    if (table_copy(&h->table, r->path, r->new_path) || table_write(&h->table)
+        || move_node(h, r->path, r->new_path)) {
+        table_remove_all(&h->table, r->new_path);
+        return failed(reply);
+    }
+    table_remove_all(&h->table, r->path);
+    return forgotten(h, reply);
 }
 
 static size_t change_mode(host *h, const request *r, uint8_t *reply)
@@ -407,12 +447,14 @@ static size_t remove_map(host *h, const request *r, uint8_t *reply)
 size_t host_reply(host *h, const uint8_t *bytes, size_t length, uint8_t reply[HOST_REPLY_LENGTH])
 {
     request r;
-    char path[GUARD_PATH_LENGTH + 1] = "";
+    char path[GUARD_PATH_LENGTH + 1] = "", new_path[GUARD_PATH_LENGTH + 1] = "";
     errno = 0;
     if (!guard_get_request(bytes, length, &r))
         return status_reply(reply, -EINVAL);
     guard_copy(path, r.path, r.path_length);
+    guard_copy(new_path, r.new_path, r.new_path_length);
     r.path = path;
+    r.new_path = new_path;
     switch (r.kind) {
     case GUARD_CREATE: return create(h, &r, reply);
     case GUARD_MKDIR: return make_directory(h, &r, reply);
@@ -427,6 +469,7 @@ size_t host_reply(host *h, const uint8_t *bytes, size_t length, uint8_t reply[HO
     case GUARD_READDIR: return list(h, &r, reply);
     case GUARD_MAP: return make_map(h, &r, reply);
     case GUARD_UNMAP: return remove_map(h, &r, reply);
+    case GUARD_RENAME: return renamed(h, &r, reply);
     default: return stat_node(h, &r, reply);
     }
 }

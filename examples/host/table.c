@@ -121,3 +121,41 @@ void table_remove(table *t, const char *path)
     if (row)
         *row = t->rows[--t->count];
 }
+
+/* Whether a path is this one or lies beneath it. */
+static int is_within(const char *path, const char *top)
+{
+    size_t n = strlen(top);
+    return !strncmp(path, top, n) && (path[n] == '\0' || path[n] == '/');
+}
+
+static int copy_row(table *t, const table_row *row, const char *path, const char *new_path)
+{
+    const char *rest = row->path + strlen(path);
+    if (t->count == TABLE_ROWS || strlen(new_path) + strlen(rest) > GUARD_PATH_LENGTH) {
+        errno = t->count == TABLE_ROWS ? ENOSPC : ENAMETOOLONG;
+        return -1;
+    }
+    table_row *copy = &t->rows[t->count++];
+    copy->id = row->id;
+    copy->mode = row->mode;
+    strcpy(copy->path, new_path);
+    strcat(copy->path, rest);
+    return 0;
+}
+
+int table_copy(table *t, const char *path, const char *new_path)
+{
+    size_t count = t->count; /* what is copied is not copied again */
+    for (size_t i = 0; i < count; i++)
+        if (is_within(t->rows[i].path, path) && copy_row(t, &t->rows[i], path, new_path))
+            return -1;
+    return 0;
+}
+
+void table_remove_all(table *t, const char *path)
+{
+    for (size_t i = t->count; i-- > 0;)
+        if (is_within(t->rows[i].path, path))
+            t->rows[i] = t->rows[--t->count];
+}

@@ -33,4 +33,12 @@ table_row *table_add(table *t, const char *path, uint8_t mode);
 /* Takes a row out, if it is there. */
 void table_remove(table *t, const char *path);
 
+/* A second row, with the same id and mode, for the node of a path and for each beneath it: at the new path. Both stand
+ * there while a rename is on its way; a start drops the ones whose nodes are not there. 0, or -1 and errno where there
+ * is no room. */
+int table_copy(table *t, const char *path, const char *new_path);
+
+/* Takes the row of a path out, and all beneath it. */
+void table_remove_all(table *t, const char *path);
+
 #endif

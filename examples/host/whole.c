@@ -1,10 +1,11 @@
-#define _GNU_SOURCE /* openat, nanosleep, fallocate */
+#define _GNU_SOURCE /* openat, nanosleep, fallocate, renameat2 */
 #include "whole.h"
 
 #include <errno.h>
 #include <fcntl.h>
 #include <stdio.h>
 #include <string.h>
+#include <sys/stat.h>
 #include <time.h>
 #include <unistd.h>
 
@@ -82,6 +83,25 @@ int whole_reserve(int file, off_t at, off_t length)
         status = fallocate(file, 0, at, length);
     while (status && whole_again(&tries));
     return status && errno != EOPNOTSUPP && errno != ENOSYS ? -1 : 0;
+}
+
+static int move_after_look(int directory, const char *name, int new_directory, const char *new_name)
+{
+    struct stat s;
+    if (!fstatat(new_directory, new_name, &s, AT_SYMLINK_NOFOLLOW))
+        errno = EEXIST;
+    return errno == ENOENT ? renameat(directory, name, new_directory, new_name) : -1;
+}
+
+int whole_move(int directory, const char *name, int new_directory, const char *new_name)
+{
+    int status, tries = 0;
+    do
+        status = renameat2(directory, name, new_directory, new_name, RENAME_NOREPLACE);
+    while (status && whole_again(&tries));
+    if (status && (errno == EINVAL || errno == ENOSYS))
+        return move_after_look(directory, name, new_directory, new_name);
+    return status;
 }
 
 int whole_sync(int file)

@@ -27,6 +27,10 @@ int whole_cut(int file, off_t size);
  * the file system knows no such thing, nothing is done. */
 int whole_reserve(int file, off_t at, off_t length);
 
+/* As renameat, but what is there already is not replaced: EEXIST. On a file system that cannot do both in one step, the
+ * new name is looked at first, which is enough where nobody else writes. */
+int whole_move(int directory, const char *name, int new_directory, const char *new_name);
+
 /* Waits until a file, or the names in a directory, are on the disk. */
 int whole_sync(int file);
 int whole_sync_names(const char *directory);

@@ -104,7 +104,7 @@ def four(x): return x.to_bytes(4, "little")
 
 
 class Files:
-    """The calls, through a guard, with `ask` for the host. A path is text or bytes."""
+    """The calls, through a guard, with `ask` for the host. A path is text or bytes; a rename's has at most 255."""
 
     def __init__(self, ask, guard=None):
         self.ask, self.guard = ask, guard or Guard()
@@ -146,3 +146,4 @@ class Files:
 
     def map(self, length): return self.do(b"\x0e" + four(length))[0]
     def unmap(self, address): self.do(b"\x0f" + address.to_bytes(8, "little"))
+    def rename(self, path, new): self.by_path(16, path + new, min(len(os.fsencode(path)), 256) % 256)

@@ -47,9 +47,7 @@ impl fmt::Display for Failure {
         write!(f, "{} {number}", if let Failure::Refused(_) = self { "refused" } else { "stopped" })
     }
 }
-
 impl std::error::Error for Failure {}
-
 type Or<T> = Result<T, Failure>;
 type Given = (u64, Vec<u8>);
 pub enum Step { Done(u64, Vec<u8>), Ask(Vec<u8>) }
@@ -112,8 +110,7 @@ impl<A: FnMut(&[u8]) -> Vec<u8>> Files<A> {
             match step {
                 Step::Done(number, bytes) => return Ok((number, bytes)),
                 Step::Ask(request) => {
-                    let reply = (self.ask)(&request);
-                    step = self.guard.reply(&reply).map_err(|failure| match failure {
+                    step = self.guard.reply(&(self.ask)(&request)).map_err(|failure| match failure {
                         Failure::Stopped(reason, _) => Failure::Stopped(reason, request),
                         other => other,
                     })?;
@@ -123,7 +120,6 @@ impl<A: FnMut(&[u8]) -> Vec<u8>> Files<A> {
     }
 
     fn by_path(&mut self, front: &[u8], path: &str) -> Or<Given> { self.call(&[front, path.as_bytes()].concat()) }
-
     fn by_handle(&mut self, kind: u8, handle: u32, rest: &[u8]) -> Or<Given> {
         self.call(&[&[kind], &handle.to_le_bytes()[..], rest].concat())
     }
@@ -146,4 +142,8 @@ impl<A: FnMut(&[u8]) -> Vec<u8>> Files<A> {
     pub fn stat(&mut self, path: &str) -> Or<Vec<u8>> { Ok(self.by_path(&[13], path)?.1) }
     pub fn map(&mut self, n: u32) -> Or<u64> { Ok(self.call(&[&[14], &n.to_le_bytes()[..]].concat())?.0) }
     pub fn unmap(&mut self, at: u64) -> Or<()> { self.call(&[&[15], &at.to_le_bytes()[..]].concat()).map(|_| ()) }
+    /// Nothing is replaced. A path of over 255 bytes has no byte for its length: the 0 in its place is refused 22.
+    pub fn rename(&mut self, path: &str, new: &str) -> Or<()> {
+        self.by_path(&[&[16, path.len().min(256) as u8], path.as_bytes()].concat(), new).map(|_| ())
+    }
 }

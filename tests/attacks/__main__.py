@@ -12,7 +12,7 @@ from model.script import Unrandom
 
 from guard import ASK, STOPPED, Guard
 
-from . import lives, outside, readers, replies
+from . import lives, outside, readers, renames, replies
 from .trial import A, SETUP, Differs, come_to, words_of
 
 HEAD = """# Attacks on the file interface, and what they come to
@@ -31,7 +31,8 @@ Before: `/a` (2,500 bytes) and `/b` (2,048) are open, `/d` holds `/d/c`.
 EVERY = [  # the requests that the setup has not
     calls.read(A, 2500), calls.truncate(A, 1000), calls.truncate(A, 3000), calls.read(A, 3000), calls.chmod(5, b"/a"),
     calls.stat(b"/a"), calls.readdir(b"/"), calls.readdir(b"/d"), calls.stat(b"/d"), calls.close(A),
-    calls.remove(b"/d/c"), calls.rmdir(b"/d"), calls.map_(2 * UNIT), calls.map_(UNIT), calls.unmap(UNIT),
+    calls.rename(b"/d/c", b"/n"), calls.rename(b"/n", b"/d/c"), calls.remove(b"/d/c"), calls.rmdir(b"/d"),
+    calls.map_(2 * UNIT), calls.map_(UNIT), calls.unmap(UNIT),
 ]
 
 
@@ -90,13 +91,14 @@ def document():
     yield "## While a guard runs\n"
     yield from table(
         ["from", "the host", "the client", "comes to"],
-        [(row.source, row.does, client_words(row.calls), come_to(row)) for row in replies.ROWS],
+        [(row.source, row.does, client_words(row.calls), come_to(row)) for row in [*replies.ROWS, *renames.ROWS]],
     )
     yield f"Beside them (000, 7.2, semi-random bad values; 001, 8.2): {lies():,} wrong replies, each sort that"
     yield "tests/model knows to each request of a list of calls, each on a guard of its own. Each stops it at once.\n"
     yield "## Over saves and loads, and several guards\n"
     yield from table(
-        ["from", "the host", "comes to", "not caught, by rule: what a builder does"], [life(*row) for row in lives.ROWS]
+        ["from", "the host", "comes to", "not caught, by rule: what a builder does"],
+        [life(*row) for row in [*lives.ROWS, *renames.LIVES]],
     )
     yield "## A read-only guard\n"
     yield "It has loaded the save of a guard; `/a` and `/b` are closed. Calls that it does not take are refused 30.\n"

@@ -20,7 +20,7 @@ LOOK = [OPEN_A, calls.read(A, 2500), calls.seek(A, 1000), calls.read(A, 50), cal
 CHANGES = [  # each sort of call that it does not take, where a guard would do something
     calls.create(7, b"/n"), calls.mkdir(7, b"/n"), calls.open_(2, b"/b"), calls.open_(3, b"/b"), calls.write(A, b"x"),
     calls.truncate(A, 0), calls.remove(b"/b"), calls.rmdir(b"/d"), calls.chmod(0, b"/a"), calls.map_(UNIT),
-    calls.unmap(UNIT),
+    calls.unmap(UNIT), calls.rename(b"/b", b"/n"),
 ]
 
 
@@ -158,7 +158,7 @@ def hostile_runs():
 
 LIVES = [  # as in lives
     ("own", "would let the client change something: each sort of call", tries_to_change,
-     "refused 30, 11 times, the host is not asked; the save is the one that was loaded", ""),
+     "refused 30, 12 times, the host is not asked; the save is the one that was loaded", ""),
     ("004, 3.2.1, 5.10 (data and metadata)",
      "hands out the image of the save before; the read-only guard has the last digest", old_image,
      "refused 74 at the load", ""),

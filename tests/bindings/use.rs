@@ -35,6 +35,16 @@ fn first_life<A: FnMut(&[u8]) -> Vec<u8>>(f: &mut Files<A>) -> (Vec<u8>, [u8; 32
     show("stat", f.stat("/d/a"), stat);
     show("listing", f.readdir("/d"), listing);
     show("open", f.open("/none", READ), number);
+    show("rename", f.rename("/d", "/e"), nothing);
+    show("listing", f.readdir("/e"), listing);
+    show("seek", f.seek(3, 1400), number);
+    show("read", f.read(3, 4000), sums);
+    show("rename", f.rename("/e", "/e/a/b"), nothing);
+    show("rename", f.rename("/e", "/e/b"), nothing);
+    show("rename", f.rename("/e/a", "/e"), nothing);
+    show("rename", f.rename("/e", "/e"), nothing);
+    show("rename", f.rename("/e", "/d"), nothing);
+    show("rename", f.rename(&format!("/d{}", "/a".repeat(128)), "/e"), nothing);
     show("save", f.guard.save(), |_| String::new());
     show("chmod", f.chmod("/d/a", 4), nothing);
     show("close", f.close(3), nothing);
@@ -91,6 +101,7 @@ fn looked_at<A: FnMut(&[u8]) -> Vec<u8>>(f: &mut Files<A>, lies: &Cell<bool>, im
     show("open", f.open("/e", 4), number);
     show("map", f.map(4096), number);
     show("unmap", f.unmap(4096), nothing);
+    show("rename", f.rename("/e", "/f"), nothing);
     show("open", f.open("/e", READ), number);
     show("write", f.write(2, b"x"), number);
     show("seek", f.seek(2, 1000), number);

@@ -131,6 +131,10 @@ guard_outcome __wrap_guard_entry_call(uint8_t *memory, size_t n, const uint8_t *
     if (refuses_longer(a, q))
         return short_buffer;
     guard_outcome o = __real_guard_entry_call(memory, n, call, l, answer, a, request, q);
+    if (o.kind == GUARD_ASK && call[0] == GUARD_RENAME) {
+        change("a rename's first length", request + 1);
+        change("a rename's last byte", request + o.length - 1);
+    }
     to_memory(memory, n);
     to_input(call, l);
     to_buffers(o, answer, a, request, q);

@@ -10,7 +10,9 @@ from functools import partial
 from model import calls, readonly
 from model.dishonest import QUESTIONS, asked
 from model.events import Call, Load, Refused, Reply
-from model.rules import ADDRESS, ANSWER, CREATE, MAP, MAX_COUNT, MAX_MAP, NO_SPACE, PAGE, REPLY, UNIT, UNMAP, WRITE, put
+from model.rules import (
+    ADDRESS, ANSWER, CREATE, MAP, MAX_COUNT, MAX_MAP, NO_SPACE, PAGE, RENAME, REPLY, UNIT, UNMAP, WRITE, put,
+)
 from model.transcripts import write_list
 from model.tree import digest
 
@@ -18,7 +20,7 @@ MANY = range(1101)
 EDGES = [MAX_COUNT + 5, ADDRESS + UNIT, ANSWER, 44_776, 65_536, REPLY]
 LARGE = [edge + near for edge in EDGES for near in (-1, 0, 1)]
 LARGEST = [(1 << 20) + near for near in (-1, 0, 1)]
-KINDS = [*range(UNMAP + 3), 255]
+KINDS = [*range(RENAME + 3), 255]
 FILLS = [b"\0", b"\xff"]
 ENDED = [Refused(28)]  # what ends a call, where it answers a reply
 
@@ -68,11 +70,15 @@ def some_calls():
             yield from (filled(bytes([kind]), fill, n) for n in [1, 2, 3, 5, 9, 13, 14, 300, 1100, *LARGE])
     for kind in (MAP, UNMAP):
         yield from (filled(bytes([kind]) + put(UNIT, 4), b"\0", n) for n in range(65))
-    for kind in range(CREATE, UNMAP + 1):
+    for kind in range(CREATE, RENAME + 1):
         yield from (filled(bytes([kind]) + put(2, 4), b"\0", n) for n in [*MANY, *LARGE])
         for head in (bytes([kind]), bytes([kind, 3])):
             yield from (filled(head, b"/aaa", n) for n in range(300))
             yield from (filled(head + b"/", b"n", n) for n in range(300))
+    for first in (1, 2, 4, 8, 32, 33, 34, 128, 252, 254, 255):
+        for name in (b"/aaa", b"/a"):
+            lengths = [*range(first, first + 40), 257, 258, 509, 510, 514]
+            yield from (filled(bytes([RENAME, first]), name, n) for n in lengths)
 
 
 def call_events():

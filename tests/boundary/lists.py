@@ -7,14 +7,16 @@ from random import Random
 
 from model import calls
 from model.events import Call, Reply, Save
-from model.generate import generate, generate_filling, generate_growing, generate_mapping, generate_read_only
+from model.generate import (
+    generate, generate_filling, generate_growing, generate_mapping, generate_read_only, generate_renaming,
+)
 from model.image import LONGEST
 from model.longer import longer
 from model.rules import ANSWER, REQUEST
 from model.transcripts import event_line
 from model.tree import GUARDS
 
-MAKERS = {0: generate_growing, 1: generate_filling, 3: generate_mapping, 5: generate_read_only}
+MAKERS = {0: generate_growing, 1: generate_filling, 3: generate_mapping, 4: generate_renaming, 5: generate_read_only}
 
 
 def pair(seed):
@@ -37,8 +39,8 @@ def maker_of(seed):
 
 
 def generated(seed):
-    """A list from a seed, with its outcomes, one of six of growing files, one of maps, one of a full disk, one of a
-    read-only guard; now and then buffers are longer.
+    """A list from a seed, with its outcomes, one of six of growing files, one of maps, one of a full disk, one of
+    renames, one of a read-only guard; now and then buffers are longer.
     """
     recording = maker_of(seed)(seed)
     if not recording.guard.stopped:

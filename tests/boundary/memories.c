@@ -246,6 +246,27 @@ static void unmap(uint64_t address)
     expect(record(CALL, bytes, n, NULL), GUARD_REFUSED);
 }
 
+static size_t rename_call(uint8_t *to, const char *first, const char *second)
+{
+    to[0] = GUARD_RENAME;
+    to[1] = (uint8_t)strlen(first);
+    memcpy(to + 2, first, strlen(first));
+    memcpy(to + 2 + strlen(first), second, strlen(second));
+    return 2 + strlen(first) + strlen(second);
+}
+
+static void rename_path(const char *first, const char *second)
+{
+    uint8_t bytes[2 + 2 * GUARD_PATH_LENGTH];
+    call(bytes, rename_call(bytes, first, second));
+}
+
+static void refused_rename(const char *first, const char *second)
+{
+    uint8_t bytes[2 + 2 * GUARD_PATH_LENGTH];
+    expect(record(call_letter, bytes, rename_call(bytes, first, second), NULL), GUARD_REFUSED);
+}
+
 /* A call whose first request finds the disk full: the host has done nothing, and nothing is pending. */
 static void full(const uint8_t *bytes, size_t n)
 {
@@ -278,6 +299,7 @@ static void look(uint64_t a)
     refused_path(GUARD_REMOVE, -1, "/b");
     refused_path(GUARD_CHMOD, 8, "/b");
     refused_path(GUARD_STAT, -1, "/absent");
+    refused_rename("/b", "/new");
     at_path(GUARD_OPEN, 1, "/d/a");
     at_handle(GUARD_SEEK, a, 1000, 8);
     at_handle(GUARD_READ, a, 30, 4);
@@ -308,6 +330,9 @@ static void run_session(void)
     full_path(GUARD_CREATE, 7, "/d/new");
     full_path(GUARD_MKDIR, 7, "/new");
     full_growth(a, 40);
+    rename_path("/d", "/moved");
+    refused_rename("/moved", "/moved/e/x");
+    rename_path("/moved", "/d");
     at_path(GUARD_STAT, -1, "/d/a");
     at_path(GUARD_READDIR, -1, "/d");
     at_path(GUARD_CHMOD, 4, "/d/a");

@@ -99,6 +99,23 @@ static void calls_of_maps(void)
     NOTHING(guard_map_call(to, room, SIZE_MAX - 4095));
 }
 
+/* A rename's paths as they are: their form is the guard's business, but a length of 256 has no byte. */
+static void calls_of_rename(void)
+{
+    static char longest[GUARD_PATH_LENGTH + 2], call[2 + 2 * GUARD_PATH_LENGTH];
+    BUILDS("\20\2/a/bc", guard_rename_call(to, room, "/a", "/bc"));
+    BUILDS("\20\4/a/b/", guard_rename_call(to, room, "/a/b", "/"));
+    BUILDS("\20\2/a", guard_rename_call(to, room, "/a", ""));
+    BUILDS("\20\0/a", guard_rename_call(to, room, "", "/a"));
+    memset(longest, 'n', GUARD_PATH_LENGTH);
+    memset(call, 'n', sizeof call);
+    call[0] = GUARD_RENAME;
+    call[1] = (char)GUARD_PATH_LENGTH;
+    BUILDS_N(call, sizeof call, guard_rename_call(to, room, longest, longest));
+    longest[GUARD_PATH_LENGTH] = 'n';
+    NOTHING(guard_rename_call(to, room, longest, "/a"));
+}
+
 /* The lengths that the requirements give as numbers. */
 static void lengths(void)
 {
@@ -114,7 +131,7 @@ static void longest_call(void)
     static uint8_t call[GUARD_CALL_LENGTH + 1];
     memset(call, 'w', sizeof call);
     memcpy(call, "\7\2\0\0\0", 5);
-    check(GUARD_CALL_LENGTH == 5 + GUARD_TRANSFER_LENGTH && GUARD_CALL_LENGTH >= 2 + GUARD_PATH_LENGTH,
+    check(GUARD_CALL_LENGTH == 5 + GUARD_TRANSFER_LENGTH && GUARD_CALL_LENGTH >= 2 + 2 * GUARD_PATH_LENGTH,
         "the longest call");
     for (room = GUARD_CALL_LENGTH - 2; room <= GUARD_CALL_LENGTH + 1; room++) {
         memset(to, UNTOUCHED, sizeof to);
@@ -240,7 +257,7 @@ static void path_requests(void)
         check(!r.bytes && r.descriptor == 0 && r.page == 0 && r.size == 0, "what there is no field for");
         check(!reads(&r, bare, 1), "a path that is missing");
     }
-    check(!reads(&r, "", 0) && !reads(&r, "\0/", 2) && !reads(&r, "\5\1\0\0\0", 5) && !reads(&r, "\20/", 2),
+    check(!reads(&r, "", 0) && !reads(&r, "\0/", 2) && !reads(&r, "\5\1\0\0\0", 5) && !reads(&r, "\21/", 2),
         "no request");
 }
 
@@ -284,6 +301,29 @@ static void map_requests(void)
     check(r.address == UINT64_C(0x8000000100003000) && r.length == 0 && r.descriptor == 0, "an unmap's address");
     check(!reads(&r, "\17\0\0\0\0\0\0\0\0", 9) && !reads(&r, "\17\1\60\0\0\1\0\0\200", 9), "no map's address");
     check(!reads(&r, "\17\0\60\0\0\1\0\0", 8) && !reads(&r, "\17\0\60\0\0\1\0\0\200\0", 10), "an unmap's length");
+}
+
+static void rename_requests(void)
+{
+    static const char bytes[] = "\20\2/a/bc/d";
+    char longest[2 + 2 * GUARD_PATH_LENGTH + 1];
+    guard_request r;
+    room = 0;
+    check(reads(&r, bytes, 9) && r.kind == GUARD_RENAME && r.mode == 0 && r.descriptor == 0 && !r.bytes, "rename");
+    check(r.path == bytes + 2 && r.path_length == 2, "a rename's first path");
+    check(r.new_path == bytes + 4 && r.new_path_length == 5, "a rename's second path");
+    check(!reads(&r, bytes, 1) && !reads(&r, bytes, 2) && !reads(&r, bytes, 3) && !reads(&r, bytes, 4),
+        "a rename that is cut short");
+    check(!reads(&r, "\20\0/a", 4) && !reads(&r, "\20\1a/b", 5) && !reads(&r, "\20\2/ab", 5), "paths of another form");
+    check(!reads(&r, "\20\3/a/bc", 7) && !reads(&r, "\20\2/a/bc/", 8) && !reads(&r, "\20\377/a/b", 6),
+        "a length that is not the first path's");
+    for (size_t i = 0; i < sizeof longest; i++) /* two paths of 255 bytes, and a byte more */
+        longest[i] = (i < 2 + GUARD_PATH_LENGTH ? i - 2 : i - 2 - GUARD_PATH_LENGTH) % 32 == 0 ? '/' : 'n';
+    longest[0] = GUARD_RENAME;
+    longest[1] = (char)GUARD_PATH_LENGTH;
+    check(reads(&r, longest, sizeof longest - 1) && r.new_path_length == GUARD_PATH_LENGTH, "the longest rename");
+    check(!reads(&r, longest, sizeof longest), "a second path of 256");
+    check(reads(&r, "\15/a", 3) && !r.new_path && r.new_path_length == 0, "no second path");
 }
 
 /* Paths, judged by this header and by the guard: stat refuses 22 or 36, or walks and finds nothing (2), or asks. */
@@ -332,10 +372,10 @@ static const char *const reasons[] = {"", "length", "status", "id", "descriptor"
     "map"};
 static const char *const calls[] = {"no call", "create", "mkdir", "open", "close", "seek", "read", "write", "truncate",
     "remove", "rmdir", "chmod",
-                                    "readdir", "stat", "map", "unmap", "no call"};
+                                    "readdir", "stat", "map", "unmap", "rename", "no call"};
 static const char *const requests[] = {"no request", "create", "mkdir", "open", "close", "no request", "fetch", "store",
     "cut", "remove", "rmdir", "chmod",
-                                       "readdir", "stat", "map", "unmap", "no request"};
+                                       "readdir", "stat", "map", "unmap", "rename", "no request"};
 static const char *const outcomes[] = {"done", "ask", "refused", "stopped", "no outcome"};
 
 static int begins(const char *text, const char *word)
@@ -357,7 +397,7 @@ static void words(void)
         check(begins(guard_stop_text(n), reasons[n]), reasons[n]);
     check(!strcmp(guard_stop_text(0), "no reason of the guard") && !strcmp(guard_stop_text(9), guard_stop_text(0)),
         "eight reasons");
-    for (int n = 0; n <= GUARD_UNMAP + 1; n++)
+    for (int n = 0; n <= GUARD_RENAME + 1; n++)
         check(!strcmp(guard_call_name(n), calls[n]) && !strcmp(guard_request_name(n), requests[n]), calls[n]);
     for (int n = 0; n <= 4; n++)
         check(!strcmp(guard_outcome_name(n), outcomes[n]), outcomes[n]);
@@ -368,6 +408,7 @@ int main(void)
     calls_by_path();
     calls_by_handle();
     calls_of_maps();
+    calls_of_rename();
     lengths();
     longest_call();
     stats();
@@ -377,6 +418,7 @@ int main(void)
     path_requests();
     page_requests();
     map_requests();
+    rename_requests();
     paths();
     words();
     printf("client: %d checks of bytes and words\n", checks);

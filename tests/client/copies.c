@@ -190,6 +190,7 @@ static void run_looking(size_t length)
     expect(look(guard_readdir_call(call, sizeof call, "/")), GUARD_DONE, 1, "list what is shown");
     expect(look(guard_create_call(call, sizeof call, "/b", 7)), GUARD_REFUSED, GUARD_READ_ONLY, "create");
     expect(look(guard_map_call(call, sizeof call, 4096)), GUARD_REFUSED, GUARD_READ_ONLY, "map");
+    expect(look(guard_rename_call(call, sizeof call, name, "/b")), GUARD_REFUSED, GUARD_READ_ONLY, "rename");
     expect(recorded_outcome(guard_reader_client_save(&looker, image, GUARD_IMAGE_LENGTH, digest), image), GUARD_DONE,
         length, "a save of what was loaded");
     check(!memcmp(image, kept, length), "which is the same image");
@@ -216,6 +217,8 @@ static void run(void)
     expect(carry(guard_close_call(call, sizeof call, 2)), GUARD_DONE, 0, "close");
     expect(carry(guard_readdir_call(call, sizeof call, "/")), GUARD_DONE, 1, "readdir");
     expect(carry(guard_map_call(call, sizeof call, GUARD_MAP_LENGTH)), GUARD_DONE, UINT64_MAX - 65535, "map");
+    expect(carry(guard_rename_call(call, sizeof call, name, "/b")), GUARD_DONE, 0, "rename");
+    expect(carry(guard_rename_call(call, sizeof call, "/b", name)), GUARD_DONE, 0, "rename back");
     guard_outcome o = recorded_outcome(guard_client_save(&c, image, GUARD_IMAGE_LENGTH, digest), image);
     expect(o, GUARD_DONE, 4 + 15 + 47 + 4 + 64, "save");
     record(digest, sizeof digest);

@@ -19,7 +19,7 @@ from model.script import Unrandom
 from model.tree import tree
 
 from . import wire
-from .covered import Covered
+from .covered import Covered, has_late_parent
 
 POWER_LOSS, WITHIN_REQUEST = "power loss", "killed within a request"
 FULL = -28  # the status of a full disk
@@ -182,6 +182,7 @@ class Client(Recording):
         self.host.saved(self.saved.digest)
         self.covered.met("restarts", "saves")
         self.covered.met("maps", "a save with maps", self.guard.maps)
+        self.covered.met("renames", "a save with a node before its parent", has_late_parent(self.guard.nodes))
         return self.saved
 
     def restart(self, thing):
@@ -200,6 +201,8 @@ class Client(Recording):
         self.addresses = {}
         if saved:
             self.guard.step(Load(saved.data, saved.digest))
+            is_late = has_late_parent(self.guard.nodes)
+            self.covered.met("renames", "a restart with a node before its parent", is_late)
             self.host.loaded(saved.digest, None)
         else:
             self.host.root = Entry(id=1, kind=DIRECTORY, mode=7)

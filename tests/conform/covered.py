@@ -1,5 +1,5 @@
-"""What a run has met: calls, requests, page edges, maps, restarts, limits; full disks, where the host has met one. A
-run that passes says so, and says what it has not met.
+"""What a run has met: calls, requests, page edges, maps, renames, restarts, limits; full disks, where the host has met
+one. A run that passes says so, and says what it has not met.
 """
 
 from collections import Counter
@@ -8,8 +8,9 @@ from model import rules
 from model.events import Done
 from model.generate import BY_HANDLE
 from model.rules import (
-    CHMOD, CREATE, ID, MAP, MAX_COUNT, MAX_MAP, MAX_MAPS, MAX_NAME, MAX_NODES, MAX_OPEN, MAX_PAGES, MAX_PATH, MAX_SIZE,
-    MKDIR, OPEN, PAGE, READ, READDIR, TRUNCATE, UNIT, UNMAP, WRITE, pages_between, unsigned,
+    CHMOD, CREATE, DIRECTORY, ID, MAP, MAX_COUNT, MAX_MAP, MAX_MAPS, MAX_NAME, MAX_NODES, MAX_OPEN, MAX_PAGES, MAX_PATH,
+    MAX_SIZE, MKDIR, OPEN, PAGE, READ, READDIR, RENAME, TRUNCATE, UNIT, UNMAP, WRITE, pages_between, split_paths,
+    unsigned,
 )
 from model.tree import CALLS
 
@@ -29,6 +30,12 @@ WANTED = {
     "maps": [
         f"a map of {UNIT:,} bytes", f"a map of {MAX_MAP:,} bytes", f"{MAX_MAPS} maps", "an unmap of the first",
         "an unmap of the last", "a map after an unmap", "a save with maps", "a restart with maps",
+    ],
+    "renames": [
+        "a file renamed", "an open file renamed", "an empty directory renamed", "a tree renamed",
+        "a tree with an open file renamed", "a rename within a directory", "a rename to another directory",
+        "a rename to its own path", "a rename to a path that was left", f"a path of {MAX_PATH} by a rename",
+        "a save with a node before its parent", "a restart with a node before its parent",
     ],
     "restarts": [
         "saves", "from no save", "power loss", "killed between two requests", "killed within a request",
@@ -52,6 +59,7 @@ class Covered:
         self.counts = Counter()
         self.cut = set()
         self.has_unmapped = False
+        self.left = set()  # paths that nodes had before a rename
 
     def met(self, group, name, condition=True):
         self.counts[group, name] += bool(condition)
@@ -66,8 +74,12 @@ class Covered:
         self.met("full disks", names[request[0]])
 
     def look(self, tree, call):
-        """Size and cursor of the call's file, before it; of an unmap, its place among the maps, and how many there are.
+        """Size and cursor of the call's file, before it; of an unmap, its place among the maps, and how many there are;
+        of a rename, the node and its parent.
         """
+        if call[:1] == bytes([RENAME]):
+            node = node_at(tree, split_paths(call[1:])[0])
+            return node, node.parent if node else 0
         if call[:1] == bytes([UNMAP]):
             addresses = list(tree.maps)
             address = unsigned(call[1:])
@@ -87,6 +99,8 @@ class Covered:
             self.listing(tree, call)
         elif call[0] in (MAP, UNMAP):
             self.maps(tree, call, *before)
+        elif call[0] == RENAME:
+            self.rename(tree, call, *before)
         if call[0] in (CREATE, MKDIR, OPEN, WRITE, TRUNCATE, CHMOD):
             self.limits(tree)
 
@@ -134,6 +148,27 @@ class Covered:
         self.met("maps", f"{MAX_MAPS} maps", len(tree.maps) == MAX_MAPS)
         self.met("maps", "a map after an unmap", self.has_unmapped)
 
+    def rename(self, tree, call, node, parent):
+        """Of a node that is at its new place, and its parent of before."""
+        path, new_path = split_paths(call[1:])
+        if path == new_path:
+            return self.met("renames", "a rename to its own path")
+        within = [other for other in tree.nodes if is_within(tree.nodes, other, node)]
+        is_open = any(other.id in tree.open_files for other in within)
+        is_directory, has_tree = node.kind == DIRECTORY, len(within) > 1
+        longest = max(path_length(tree.nodes, other) for other in within)
+        for name, condition in (
+            ("a file renamed", not is_directory), ("an open file renamed", not is_directory and is_open),
+            ("an empty directory renamed", is_directory and not has_tree), ("a tree renamed", has_tree),
+            ("a tree with an open file renamed", has_tree and is_open),
+            ("a rename within a directory", node.parent == parent),
+            ("a rename to another directory", node.parent != parent),
+            ("a rename to a path that was left", new_path in self.left),
+            (f"a path of {MAX_PATH} by a rename", longest == MAX_PATH),
+        ):
+            self.met("renames", name, condition)
+        self.left.add(path)
+
     def listing(self, tree, call):
         _, directory = tree.walk(rules.read_path(call[1:]))
         children = len(tree.children(directory))
@@ -176,6 +211,32 @@ class Covered:
     def missing(self):
         wanted = {**WANTED, **({"full disks": FULL_DISKS} if self.full_text() else {})}
         return [name for group, names in wanted.items() for name in names if not self.counts[group, name]]
+
+
+def node_at(tree, path):
+    """None where there is none."""
+    node = tree.nodes[0]
+    for name in filter(None, path.split(b"/")):
+        node = next((child for child in tree.children(node) if child.name == name), None) if node else None
+    return node
+
+
+def is_within(nodes, node, top):
+    """Whether a node is this one or lies beneath it."""
+    parents = {other.id: other for other in nodes}
+    while node is not top and node.parent:
+        node = parents[node.parent]
+    return node is top
+
+
+def has_late_parent(nodes):
+    """Whether a node stands before its parent, as only a rename brings it."""
+    seen = {0}
+    for node in nodes:
+        if node.parent not in seen:
+            return True
+        seen.add(node.id)
+    return False
 
 
 def file_size(tree, handle):

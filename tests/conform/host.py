@@ -12,7 +12,7 @@ import sys
 PAGE = 1024
 UNIT, SPACE = 4096, 1 << 64
 FILE, DIRECTORY = 1, 2
-CREATE, MKDIR, OPEN, CLOSE, _, FETCH, STORE, CUT, REMOVE, RMDIR, CHMOD, READDIR, STAT, MAP, UNMAP = range(1, 16)
+CREATE, MKDIR, OPEN, CLOSE, _, FETCH, STORE, CUT, REMOVE, RMDIR, CHMOD, READDIR, STAT, MAP, UNMAP, RENAME = range(1, 17)
 REQUEST, SYNC, START = 1, 2, 3
 ROOM, FULL = 200, 0xFFFF_FFE4
 
@@ -111,6 +111,14 @@ class Host:
         self.nodes[fields[1:]].mode = fields[0]
         return four(0)
 
+    def rename(self, fields):
+        """The node and all beneath it; open files are of nodes, not of paths, and go on."""
+        old, new = fields[1 : 1 + fields[0]], fields[1 + fields[0] :]
+        self.nodes[new] = self.nodes.pop(old)
+        for path in [path for path in self.nodes if path.startswith(old + b"/")]:
+            self.nodes[new + path[len(old) :]] = self.nodes.pop(path)
+        return four(0)
+
     def readdir(self, path):
         above = path.rstrip(b"/") + b"/"
         names = {other[len(above) :]: node for other, node in self.nodes.items() if other.startswith(above)}
@@ -166,7 +174,7 @@ def entry(name, node):
 REQUESTS = {
     CREATE: Host.create, MKDIR: Host.mkdir, OPEN: Host.open, CLOSE: Host.close, FETCH: Host.fetch, STORE: Host.store,
     CUT: Host.cut, REMOVE: Host.remove, RMDIR: Host.remove, CHMOD: Host.chmod, READDIR: Host.readdir, STAT: Host.stat,
-    MAP: Host.map, UNMAP: Host.unmap,
+    MAP: Host.map, UNMAP: Host.unmap, RENAME: Host.rename,
 }
 FRAMES = {REQUEST: Host.request, SYNC: Host.sync, START: Host.start}
 

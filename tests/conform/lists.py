@@ -13,7 +13,7 @@ from model.events import Done
 from model.generate import WORLDS, build
 from model.rules import (
     CHMOD, CLOSE, CREATE, MAP, MAX_COUNT, MAX_MAP, MAX_MAPS, MAX_OPEN, MAX_PATH, MKDIR, OPEN, PAGE, READDIR, READ_RIGHT,
-    REMOVE, RMDIR, STAT, TRUNCATE, UNIT, UNMAP, WRITE,
+    REMOVE, RENAME, RMDIR, STAT, TRUNCATE, UNIT, UNMAP, WRITE,
 )
 
 from .client import RESTARTS, WITHIN_REQUEST, Restart, Saved
@@ -56,12 +56,13 @@ class List:
             self.generator.enter(*TREES[self.turn - SMALL])
         elif self.turn > 0:
             self.generator.make_files()
+            self.client.do(calls.rename(b"/a/d", b"/b/d"))  # to a directory that is younger
         else:
             self.tour()
 
     def tour(self):
-        """What is rare elsewhere: each page edge, as many maps as there may be, a file that nobody may open again, a
-        path as long as can be, a name of any bytes.
+        """What is rare elsewhere: each page edge, as many maps as there may be, a file that nobody may open again,
+        renames of each sort, a path as long as can be, a name of any bytes.
         """
         do, handle = self.client.do, self.client.do(calls.create(7, b"/a")).number
         do(calls.open_(3, b"/a"))
@@ -82,8 +83,11 @@ class List:
             do(calls.seek(handle, 0))
             do(calls.read(handle, MAX_COUNT))
         self.tour_of_maps()
+        self.tour_of_renames()
         build(self.client, deep(MAX_PATH - 4))
-        do(calls.create(7, self.paths()[-1] + b"/\xff\n\x01"))
+        deepest = self.paths()[-1]
+        do(calls.create(7, deepest + b"/\xff\n\x01"))
+        do(calls.rename(deepest + b"/\xff\n\x01", deepest + b"/\xff\n\x02"))
 
     def tour_of_maps(self):
         """Sixteen, of which the first, the last and one between make room for others; some live on."""
@@ -97,6 +101,34 @@ class List:
             do(calls.map_(length))
         for address in list(maps)[::2]:
             do(calls.unmap(address))
+
+    def tour_of_renames(self):
+        """A tree with an open file goes beneath a directory that is younger; the file goes on, and out of the tree
+        again, to the path that the tree had. Beside it a name that begins as the tree's does.
+        """
+        do = self.client.do
+        for path in (b"/r", b"/r/s", b"/rr", b"/t"):
+            do(calls.mkdir(5 if path == b"/r/s" else 7, path))
+        do(calls.chmod(7, b"/r/s"))
+        handle = do(calls.create(6, b"/r/s/f")).number
+        do(calls.open_(3, b"/r/s/f"))
+        do(calls.write(handle, self.random.randbytes(PAGE + 5)))
+        for path, new_path in (
+            (b"/r", b"/t/u"), (b"/rr", b"/t/rr"), (b"/t/u/s/f", b"/t/u/s/g"), (b"/t/u/s/g", b"/t/u/s/g"),
+            (b"/t/u/s/g", b"/r"),
+        ):
+            do(calls.rename(path, new_path))
+            do(calls.seek(handle, PAGE))
+            do(calls.write(handle, b"on"))
+            self.look_at_names(b"/", b"/t", b"/t/u", b"/t/u/s")
+            do(calls.stat(new_path))
+        do(calls.close(handle))
+        self.read(b"/r")
+        do(calls.rename(b"/t", b"/v"))
+
+    def look_at_names(self, *paths):
+        for path in paths:
+            self.client.do(calls.readdir(path))
 
     def work(self, count):
         for _ in range(count):
@@ -114,7 +146,9 @@ class List:
     def changing_call(self):
         """A call that changes something at the host; the root's mode where nothing else comes."""
         for _ in range(20):
-            kind = self.random.choice([CREATE, MKDIR, WRITE, WRITE, WRITE, TRUNCATE, REMOVE, RMDIR, CHMOD, MAP, UNMAP])
+            kind = self.random.choice(
+                [CREATE, MKDIR, WRITE, WRITE, WRITE, TRUNCATE, REMOVE, RMDIR, CHMOD, MAP, UNMAP, RENAME, RENAME]
+            )
             call = self.generator.makers[kind](self.generator, kind)
             if self.client.would_ask(call):
                 return call

@@ -8,8 +8,8 @@ from pathlib import Path
 
 from model import rules
 from model.rules import (
-    ADDRESS, CHMOD, CREATE, DIRECTORY, ID, MAP, MKDIR, OPEN, PAGE, READ, READDIR, SEEK, SPACE, STAT, TRUNCATE, UNIT,
-    UNMAP, WRITE, overlap, signed, unsigned,
+    ADDRESS, CHMOD, CREATE, DIRECTORY, ID, MAP, MKDIR, OPEN, PAGE, READ, READDIR, RENAME, SEEK, SPACE, STAT, TRUNCATE,
+    UNIT, UNMAP, WRITE, overlap, signed, split_paths, unsigned,
 )
 
 from .client import Do, Restart
@@ -44,6 +44,8 @@ def call_words(do):
         return f"{name} {shown(do.file)}{FIELDS.get(kind, lambda fields: '')(fields)}"
     if kind in (MAP, UNMAP):
         return map_call_words(do)
+    if kind == RENAME:
+        return f"rename {' to '.join(map(shown, split_paths(fields)))}"
     if kind == OPEN:
         return f"open {shown(fields[1:])} for {RIGHTS[fields[0]]}"
     if kind in (CREATE, MKDIR, CHMOD):

@@ -12,8 +12,8 @@ from model.events import Call, Load, Reply, Save
 from model.generate import BY_HANDLE
 from model.recording import FULL_DISK
 from model.rules import (
-    ADDRESS, CREATE, MAP, MKDIR, NO_SPACE, OPEN, PAGE, READ, READDIR, SEEK, STAT, TRUNCATE, UNMAP, WRITE, signed,
-    split_listing, unsigned,
+    ADDRESS, CREATE, MAP, MKDIR, NO_SPACE, OPEN, PAGE, READ, READDIR, RENAME, SEEK, STAT, TRUNCATE, UNMAP, WRITE,
+    signed, split_listing, split_paths, unsigned,
 )
 from model.tree import GUARDS, guard
 
@@ -81,7 +81,7 @@ class Teller:
     def called(self, data):
         """A call whose form is wrong has no words."""
         try:
-            if len(data) != MAP_CALLS.get(data[0], len(data)):
+            if len(data) != MAP_CALLS.get(data[0], len(data)) or data[0] == RENAME and b"" in split_paths(data[1:]):
                 return f"a call that is none: {digits(data)}"
             if data[0] not in BY_HANDLE:
                 return call_words(Do(data))

@@ -7,7 +7,7 @@
  * The archive has no coverage of its own: what came back to what is counted for libFuzzer in `seen`. All that is lent
  * lies against unreadable pages (tests/boundary/places.h), at the low or the high end by the input's first byte, or
  * near the low one; that byte also says whether the guard is a read-only one. */
-#include "guard.h"
+#include "guard_client.h"
 #include "host.h"
 #include "places.h"
 #include "records.h"
@@ -86,10 +86,10 @@ static size_t bits(uint64_t n)
 /* Coverage: what was handed in, to what pending request, what came back. */
 static void count(enum what what, guard_outcome o)
 {
-    size_t kind = what == CALL ? (input.length ? input.at[0] % 16 : 15) : known.pending ? known.asked[0] : 0;
+    size_t kind = what == CALL ? (input.length ? input.at[0] % 32 : 31) : known.pending ? known.asked[0] : 0;
     size_t number = o.kind == GUARD_REFUSED || o.kind == GUARD_STOPPED ? o.number
         : bits(o.number) + 16 * bits(o.length);
-    seen[(((what * 16 + kind) * 4 + (size_t)o.kind) * 251 + number * 7) % sizeof seen]++;
+    seen[(((what * 32 + kind) * 4 + (size_t)o.kind) * 251 + number * 7) % sizeof seen]++;
     seen[(known.open_files * 61 + (size_t)known.is_reader * 4099 + bits(known.call_length) * 13 + kind) %
         sizeof seen]++;
 }
@@ -134,12 +134,49 @@ static int is_refused(guard_outcome o, uint64_t number) { return o.kind == GUARD
 /* An unmap of right form: a guard refuses it 22 where no such map lives. */
 static int is_unmap(void) { return input.length == 9 && input.at[0] == GUARD_UNMAP; }
 
+/* 22, 36, or 0 where a path's form is right. */
+static unsigned path_number(const uint8_t *path, size_t n)
+{
+    unsigned number = n > GUARD_PATH_LENGTH ? GUARD_TOO_LONG : 0;
+    if (n == 0 || path[0] != '/')
+        return GUARD_MALFORMED;
+    for (size_t at = 1, end; n > 1 && at <= n; at = end + 1) {
+        for (end = at; end < n && path[end] != '/';)
+            if (path[end++] == 0)
+                return GUARD_MALFORMED;
+        if (end == at || (path[at] == '.' && (end - at == 1 || (end - at == 2 && path[at + 1] == '.'))))
+            return GUARD_MALFORMED;
+        if (end - at > GUARD_NAME_LENGTH)
+            number = GUARD_TOO_LONG;
+    }
+    return number;
+}
+
+/* The number of a rename's form: a fault of either path before a length of either. */
+static unsigned rename_number(void)
+{
+    if (input.length < 2 || input.at[1] > input.length - 2)
+        return GUARD_MALFORMED;
+    unsigned first = path_number(input.at + 2, input.at[1]);
+    unsigned second = path_number(input.at + 2 + input.at[1], input.length - 2 - input.at[1]);
+    return first == GUARD_MALFORMED || second == GUARD_MALFORMED ? GUARD_MALFORMED : first ? first : second;
+}
+
+/* A rename whose paths are right by themselves: a guard may still refuse it 22 or 36, by its tree. */
+static int is_rename(void) { return input.length > 0 && input.at[0] == GUARD_RENAME && !rename_number(); }
+
+/* Whether 22 or 36 is not the form's. */
+static int is_by_tree(uint64_t number)
+{
+    return number == GUARD_MALFORMED ? is_unmap() || is_rename() : number == GUARD_TOO_LONG && is_rename();
+}
+
 /* A call that a read-only guard does not take is refused 30, or by a number that comes before it. */
 static int is_before_read_only(guard_outcome o)
 {
     static const uint8_t numbers[] = {5, 114, 34, 22, 36};
     return o.kind == GUARD_REFUSED && o.number < 256 && memchr(numbers, (int)o.number, sizeof numbers) != NULL &&
-        !(is_unmap() && o.number == GUARD_MALFORMED);
+        !is_by_tree(o.number);
 }
 
 static void check_other(guard_outcome o)
@@ -238,11 +275,11 @@ static uint64_t field(const uint8_t *at, size_t bytes)
 /* A request has its kind's length, or is the call itself; it stands from now on. */
 static void check_request(guard_outcome o)
 {
-    static const size_t lengths[GUARD_UNMAP + 1] = {
+    static const size_t lengths[GUARD_RENAME + 1] = {
         [GUARD_CLOSE] = 5, [GUARD_FETCH] = 9, [GUARD_STORE] = GUARD_REQUEST_LENGTH, [GUARD_CUT] = 9,
     };
     const uint8_t *q = request.at;
-    MUST(o.number == 0 && o.length > 0 && q[0] >= GUARD_CREATE && q[0] <= GUARD_UNMAP && q[0] != GUARD_SEEK);
+    MUST(o.number == 0 && o.length > 0 && q[0] >= GUARD_CREATE && q[0] <= GUARD_RENAME && q[0] != GUARD_SEEK);
     if (lengths[q[0]])
         MUST(o.length == lengths[q[0]] && field(q + 1, 4) < GUARD_DESCRIPTORS);
     else
@@ -389,6 +426,21 @@ static void unmap_done(guard_outcome o)
     known.map[i] = known.map[--known.maps];
 }
 
+/* ---- renames, by the words of the rules */
+
+static void check_rename(guard_outcome o)
+{
+    size_t length = input.at[1], new_length = input.length - 2 - length;
+    const uint8_t *path = input.at + 2, *new_path = path + length;
+    unsigned number = host_rename_number(path, length, new_path, new_length);
+    if (number)
+        MUST(is_refused(o, number));
+    else if (host_is_own_path(path, length, new_path, new_length))
+        MUST(o.kind == GUARD_DONE && o.number == 0 && o.length == 0);
+    else
+        MUST(o.kind == GUARD_ASK);
+}
+
 /* A call that is done at the reply in the input. */
 static void check_done(guard_outcome o)
 {
@@ -422,6 +474,10 @@ static void on_call(void)
     MUST(!known.is_reader || o.kind == GUARD_REFUSED || is_taken());
     if (!known.is_reader && input.length > 0 && (input.at[0] == GUARD_MAP || input.at[0] == GUARD_UNMAP))
         MUST(map_number() ? o.kind == GUARD_REFUSED && o.number == map_number() : o.kind == GUARD_ASK);
+    if (input.length > 0 && input.at[0] == GUARD_RENAME && rename_number())
+        MUST(is_refused(o, rename_number()));
+    if (!known.is_reader && is_rename())
+        check_rename(o);
     if (o.kind == GUARD_REFUSED)
         return;
     MUST(input.length > 1 && input.length <= sizeof known.call);
@@ -430,7 +486,7 @@ static void on_call(void)
     known.stores = 0;
     if (o.kind == GUARD_ASK)
         check_request(o);
-    else /* seek, or nothing to read, write or cut */
+    else if (known.call[0] != GUARD_RENAME) /* seek, or nothing to read, write or cut */
         MUST(known.call[0] >= GUARD_SEEK && known.call[0] <= GUARD_TRUNCATE && o.length == 0 &&
             o.number <= GUARD_FILE_LENGTH);
     if (o.kind == GUARD_DONE && known.call[0] == GUARD_SEEK)

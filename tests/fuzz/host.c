@@ -48,13 +48,20 @@ static uint64_t long_field(const uint8_t *at)
 
 /* ---- nodes */
 
-static struct node *by_path(const uint8_t *path, size_t length)
+/* Null where there is none. */
+static struct node *find(const uint8_t *path, size_t length)
 {
     length = length == 1 ? 0 : length;
     for (size_t i = 0; i < tree.count; i++)
         if (tree.nodes[i].length == length && !memcmp(tree.nodes[i].path, path, length))
             return &tree.nodes[i];
-    return tree.nodes;
+    return NULL;
+}
+
+static struct node *by_path(const uint8_t *path, size_t length)
+{
+    struct node *n = find(path, length);
+    return n ? n : tree.nodes;
 }
 
 static struct node *by_descriptor(uint32_t descriptor)
@@ -107,6 +114,89 @@ void host_begin(void)
 {
     begin_tree();
     mapped = 0;
+}
+
+/* ---- renames */
+
+/* Whether a node is at this path or beneath it. */
+static int is_within(const struct node *n, const uint8_t *path, size_t length)
+{
+    return n->length >= length && !memcmp(n->path, path, length) && (n->length == length || n->path[length] == '/');
+}
+
+/* The number of a walk, and where it leads: the directory of the last component, and the node, null where it may be
+ * absent and is. */
+static unsigned walk(const uint8_t *path, size_t length, int may_be_absent, const struct node **parent,
+    const struct node **node)
+{
+    *parent = NULL;
+    *node = tree.nodes;
+    for (size_t at = 1, end; at < length; at = end + 1) {
+        if ((*node)->kind != GUARD_DIRECTORY)
+            return GUARD_NOT_DIRECTORY;
+        if (!((*node)->mode & 1))
+            return GUARD_BARRED;
+        for (end = at; end < length && path[end] != '/';)
+            end++;
+        *parent = *node;
+        *node = find(path, end);
+        if (!*node && !(may_be_absent && end == length))
+            return GUARD_ABSENT;
+    }
+    return 0;
+}
+
+/* Whether a path at or beneath this one would be too long with another one in its place. */
+static int is_too_long(const uint8_t *path, size_t length, size_t new_length)
+{
+    for (size_t i = 0; i < tree.count; i++)
+        if (is_within(&tree.nodes[i], path, length) && tree.nodes[i].length - length + new_length > GUARD_PATH_LENGTH)
+            return 1;
+    return 0;
+}
+
+unsigned host_rename_number(const uint8_t *path, size_t length, const uint8_t *new_path, size_t new_length)
+{
+    const struct node *parent, *node, *new_parent, *there;
+    unsigned number = walk(path, length, 0, &parent, &node);
+    if (!number)
+        number = walk(new_path, new_length, 1, &new_parent, &there);
+    if (number)
+        return number;
+    if (!parent)
+        return GUARD_IN_USE;
+    if (there)
+        return there == node ? 0 : GUARD_PRESENT;
+    if (is_within(new_parent, path, length))
+        return GUARD_MALFORMED;
+    if (!(parent->mode & 2) || !(new_parent->mode & 2))
+        return GUARD_BARRED;
+    return is_too_long(path, length, new_length) ? GUARD_TOO_LONG : 0;
+}
+
+int host_is_own_path(const uint8_t *path, size_t length, const uint8_t *new_path, size_t new_length)
+{
+    return find(path, length) == find(new_path, new_length);
+}
+
+/* All that is beneath the node goes with it, and an open file stays open. */
+static void rename_node(const uint8_t *path, size_t length, const uint8_t *new_path, size_t new_length)
+{
+    size_t name = new_length;
+    while (new_path[name - 1] != '/')
+        name--;
+    uint32_t parent = by_path(new_path, name > 1 ? name - 1 : 1)->id;
+    for (struct node *n = tree.nodes; n < tree.nodes + tree.count; n++) {
+        if (!is_within(n, path, length))
+            continue;
+        if (n->length == length) {
+            n->parent = parent;
+            n->name_length = (uint8_t)(new_length - name);
+        }
+        memmove(n->path + new_length, n->path + length, n->length - length);
+        memcpy(n->path, new_path, new_length);
+        n->length += new_length - length;
+    }
 }
 
 /* ---- maps */
@@ -277,6 +367,9 @@ void host_obey(const uint8_t *request, size_t length, const uint8_t *reply)
     case GUARD_CHMOD: by_path(request + 2, length - 2)->mode = request[1]; break;
     case GUARD_MAP: keep_map(long_field(reply), field(request + 1)); break;
     case GUARD_UNMAP: end_map(long_field(request + 1)); break;
+    case GUARD_RENAME:
+        rename_node(request + 2, request[1], request + 2 + request[1], length - 2 - request[1]);
+        break;
     }
 }
 
@@ -292,19 +385,34 @@ void host_loaded(void)
     tree = saved;
 }
 
+/* The record behind this one. */
+static const uint8_t *next_record(const uint8_t *record) { return record + RECORD + record[RECORD - 1]; }
+
+/* The path of a record's node, whose parent may come later; its length. The root, which is the first, has none. */
+static size_t put_path(const uint8_t *root, const uint8_t *record, uint8_t *path)
+{
+    const uint8_t *parent = root;
+    if (record == root)
+        return 0;
+    while (field(parent) != field(record + 4))
+        parent = next_record(parent);
+    size_t length = put_path(root, parent, path);
+    path[length] = '/';
+    memcpy(path + length + 1, record + RECORD, record[RECORD - 1]);
+    return length + 1 + record[RECORD - 1];
+}
+
 void host_loaded_image(const uint8_t *image)
 {
-    uint32_t left = field(image);
+    const uint8_t *root = image + 4, *record = next_record(root);
     begin_tree();
     tree.is_sure = 0;
-    tree.nodes[0].mode = image[13];
-    for (image += 4 + RECORD; --left > 0; image += RECORD + image[RECORD - 1]) {
+    tree.nodes[0].mode = root[9];
+    for (uint32_t left = field(image); --left > 0; record = next_record(record)) {
         uint8_t path[GUARD_PATH_LENGTH + 1];
-        const struct node *parent = by_id(field(image + 4));
-        memcpy(path, parent->path, parent->length);
-        path[parent->length] = '/';
-        memcpy(path + parent->length + 1, image + RECORD, image[RECORD - 1]);
-        add(field(image), image[8], image[9], path, parent->length + 1 + image[RECORD - 1])->size = field(image + 10);
+        struct node *n = add(field(record), record[8], record[9], path, put_path(root, record, path));
+        n->parent = field(record + 4);
+        n->size = field(record + 10);
     }
 }
 

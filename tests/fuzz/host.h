@@ -17,6 +17,11 @@ void host_obey(const uint8_t *request, size_t length, const uint8_t *reply);
 /* Whether a cut makes its file longer. */
 int host_grows(const uint8_t *cut);
 
+/* The number that a rename of two paths of the right form and length is refused by, 0 where it is done or sent on, by
+ * the words of the rules; whether it is done with nothing sent. */
+unsigned host_rename_number(const uint8_t *path, size_t length, const uint8_t *new_path, size_t new_length);
+int host_is_own_path(const uint8_t *path, size_t length, const uint8_t *new_path, size_t new_length);
+
 /* A save, and a load of it: maps stay as they are. */
 void host_saved(void);
 void host_loaded(void);

@@ -3,7 +3,8 @@
 Each list three times: with its own replies, with those that the fuzzer's host works out, and with these where each
 third store, cut and new node finds the disk full. A map's address is the list's own in all, since later calls name it.
 The guard moves now and then. Each fourth list goes to a read-only guard too. Beside them a few inputs by hand, of what
-is read after a full disk, of replies that nearly say so, and of a read-only guard. The form is that of records.h.
+is read after a full disk, of replies that nearly say so, of a read-only guard, of renames, and of images whose records
+come in another order. The form is that of records.h.
 """
 
 import sys
@@ -115,9 +116,12 @@ LOOK_ON = [calls.open_(1, b"/a"), TRUE_REPLY, calls.read(2, 4096), *[TRUE_REPLY]
 NOT_TAKEN = [
     calls.create(7, b"/n"), calls.mkdir(7, b"/n"), *(calls.open_(rights, b"/a") for rights in (0, 2, 3, 4)),
     calls.write(2, b"x"), calls.write(2, b""), calls.truncate(2, 0), calls.remove(b"/a"), calls.remove(b"/none"),
-    calls.rmdir(b"/d"), calls.chmod(0, b"/a"), calls.map_(4096), calls.unmap(4096),
+    calls.rmdir(b"/d"), calls.chmod(0, b"/a"), calls.map_(4096), calls.unmap(4096), calls.rename(b"/a", b"/n"),
+    calls.rename(b"/none", b"/n"), calls.rename(b"/d", b"/d/n"), calls.rename(b"/a", b"/a"), calls.rename(b"/", b"/"),
 ]
-MISSHAPEN = [b"", b"\x03", b"\x10", calls.create(8, b"/n"), calls.create(7, b"n"), calls.create(7, b"/" + b"n" * 33),
+MISSHAPEN = [b"", b"\x03", b"\x10", b"\x11", b"\x10\x02/a", b"\x10\x00/a", b"\x10\xff/a/b",
+             calls.rename(b"/a", b"n"), calls.rename(b"/a", b"/" + b"n" * 33), calls.create(8, b"/n"),
+             calls.create(7, b"n"), calls.create(7, b"/" + b"n" * 33),
              calls.open_(3, b"/" + b"n" * 33), calls.remove(b"/n" * 128), calls.map_(4097), calls.unmap(4096)[:-1],
              calls.write(2, bytes(4097)), calls.truncate(2, 0) + b"x"]
 
@@ -136,6 +140,61 @@ def looked_at():
     yield "short", [*image, *shorts]
 
 
+# ---- renames, by hand: directories with ids 3 and 4 beside the open file, and a file in one of them
+
+PLACES = [*FILE, calls.mkdir(7, b"/d"), TRUE_REPLY, calls.mkdir(7, b"/e"), TRUE_REPLY, calls.create(6, b"/d/b"),
+          TRUE_REPLY]
+NAMES = [*(part for path in (b"/", b"/d", b"/e", b"/e/d") for part in (calls.readdir(path), TRUE_REPLY)), *READ_THREE]
+DEEP = [part for n in range(1, 8) for part in (calls.mkdir(7, (b"/" + b"d" * 31) * n), TRUE_REPLY)]
+DEEPEST = (b"/" + b"d" * 31) * 7
+MOVES = {  # renames, each done with the true reply where it is asked for
+    "file": [(b"/a", b"/d/a"), (b"/d/a", b"/d/c"), (b"/d/c", b"/a")],
+    "tree": [(b"/d", b"/e/d"), (b"/e/d/b", b"/b"), (b"/e/d", b"/d")],
+    "before its parent": [(b"/d", b"/e/d"), (b"/a", b"/e/d/a")],
+    "refused": [(b"/", b"/"), (b"/", b"/n"), (b"/a", b"/a"), (b"/a", b"/"), (b"/a", b"/d/b"), (b"/d", b"/d/n"),
+                (b"/d", b"/d"), (b"/none", b"/a/x"), (b"/a", b"/a/x"), (b"/a", b"/none/x"), (b"/d", b"/d/b/x")],
+}
+SHUT = [(path, mode) for path in (b"/d", b"/e") for mode in (0, 1, 2, 3, 5, 6)]
+
+
+def renamed(*pairs):
+    """A true reply where nothing is pending is refused, and does no harm."""
+    return [part for pair in pairs for part in (calls.rename(*pair), TRUE_REPLY)]
+
+
+def moved():
+    saves = [calls.close(2), TRUE_REPLY, (SAVE, b""), LOAD_SAVED, calls.open_(3, b"/a"), TRUE_REPLY]
+    for name, pairs in MOVES.items():
+        yield name, [*PLACES, *renamed(*pairs), *NAMES, *saves, *NAMES, *renamed(*pairs), *NAMES]
+    for path, mode in SHUT:
+        pairs = (b"/d/b", b"/e/n"), (b"/d/b", b"/d/b"), (b"/a", b"/d/a"), (b"/d", b"/n")
+        yield f"mode {mode} of {path[1:].decode()}", [*PLACES, calls.chmod(mode, path), TRUE_REPLY, *renamed(*pairs)]
+    for length in (29, 30, 31, 32):  # a path of 255 bytes with 31 in its first name, and with 30 in its last
+        file = [calls.create(7, DEEPEST + b"/" + b"p" * 30), TRUE_REPLY]
+        yield f"deep {length}", [*DEEP, *file, *renamed((b"/" + b"d" * 31, b"/" + b"n" * length))]
+        yield f"deeper {length}", [*FILE, *DEEP, *renamed((b"/a", DEEPEST + b"/" + b"n" * length)), *READ_THREE]
+    for number, wrong in enumerate([put(1, 4), put(-28, 4), b"", put(0, 3), put(0, 5), put(1024, 4)]):
+        yield f"wrong {number}", [*PLACES, calls.rename(b"/d", b"/n"), (REPLY, wrong), *NAMES]
+
+
+def image_of(*nodes):
+    return put(len(nodes) + 1, 4) + node(1, 0, 2, 7, 0, b"") + b"".join(node(*one) for one in nodes) + put(0, 4)
+
+
+IMAGES = {  # a node is id, parent, kind, mode, size, name
+    "parents last": image_of((2, 3, 1, 7, 0, b"a"), (3, 4, 2, 7, 0, b"b"), (4, 1, 2, 7, 0, b"c")),
+    "a ring of one": image_of((2, 2, 2, 7, 0, b"a")),
+    "a ring of two": image_of((2, 3, 2, 7, 0, b"a"), (3, 2, 2, 7, 0, b"b")),
+    "a ring of three": image_of((2, 4, 2, 7, 0, b"a"), (3, 2, 2, 7, 0, b"b"), (4, 3, 2, 7, 0, b"c")),
+    "a file for a parent": image_of((2, 3, 1, 7, 0, b"a"), (3, 1, 1, 7, 0, b"b")),
+    "no parent": image_of((2, 9, 1, 7, 0, b"a")),
+    "a name twice": image_of((2, 3, 1, 7, 0, b"a"), (4, 3, 1, 7, 0, b"a"), (3, 1, 2, 7, 0, b"d")),
+    **{f"a path of {225 + length}": image_of(
+        (2, 3, 1, 7, 0, b"n" * length), *((n, (n + 1) % 10 or 1, 2, 7, 0, b"d" * 31) for n in range(3, 10))
+    ) for length in (30, 31)},
+}
+
+
 def record_of(thing):
     """A call's bytes, what stands for a reply, or that with its bytes."""
     if isinstance(thing, bytes):
@@ -150,6 +209,11 @@ def main():
     for name, things in looked_at():
         for kind in 0, READER:
             (directory / f"look-{name}-{kind}").write_bytes(bytes([kind]) + b"".join(map(record_of, things)))
+    for name, things in moved():
+        (directory / f"rename-{name}").write_bytes(b"\0" + b"".join(map(record_of, things)))
+    for name, image in IMAGES.items():
+        looks = [calls.readdir(b"/"), TRUE_REPLY, calls.stat(b"/c/b/a"), TRUE_REPLY, *renamed((b"/c/b", b"/b"))]
+        (directory / f"image-{name}").write_bytes(b"\0" + b"".join(map(record_of, [(LOAD, image), *looks])))
     for i, (_, recording) in enumerate(recordings()):
         for whose, kind in (OWN, 0), (TRUE, 0), (FULL, 0), *[(OWN, READER)] * (i % 4 == 0):
             parts = (

@@ -76,6 +76,22 @@ static void unmap(guard *g)
     expect(call(g, "\17\0\0\377\377\377\377\377\377", 9), GUARD_REFUSED, GUARD_MALFORMED, 0);
 }
 
+/* The open file gets another path: its handle goes on, its own path asks for nothing, nothing is replaced; and back. */
+static void rename_file(guard *g)
+{
+    expect(call(g, "\20\2/a", 4), GUARD_REFUSED, GUARD_MALFORMED, 0);
+    expect(call(g, "\20\2/b/a", 6), GUARD_REFUSED, GUARD_ABSENT, 0);
+    expect(call(g, "\20\2/a/a", 6), GUARD_DONE, 0, 0);
+    expect(call(g, "\20\2/a/", 5), GUARD_REFUSED, GUARD_PRESENT, 0);
+    expect(call(g, "\20\1//b", 5), GUARD_REFUSED, GUARD_IN_USE, 0);
+    expect(call(g, "\20\2/a/b", 6), GUARD_ASK, 0, 6);
+    expect(reply(g, "\0\0\0\0", 4), GUARD_DONE, 0, 0);
+    expect(call(g, "\15/a", 3), GUARD_REFUSED, GUARD_ABSENT, 0);
+    expect(call(g, "\5\2\0\0\0\5\0\0\0\0\0\0\0", 13), GUARD_DONE, 5, 0);
+    expect(call(g, "\20\2/b/a", 6), GUARD_ASK, 0, 6);
+    expect(reply(g, "\0\0\0\0", 4), GUARD_DONE, 0, 0);
+}
+
 /* A full disk ends a call and its request: a new node, a growth, and a write at its second page, which leaves one; it
  * stops a cut. */
 static void full(guard *g)
@@ -121,6 +137,7 @@ static void reader(size_t length, const uint8_t *page)
     expect(guard_reader_load(g, image, length, digest, 31), GUARD_REFUSED, GUARD_WRONG_DIGEST, 0);
     expect(guard_reader_load(g, image, length, digest, sizeof digest), GUARD_DONE, 0, 0);
     expect(look("\1\7/b", 4), GUARD_REFUSED, GUARD_READ_ONLY, 0);
+    expect(look("\20\2/a/b", 6), GUARD_REFUSED, GUARD_READ_ONLY, 0);
     expect(look("\3\3/a", 4), GUARD_REFUSED, GUARD_READ_ONLY, 0);
     expect(look("\3\4/a", 4), GUARD_REFUSED, GUARD_MALFORMED, 0);
     expect(look("\3\1/b", 4), GUARD_REFUSED, GUARD_ABSENT, 0);
@@ -158,6 +175,7 @@ int main(void)
     uint8_t page[GUARD_PAGE_LENGTH] = "hello";
     make_file(&first);
     notes(&first);
+    rename_file(&first);
     refusals(&first);
     map(&first);
     guard_outcome o = guard_save(&first, image, sizeof image, digest);

@@ -189,8 +189,10 @@ def on_disk(place, stale_rows=False):
     rows = {}
     table = place / "table"
     for row in table.read_bytes().split(b"\0")[1:-1] if table.exists() else [b"1 7 /"]:
-        id, mode, path = row.split(b" ", 2)
-        rows[path] = int(id), int(mode)
+        fields = row.split(b" ", 2)
+        if len(fields) < 3:
+            raise Different(f"the table has a torn row, {row}")
+        rows[fields[2]] = int(fields[0]), int(fields[1])
     nodes = {}
 
     def row(path):

@@ -79,6 +79,9 @@ class Guarded:
     def unmap(self, address):
         self.do(calls.unmap(address))
 
+    def rename(self, path, new_path):
+        self.do(calls.rename(path.encode(), new_path.encode()))
+
     def fill(self):
         """From now on the host has no room."""
         self.driver.send("b 1")
@@ -144,6 +147,8 @@ class Plain:
         """One unit of it: the guard's call has no length."""
         passed(LIBRARY.munmap(ctypes.c_void_p(address), ctypes.c_size_t(UNIT)), -1)
 
+    def rename(self, path, new_path):
+        os.rename(path, new_path)
 
     def fill(self):
         """No room on the small disk, for bytes nor for nodes."""

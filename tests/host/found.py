@@ -19,7 +19,8 @@ WORK = [
 ]
 THROUGH = [  # calls through a directory, and the reason of the stop where it is a link
     (calls.create(7, b"/d/new"), "3"), (calls.open_(3, b"/d/a"), "4"), (calls.remove(b"/d/a"), "2"),
-    (calls.mkdir(7, b"/d/new"), "3"), (calls.readdir(b"/d"), "7"),
+    (calls.mkdir(7, b"/d/new"), "3"), (calls.readdir(b"/d"), "7"), (calls.rename(b"/d/a", b"/new"), "2"),
+    (calls.rename(b"/d/a", b"/d/new"), "2"),
 ]
 
 
@@ -133,6 +134,21 @@ def memory_of(driver):
     return os.sysconf("SC_PAGESIZE") * int(Path(f"/proc/{driver.process.pid}/statm").read_text().split()[0])
 
 
+def names_that_are_taken(program, place):
+    """A rename replaces nothing that came to the disk without the guard, also where the file system cannot say so."""
+    for fails in ("", "renameat2"):
+        life = Life(program, place)
+        (life.place / "tree/d/new").write_bytes(b"not ours")
+        expect(life.again(fails).send(f"c {calls.rename(b'/d/a', b'/d/new').hex()}"), ["stopped", "2"])
+        expect((life.place / "tree/d/new").read_bytes(), b"not ours")
+        expect((life.place / "tree/d/a").stat().st_size, 1500)
+        (life.place / "tree/d/new").unlink()
+        driver = life.again(fails)
+        expect(driver.send(f"c {calls.rename(b'/d/a', b'/d/new').hex()}"), ["done", "0"])
+        expect(driver.send(f"c {calls.stat(b'/d/new').hex()}")[:2], ["done", "1500"])
+        expect(driver.send(f"c {calls.readdir(b'/d').hex()}")[:2], ["done", "1"])
+
+
 def killed_at_the_first_node(program, place):
     """Whenever a new host is killed, there is one after it."""
     for count in range(1, 20):
@@ -150,7 +166,7 @@ def killed_at_the_first_node(program, place):
 
 TRIALS = [
     killed_at_the_first_node, damaged_tables, nodes_that_cannot_be_looked_at, links_on_the_way, descriptors_that_stay,
-    maps_that_stay,
+    maps_that_stay, names_that_are_taken,
 ]
 
 

@@ -15,6 +15,7 @@ Before them the host's own budget of bytes, which is met to the byte.
 import errno
 import shutil
 import sys
+from collections import Counter
 from pathlib import Path
 
 from model import calls
@@ -34,9 +35,10 @@ def write(handle, at, count):
     return [calls.seek(handle, at), calls.write(handle, DATA[:count])]
 
 
-# what a full disk may do to a call: end it; stop the guard; or stop it where the node itself cannot be removed, at the
-# first system call, and nothing later
-ENDS, STOPS, REMOVES = range(3)
+# what a full disk may do to a call: end it; stop the guard; stop it where the node itself cannot be removed, at the
+# first system call, and nothing later; or stop it, unless the node has its new name: that the old one is forgotten needs
+# no room
+ENDS, STOPS, REMOVES, RENAMES = range(4)
 
 # the name, the calls with the file's handle, and what a full disk may do to the last of them
 ACTS = [
@@ -52,6 +54,8 @@ ACTS = [
     ("growth over pages", lambda handle: [calls.truncate(handle, 9 * PAGE)], ENDS),
     ("remove", lambda handle: [calls.remove(b"/d/other")], REMOVES),
     ("rmdir", lambda handle: [calls.rmdir(b"/d/empty")], REMOVES),
+    ("rename", lambda handle: [calls.rename(b"/d/other", b"/new")], RENAMES),
+    ("rename of a directory", lambda handle: [calls.rename(b"/d/empty", b"/d/new")], RENAMES),
     ("chmod", lambda handle: [calls.chmod(4, b"/d/other")], STOPS),
     ("truncate within a page", lambda handle: [calls.truncate(handle, 100)], STOPS),
     ("truncate to an edge", lambda handle: [calls.truncate(handle, PAGE)], STOPS),
@@ -95,12 +99,17 @@ class Trial:
         if in_model(self.beside.host) != on_disk(self.place, stale_rows=True):
             raise Different(f"{what}: the disk is not as it was before the request")
 
+    def compare_nodes(self, what):
+        """Whatever their paths, all nodes are on the disk, with ids, modes and bytes."""
+        if Counter(in_model(self.beside.host).values()) != Counter(on_disk(self.place, stale_rows=True).values()):
+            raise Different(f"{what}: a node of the disk is not as it was")
+
     def look(self):
         """All that the guard says of the tree."""
         do = self.beside.do
         for path in (b"/", b"/d"):
             do(calls.readdir(path))
-        for path in (b"/d/a", b"/d/other", b"/d/new"):
+        for path in (b"/d/a", b"/d/other", b"/d/new", b"/new"):
             do(calls.stat(path))
         do(calls.seek(self.handle, 0))
         while do(calls.read(self.handle, MAX_COUNT)).number:
@@ -163,6 +172,8 @@ def one(program, place, name, act, fate, first, length):
     if came == ["stopped"]:
         if (fate == ENDS and length == 1) or (fate == REMOVES and first > 1):
             raise Different(f"{what}: the guard stops")
+        if fate == RENAMES:
+            trial.compare_nodes(what)
         trial.beside.driver.kill()
         return "stopped"
     trial.compare(what)
@@ -188,6 +199,8 @@ def main():
             came = every(program, place, name, act, fate, length)
             if fate == ENDS and length == 1 and "refused" not in came:
                 raise Different(f"{name}: no system call of it was refused for want of room")
+            if fate == RENAMES and length == 1 and "done" not in came:
+                raise Different(f"{name}: it stops though nothing more needs room")
             total += len(came)
             for one_came in came:
                 ends[one_came] += 1

@@ -12,9 +12,10 @@ import sys
 from pathlib import Path
 from random import Random
 
+from model import calls
 from model.events import Reply, Stopped
 from model.generate import Generator, MappingGenerator
-from model.rules import MAP, UNMAP
+from model.rules import MAP, RENAME, UNMAP
 
 from .beside import FULL, Beside, Driver, Different, in_model, on_disk
 
@@ -23,7 +24,9 @@ BUDGETS = [1, 2000, 10_000, 40_000, 0]  # bytes of the host's disk; 1 is less th
 
 
 class HonestGenerator(MappingGenerator):
-    """The model's lists for the desk, with a few maps, without lies and without replies that nobody asked for."""
+    """The model's lists for the desk, with a few maps and renames, without lies and without replies that nobody asked
+    for.
+    """
 
     start = Generator.start
 
@@ -31,7 +34,15 @@ class HonestGenerator(MappingGenerator):
         super().__init__(random, desk=True)
         self.recording, self.guard = recording, recording.guard
         self.lie = self.bad_time = 0
-        self.weights[MAP] = self.weights[UNMAP] = 1
+        self.weights[MAP] = self.weights[UNMAP] = 2
+        self.weights[RENAME] = 3
+
+    def all_makers(self):
+        return {**super().all_makers(), RENAME: HonestGenerator.rename_call}
+
+    def rename_call(self, kind):
+        """Any node, with its tree and open or not, to a name in some directory: mostly one that is free."""
+        return calls.rename(self.path_of(self.some_node(self.guard.nodes)), self.child_path())
 
 
 def is_ended(event, outcome):

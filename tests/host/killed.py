@@ -12,7 +12,9 @@ part too. In a third of the lists the machine loses power: what was not synced i
 host's table (lost.py). In a third a file is damaged. Unless one is, a node that no call has named since the save is
 served: no stop.
 
-Before the lists, what docs/INTEGRATION.md, 6, tells of a growing cut that was obeyed; and that maps end with the host.
+Before the lists, what docs/INTEGRATION.md, 6, tells of a growing cut that was obeyed; that maps end with the host; and
+a rename that is killed at each of its points, or loses power there: wherever its nodes are then, they have their ids,
+modes and bytes.
 """
 
 import errno
@@ -23,9 +25,9 @@ from random import Random
 
 from model import calls
 from model.rules import CHMOD, CREATE, DIRECTORY, MAX_COUNT, MAX_MAP, MAX_MAPS, MKDIR, PAGE, READ_RIGHT, REMOVE
-from model.rules import RMDIR, TRUNCATE, UNIT, WRITE, WRITE_RIGHT, unsigned
+from model.rules import RENAME, RMDIR, TRUNCATE, UNIT, WRITE, WRITE_RIGHT, unsigned
 
-from .beside import Beside, Caught, Driver, Different, Killed, durable
+from .beside import Beside, Caught, Driver, Different, Killed, durable, in_model, on_disk
 from .honest import HonestGenerator
 from .lost import Disk
 
@@ -52,7 +54,15 @@ class Noted(Beside):
             self.changed |= {event.data[1:]}
         elif kind in (WRITE, TRUNCATE):
             self.changed |= {node_path(self.guard.nodes, unsigned(event.data[1:5]))}
+        elif kind == RENAME and len(event.data) > 1:
+            self.changed |= self.renamed(event.data)
         return super().send(event)
+
+    def renamed(self, call):
+        """Both paths of a rename, and all beneath the first."""
+        path, new_path = call[2 : 2 + call[1]], call[2 + call[1] :]
+        paths = (node_path(self.guard.nodes, node.id) or b"/" for node in self.guard.nodes)
+        return {path, new_path, *(below for below in paths if below.startswith(path + b"/"))}
 
     def save(self):
         super().save()
@@ -196,6 +206,82 @@ def grown(program, place, size, more):
     beside.driver.kill()
 
 
+OLD, NEW = b"/d", b"/f/g"
+
+
+def renaming(program, place, record):
+    """A directory with a tree, one of its files open, all of it saved."""
+    beside = Beside(Driver(program, place, record=record))
+    for call in (calls.mkdir(7, b"/f"), calls.mkdir(7, OLD), calls.mkdir(5, OLD + b"/e"), calls.create(6, OLD + b"/a")):
+        beside.do(call)
+    handle = beside.do(calls.open_(READ_RIGHT | WRITE_RIGHT, OLD + b"/a")).number
+    beside.do(calls.write(handle, b"x" * 1500))
+    beside.save()
+    beside.do(calls.open_(READ_RIGHT, OLD + b"/a"))
+    return beside
+
+
+def nodes_below(nodes, top):
+    """Those at a path and beneath it, by what is behind it."""
+    return {path[len(top) :]: node for path, node in nodes.items() if path == top or path.startswith(top + b"/")}
+
+
+def one_renamed(program, place, point, loses):
+    """Killed at one point of a rename, or power lost there; where the nodes are then, and whether it was killed."""
+    emptied(place)
+    beside = renaming(program, place, record=loses is not None)
+    right = nodes_below(in_model(beside.host), OLD)
+    beside.driver.send(f"k {point}")
+    killed = False
+    try:
+        beside.do(calls.rename(OLD, NEW))
+    except Killed:
+        killed = True
+    beside.driver.kill()
+    if loses is not None:
+        Disk(place, durable(place), loses).lose()
+    found = on_disk(place, stale_rows=True)
+    at = [top for top in (OLD, NEW) if nodes_below(found, top)]
+    if any(nodes_below(found, top) != right for top in at) or (loses is None and len(at) != 1):
+        raise Different(f"killed at point {point} of a rename: the nodes are not as they were")
+    if not killed and at != [NEW]:
+        raise Different("a rename that was done is lost with power")
+    look_after_rename(program, place, beside, at)
+    return at, killed
+
+
+def look_after_rename(program, place, beside, at):
+    """The tree of the save is served as far as the disk has it; a node that is gone from its path is caught."""
+    beside.start_again(Driver(program, place))
+    for path in (OLD, OLD + b"/a", OLD + b"/e"):
+        try:
+            beside.do(calls.stat(path))
+            if OLD not in at:
+                raise Different(f"{path} is served, and gone")
+        except Caught:
+            if OLD in at:
+                raise Different(f"{path} is as it was saved, and caught")
+            beside.start_again(beside.driver)
+    beside.driver.kill()
+
+
+LOSSES = 4  # of power, at each point
+
+
+def renamed(program, place):
+    """How many points a rename has."""
+    seen, point, killed = set(), 0, True
+    while killed:
+        point += 1
+        at, killed = one_renamed(program, place, point, None)
+        seen |= {*at}
+        for seed in range(LOSSES):
+            one_renamed(program, place, point, Random(LOSSES * point + seed))
+    if seen != {OLD, NEW}:
+        raise Different(f"a rename that is killed leaves its nodes at {seen} alone")
+    return point - 1
+
+
 def mapped(program, place):
     """A save with maps alive, then the end: none lives after it, and there is room for as many as may."""
     beside = Beside(Driver(program, place))
@@ -228,6 +314,7 @@ def main():
         grown(program, place, size, more)
     emptied(place)
     mapped(program, place)
+    points = renamed(program, place)
     looks = stops = caught = within = full = 0
     for seed in range(lists):
         emptied(place)
@@ -244,6 +331,7 @@ def main():
         raise Different(f"{seen}: nothing is shown by this")
     print(f"host: killed after {len(GROWTHS)} growing cuts, the size caught, each page served, the truncation done again")
     print(f"host: {MAX_MAPS} maps after a save, a load and a kill, and no more")
+    print(f"host: a rename killed at each of {points} points, and power lost there: ids, modes and bytes as they were")
     print(
         f"host: killed in {lists} lists, within a request in {within}, after {full} full disks; each load done, "
         f"{looks} nodes looked at, {stops} stops in {caught} lists, nothing wrong served"

@@ -63,6 +63,7 @@ int __real_unlinkat(int directory, const char *path, int flags);
 int __real_ftruncate(int file, off_t size);
 int __real_fallocate(int file, int how, off_t at, off_t length);
 int __real_rename(const char *from, const char *to);
+int __real_renameat2(int from, const char *name, int to, const char *new_name, unsigned flags);
 int __real_mkdir(const char *path, mode_t mode);
 int __real_remove(const char *path);
 int __real_fsync(int file);
@@ -116,6 +117,18 @@ int __wrap_rename(const char *from, const char *to)
     if (full())
         return -1;
     BETWEEN_POINTS(__real_rename(from, to));
+}
+
+/* Fails for good as on a file system that knows no rename without replacing. */
+int __wrap_renameat2(int from, const char *name, int to, const char *new_name, unsigned flags)
+{
+    if (fails("renameat2")) {
+        errno = EINVAL;
+        return -1;
+    }
+    if (fault() || full())
+        return -1;
+    BETWEEN_POINTS(__real_renameat2(from, name, to, new_name, flags));
 }
 
 int __wrap_mkdir(const char *path, mode_t mode) { BETWEEN_POINTS(__real_mkdir(path, mode)); }

@@ -19,7 +19,7 @@ from model.rules import MAX_COUNT as TRANSFER, MAX_OPEN as OPEN_FILES, MAX_SIZE 
 
 from .beside import Different, Driver
 from .files import BOTH, READ, WRITE, Guarded, Plain, Planned, mount_small
-from .house import PATHS, build
+from .house import DEEP, PATHS, build
 
 NOBODY = 65534
 
@@ -36,34 +36,51 @@ CALLS = {
     "chmod": lambda files, path: files.chmod(path),
     "readdir": lambda files, path: files.readdir(path),
     "stat": lambda files, path: files.stat(path),
+    "from": lambda files, path: files.rename(path, "/new"),
+    "to": lambda files, path: files.rename("/writes", path),
 }
 
 # Where the guard says another number: a kind of path, the guard's number, the machine's for each call, and the rule.
-# `read`, `write` and `both` are opens with these rights; 0 is no error, `=` the same error.
+# `read`, `write` and `both` are opens with these rights, `from` a rename of the path to a free one, `to` one of a file to
+# the path; 0 is no error, `=` the same error.
 BY_PATH = """
-kind                | guard | create mkdir read write both remove rmdir chmod readdir stat | rule
-33                  | 36    | 0      0     2    2     2    2      2     2     2       2    | a component has 32 bytes at most
-33 below missing    | 36    | 2      2     2    2     2    2      2     2     2       2    | 36 comes before the walk
-33 below a file     | 36    | 20     20    20   20    20   20     20    20    20      20   | 36 comes before the walk
-256                 | 36    | 0      0     2    2     2    2      2     2     2       2    | a path has 255 bytes at most
-no path             | 22    | 2      2     2    2     2    2      2     2     2       2    | a path has 1 byte at least
-relative            | 22    | 17     17    0    0     0    0      20    0     20      0    | there is no working directory: each component stands after one /
-file and slash      | 22    | 21     17    20   20    20   20     20    20    20      20   | a component has 1 byte at least
-directory and slash | 22    | 21     17    0    21    21   21     0     0     0       0    | a component has 1 byte at least
-missing and slash   | 22    | 21     0     2    2     2    2      2     2     2       2    | a component has 1 byte at least
-two slashes         | 22    | 17     17    0    21    21   21     39    0     0       0    | a component has 1 byte at least
-slashes within      | 22    | 17     17    0    0     0    0      20    0     20      0    | a component has 1 byte at least
-dot                 | 22    | 17     17    0    21    21   21     =     0     0       0    | a component is not .
-dot within          | 22    | 17     17    0    0     0    0      20    0     20      0    | a component is not .
-dots                | 22    | 17     17    0    21    21   21     39    0     0       0    | a component is not ..
-full                | 21    | =      =     0    =     =    =      =     =     =       =    | open is for files: 21 whatever the rights
-empty               | 21    | =      =     0    =     =    =      =     =     =       =    | open is for files: 21 whatever the rights
-root                | 21    | =      =     0    =     =    =      =     =     =       =    | open is for files: 21 whatever the rights
-unsearchable        | 21    | =      =     0    =     =    =      =     =     =       =    | open is for files: 21 whatever the rights
-unreadable          | 21    | =      =     13   =     =    =      =     =     =       =    | open: 21 comes before 13
-kept empty          | 21    | =      =     0    =     =    13     =     =     =       =    | open is for files; remove: 21 comes before 13
-kept full           | 21    | =      =     0    =     =    13     =     =     =       =    | open is for files; remove: 21 comes before 13
-kept file           | 20    | =      =     =    =     =    =      13    =     =       =    | rmdir: 20 comes before 13
+kind                | guard | create mkdir read write both remove rmdir chmod readdir stat from to | rule
+33                  | 36    | 0      0     2    2     2    2      2     2     2       2    2    0  | a component has 32 bytes at most
+33 below missing    | 36    | 2      2     2    2     2    2      2     2     2       2    2    2  | 36 comes before the walk
+33 below a file     | 36    | 20     20    20   20    20   20     20    20    20      20   20   20 | 36 comes before the walk
+256                 | 36    | 0      0     2    2     2    2      2     2     2       2    =    0  | a path has 255 bytes at most
+no path             | 22    | 2      2     2    2     2    2      2     2     2       2    2    2  | a path has 1 byte at least
+relative            | 22    | 17     17    0    0     0    0      20    0     20      0    0    0  | there is no working directory: each component stands after one /
+file and slash      | 22    | 21     17    20   20    20   20     20    20    20      20   20   20 | a component has 1 byte at least
+directory and slash | 22    | 21     17    0    21    21   21     0     0     0       0    0    20 | a component has 1 byte at least
+missing and slash   | 22    | 21     0     2    2     2    2      2     2     2       2    2    20 | a component has 1 byte at least
+two slashes         | 22    | 17     17    0    21    21   21     39    0     0       0    0    21 | a component has 1 byte at least
+slashes within      | 22    | 17     17    0    0     0    0      20    0     20      0    0    0  | a component has 1 byte at least
+dot                 | 22    | 17     17    0    21    21   21     =     0     0       0    16   16 | a component is not .
+dot within          | 22    | 17     17    0    0     0    0      20    0     20      0    0    0  | a component is not .
+dots                | 22    | 17     17    0    21    21   21     39    0     0       0    16   16 | a component is not ..
+full                | 21    | =      =     0    =     =    =      =     =     =       =    =    =  | open is for files: 21 whatever the rights
+empty               | 21    | =      =     0    =     =    =      =     =     =       =    =    =  | open is for files: 21 whatever the rights
+root                | 21    | =      =     0    =     =    =      =     =     =       =    =    =  | open is for files: 21 whatever the rights
+unsearchable        | 21    | =      =     0    =     =    =      =     =     =       =    =    =  | open is for files: 21 whatever the rights
+unreadable          | 21    | =      =     13   =     =    =      =     =     =       =    =    =  | open: 21 comes before 13
+kept empty          | 21    | =      =     0    =     =    13     =     =     =       =    =    =  | open is for files; remove: 21 comes before 13
+kept full           | 21    | =      =     0    =     =    13     =     =     =       =    =    =  | open is for files; remove: 21 comes before 13
+kept file           | 20    | =      =     =    =     =    =      13    =     =       =    =    =  | rmdir: 20 comes before 13
+file                | 17    | =      =     =    =     =    =      =     =     =       =    =    0  | a rename replaces nothing
+in full             | 17    | =      =     =    =     =    =      =     =     =       =    =    0  | a rename replaces nothing
+no bits             | 17    | =      =     =    =     =    =      =     =     =       =    =    0  | a rename replaces nothing
+read only           | 17    | =      =     =    =     =    =      =     =     =       =    =    0  | a rename replaces nothing
+32                  | 17    | =      =     =    =     =    =      =     =     =       =    =    0  | a rename replaces nothing
+255                 | 17    | =      =     =    =     =    =      =     =     =       =    =    0  | a rename replaces nothing
+full                | 17    | =      =     =    =     =    =      =     =     =       =    =    21 | a rename replaces nothing
+empty               | 17    | =      =     =    =     =    =      =     =     =       =    =    21 | a rename replaces nothing
+unsearchable        | 17    | =      =     =    =     =    =      =     =     =       =    =    21 | a rename replaces nothing
+unreadable          | 17    | =      =     =    =     =    =      =     =     =       =    =    21 | a rename replaces nothing
+root                | 17    | =      =     =    =     =    =      =     =     =       =    =    16 | a rename replaces nothing
+kept file           | 17    | =      =     =    =     =    =      =     =     =       =    =    13 | rename: 17 comes before 13
+kept empty          | 17    | =      =     =    =     =    =      =     =     =       =    =    13 | rename: 17 comes before 13
+kept full           | 17    | =      =     =    =     =    =      =     =     =       =    =    13 | rename: 17 comes before 13
 """
 
 # ---- trials on open files
@@ -115,7 +132,53 @@ def unmapped(files):
     return address
 
 
+def read_after_rename(files):
+    """An open file goes on, at another path."""
+    handle = written(files)
+    files.rename("/file", "/empty/file")
+    files.stat("/empty/file")
+    files.read(handle, 10)
+
+
+def too_deep(files):
+    """What is beneath would have a path of 256 bytes."""
+    files.mkdir("/empty/" + "d" * 31)
+    files.rename(DEEP[: 2 * 32], "/empty/" + "d" * 31 + "/" + "d" * 26)
+
+
 TRIALS = {
+    "rename, open": read_after_rename,
+    "rename, a directory with an open file": lambda files: (files.open("/full/x", READ), files.rename("/full", "/new")),
+    "rename, its own path": lambda files: files.rename("/file", "/file"),
+    "rename, its own path in a directory without bit 2": lambda files: files.rename("/kept/x", "/kept/x"),
+    "rename, a directory to its own path": lambda files: files.rename("/full", "/full"),
+    "rename, the root to its own path": lambda files: files.rename("/", "/"),
+    "rename, the root into a directory": lambda files: files.rename("/", "/empty/new"),
+    "rename, a directory into itself": lambda files: files.rename("/full", "/full/new"),
+    "rename, a directory beneath itself": lambda files: files.rename(DEEP[:32], DEEP[:96] + "/new"),
+    "rename, a directory to what is in it": lambda files: files.rename("/full", "/full/x"),
+    "rename, a file beneath itself": lambda files: files.rename("/file", "/file/x"),
+    "rename, a file onto a file": lambda files: files.rename("/file", "/reads"),
+    "rename, a file onto a directory": lambda files: files.rename("/file", "/empty"),
+    "rename, a directory onto a file": lambda files: files.rename("/empty", "/file"),
+    "rename, a directory onto an empty one": lambda files: files.rename("/full", "/empty"),
+    "rename, a directory onto a full one": lambda files: files.rename("/empty", "/full"),
+    "rename, onto the root": lambda files: files.rename("/file", "/"),
+    "rename, out of a directory without bit 2": lambda files: files.rename("/kept/x", "/new"),
+    "rename, into a directory without bit 2": lambda files: files.rename("/file", "/kept/new"),
+    "rename, within a directory without bit 2": lambda files: files.rename("/kept/x", "/kept/new"),
+    "rename, a directory without bit 2 itself": lambda files: files.rename("/kept", "/new"),
+    "rename, a directory without bit 2 to another parent": lambda files: files.rename("/kept", "/empty/new"),
+    "rename, onto a file in a directory without bit 2": lambda files: files.rename("/file", "/kept/x"),
+    "rename, missing, to below a file": lambda files: files.rename("/missing", "/file/x"),
+    "rename, missing, to below missing": lambda files: files.rename("/missing", "/missing/x"),
+    "rename, missing, onto the root": lambda files: files.rename("/missing", "/"),
+    "rename, missing, to 33": lambda files: files.rename("/missing", "/" + "n" * 33),
+    "rename, 33, to a bad form": lambda files: files.rename("/" + "n" * 33, "/full/.."),
+    "rename, below missing, to a barred directory": lambda files: files.rename("/missing/x", "/shut/new"),
+    "rename, barred, to below a file": lambda files: files.rename("/shut/x", "/file/x"),
+    "rename, below a file, to below missing": lambda files: files.rename("/file/x", "/missing/x"),
+    "rename, so that a path beneath has 256 bytes": too_deep,
     "map": lambda files: files.map(UNIT),
     "map, 65,536 bytes": lambda files: files.map(65_536),
     "map, no bytes": lambda files: files.map(0),
@@ -194,6 +257,7 @@ FULL_TRIALS = {
     "chmod, full disk": with_full_disk(lambda files: files.chmod("/file", 4)),
     "readdir, full disk": with_full_disk(lambda files: files.readdir("/full")),
     "stat, full disk": with_full_disk(lambda files: files.stat("/file")),
+    "rename, full disk": with_full_disk(lambda files: files.rename("/file", "/full/new")),
     "read, full disk": lambda files: files.read(filled(files, at=0), 10),
     "close, full disk": lambda files: files.close(filled(files)),
     "write within the file, full disk": lambda files: files.write(filled(files, at=5), b"x" * 100),
@@ -214,21 +278,35 @@ def over_the_end_twice(files):
 
 
 BY_HANDLE = """
-trial                    | guard | machine | rule
-truncate, open to read   | 9     | 22      | a truncation needs right 2
-seek beyond the size     | 22    | 0       | a cursor lies between 0 and the size
-read of 4,097            | 22    | 0       | a read has a count of 4,096 at most
-write of 4,097           | 22    | 0       | a write has 4,096 bytes at most
-write over 65,536        | 27    | 0       | a write is done as a whole or not at all
-open, open               | 16    | 0       | a file is open once at most
-remove, open             | 16    | 0       | a file that is open is not removed
-map, 4,095 bytes         | 22    | 0       | a map's length is a multiple of 4,096
-map, 4,097 bytes         | 22    | 0       | a map's length is a multiple of 4,096
-map, 69,632 bytes        | 22    | 0       | a map has 65,536 bytes at most
-map, 17 of them          | 12    | 0       | 16 maps live at most
-unmap, twice             | 22    | 0       | an unmap is of a map that lives
-unmap, within a map      | 22    | 0       | an unmap is of a whole map, by its first address
-unmap, address 0         | 22    | 0       | an unmap is of a map that lives
+trial                                               | guard | machine | rule
+truncate, open to read                              | 9     | 22      | a truncation needs right 2
+seek beyond the size                                | 22    | 0       | a cursor lies between 0 and the size
+read of 4,097                                       | 22    | 0       | a read has a count of 4,096 at most
+write of 4,097                                      | 22    | 0       | a write has 4,096 bytes at most
+write over 65,536                                   | 27    | 0       | a write is done as a whole or not at all
+open, open                                          | 16    | 0       | a file is open once at most
+remove, open                                        | 16    | 0       | a file that is open is not removed
+map, 4,095 bytes                                    | 22    | 0       | a map's length is a multiple of 4,096
+map, 4,097 bytes                                    | 22    | 0       | a map's length is a multiple of 4,096
+map, 69,632 bytes                                   | 22    | 0       | a map has 65,536 bytes at most
+map, 17 of them                                     | 12    | 0       | 16 maps live at most
+unmap, twice                                        | 22    | 0       | an unmap is of a map that lives
+unmap, within a map                                 | 22    | 0       | an unmap is of a whole map, by its first address
+unmap, address 0                                    | 22    | 0       | an unmap is of a map that lives
+rename, a file onto a file                          | 17    | 0       | a rename replaces nothing
+rename, a file onto a directory                     | 17    | 21      | a rename replaces nothing
+rename, a directory onto a file                     | 17    | 20      | a rename replaces nothing
+rename, a directory onto an empty one               | 17    | 0       | a rename replaces nothing
+rename, a directory onto a full one                 | 17    | 39      | a rename replaces nothing
+rename, onto the root                               | 17    | 16      | a rename replaces nothing
+rename, a directory to what is in it                | 17    | 22      | rename: 17 comes before 22
+rename, onto a file in a directory without bit 2    | 17    | 13      | rename: 17 comes before 13
+rename, a directory without bit 2 to another parent | 0     | 13      | a rename asks for no bit of the node itself
+rename, missing, to below a file                    | 2     | 20      | the first path is walked to its end before the second
+rename, missing, onto the root                      | 2     | 16      | the first path is walked to its end before the second
+rename, missing, to 33                              | 36    | 2       | 36 comes before the walk
+rename, 33, to a bad form                           | 22    | 16      | a component is not .., and 22 comes before 36
+rename, so that a path beneath has 256 bytes        | 36    | 0       | a path has 255 bytes at most
 """
 
 ON_A_FULL_DISK = """
@@ -370,7 +448,8 @@ def acts(is_small):
     """The name of each trial, what is done, and whether it may change the tree even where it ends in an error."""
     for call, act in CALLS.items():
         for kind, path in PATHS.items():
-            yield (call, kind), partial(act, path=path), False
+            if (call, kind) != ("from", "256"):  # a first path's length has one byte
+                yield (call, kind), partial(act, path=path), False
     for trial, act in {**TRIALS, **(FULL_TRIALS if is_small else {})}.items():
         yield trial, act, True
 

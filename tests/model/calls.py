@@ -62,3 +62,8 @@ def map_(length):
 
 def unmap(address):
     return bytes([rules.UNMAP]) + put(address, ADDRESS)
+
+
+def rename(first, second, length=None):
+    """With another length of the first path than it has, where one is given."""
+    return bytes([rules.RENAME, len(first) if length is None else length]) + first + second

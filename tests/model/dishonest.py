@@ -182,6 +182,16 @@ def unmap(s):
     s.expect("ask", calls.unmap(UNIT))
 
 
+def rename(s):
+    a_tree(s)
+    s.expect("ask", calls.rename(b"/d/x", b"/z"))
+
+
+def rename_of_a_directory(s):
+    a_tree(s)
+    s.expect("ask", calls.rename(b"/e", b"/d/e"))
+
+
 # what asks the host, and the stop reason of a reply that has the right length
 QUESTIONS = {
     create: 3, mkdir: 3, open_: 4, close: 2, read_first_page: 5, read_last_page: 5, fetch_of_a_write: 5,
@@ -189,7 +199,7 @@ QUESTIONS = {
     rmdir: 2, chmod: 2, readdir: 7, readdir_of_one: 7, readdir_of_none: 7, stat: 6, stat_of_a_directory: 6,
     cut_that_grows: 2, cut_that_adds_pages: 2, read_over_the_old_end: 5, read_added_page: 5, read_last_added_page: 5,
     write_to_an_added_page: 5, cut_of_an_added_page: 5, stat_of_a_grown_file: 6, map_beside_a_smaller_one: 8,
-    map_of_one_unit: 8, unmap: 2,
+    map_of_one_unit: 8, unmap: 2, rename: 2, rename_of_a_directory: 2,
 }
 
 

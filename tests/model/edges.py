@@ -55,6 +55,23 @@ def deep(path_length):
 FULL = [MAX_SIZE] * (MAX_PAGES // pages_of(MAX_SIZE))  # 16 files of 64 pages
 
 
+def ring(count):
+    """A directory whose parents lead back to it after so many steps, and a file beside it."""
+    ids = [*range(2, 2 + count)]
+    nodes = [Node(id, parent, DIRECTORY, 7, 0, b"r") for id, parent in zip(ids, [*ids[1:], ids[0]])]
+    return [root(), *nodes, Node(2 + count, 1, FILE, 7, 3, b"f")]
+
+
+def chain(count):
+    """Directories with names of one byte, each in the one before."""
+    return [root(), *(Node(id, id - 1, DIRECTORY, 7, 0, b"d") for id in range(2, 2 + count))]
+
+
+def deepest_first(nodes):
+    """The same tree, each node but the root before its parent."""
+    return [nodes[0], *reversed(nodes[1:])]
+
+
 def crowd(*sizes):
     """256 nodes, every name of 32 bytes, the first files with these sizes: with 1,024 pages the longest image."""
     sizes += (0,) * (MAX_NODES - 1 - len(sizes))
@@ -75,7 +92,7 @@ def edges(layout):
         "ids differ": (laid(sample(id=6)), laid(sample(id=4))),
         "an id isn't the root's": (laid(sample()), laid(sample(id=1))),
         "the parent exists": (laid(sample(parent=1)), laid(sample(parent=9))),
-        "the parent is earlier": (laid(sample(parent=2)), laid(sample(parent=5))),
+        "the parents end at the root": (laid(sample(parent=2)), laid(ring(2))),
         "the parent is another": (laid(sample(parent=2)), laid(sample(parent=3))),
         "the parent is a directory": (laid(files(0, 0)), laid([*files(0, 0), Node(9, 3, FILE, 7, 0, b"a")])),
         "the root's parent holds nothing": (laid(sample(parent=1)), laid(sample(parent=0))),
@@ -106,4 +123,45 @@ def edges(layout):
     }
 
 
+def order_edges(layout):
+    """The same where nodes stand before their parents."""
+    laid = partial(image, layout=layout)
+    later = [*files(3), Node(9, 8, FILE, 7, 5, b"a"), Node(8, 1, DIRECTORY, 7, 0, b"d")]
+    return {
+        "the parent may be later": (laid(sample(parent=5)), laid(sample(parent=6))),
+        "a later parent is a directory": (laid(later), laid([*later[:-1], replace(later[-1], kind=FILE)])),
+        "a later parent's parent is one": (laid(late_uncle(DIRECTORY)), laid(late_uncle(FILE))),
+        "the last may be the parent of all": (laid(by_last(1)), laid(by_last(2))),
+        "no node is its own parent": (laid(chain(2)), laid(ring(1))),
+        "no ring of two": (laid(deepest_first(chain(2))), laid(deepest_first(ring(2)))),
+        "no ring of three": (laid(deepest_first(chain(3))), laid(ring(3))),
+        "no ring of 200": (laid(chain(127)), laid(ring(200))),
+        "no ring of 200, the other way": (laid(deepest_first(chain(127))), laid(deepest_first(ring(200)))),
+        "no way into a ring": (laid(late_uncle(DIRECTORY)), laid([*ring(3), Node(9, 3, FILE, 7, 0, b"in")])),
+        "a path of 255 bytes, deepest first": (
+            laid(deepest_first(deep(MAX_PATH))), laid(deepest_first(deep(MAX_PATH + 1))),
+        ),
+        "127 directories, deepest first": (laid(deepest_first(chain(127))), laid(deepest_first(chain(128)))),
+        "sibling names differ, before their parent": (laid(twins(b"b")), laid(twins(b"a"))),
+        "the root is first": (laid(chain(1)), laid(chain(1)[::-1])),
+    }
+
+
+def late_uncle(kind):
+    """A file in a directory in a node of this kind, each behind what it holds."""
+    return [*files(1), Node(9, 8, FILE, 7, 2, b"a"), Node(8, 7, DIRECTORY, 7, 0, b"b"), Node(7, 1, kind, 7, 0, b"c")]
+
+
+def by_last(parent):
+    """Files and a directory in the last node, whose parent is this one: the root, or what it holds."""
+    inside = [Node(2, 9, DIRECTORY, 7, 0, b"d"), *(Node(id, 9, FILE, 7, id, b"%d" % id) for id in range(3, 9))]
+    return [root(), *inside, Node(9, parent, DIRECTORY, 7, 0, b"last")]
+
+
+def twins(name):
+    """Two files in a directory behind them, the second with this name."""
+    return [root(), Node(3, 2, FILE, 7, 0, b"a"), Node(4, 2, FILE, 7, 0, name), Node(2, 1, DIRECTORY, 7, 0, b"d")]
+
+
 EDGES = edges(DELIVERED)
+ORDER_EDGES = order_edges(DELIVERED)

@@ -434,6 +434,7 @@ PLACES = {
     dishonest.rmdir: "stopped 2", dishonest.chmod: "stopped 2", dishonest.readdir: "stopped 7",
     dishonest.readdir_of_one: "stopped 7", dishonest.readdir_of_none: "stopped 7", dishonest.stat: "stopped 1",
     dishonest.stat_of_a_directory: "stopped 1", dishonest.map_of_one_unit: "stopped 1", dishonest.unmap: "stopped 2",
+    dishonest.rename: "stopped 2", dishonest.rename_of_a_directory: "stopped 2",
 }
 
 

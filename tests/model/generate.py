@@ -10,7 +10,7 @@ from random import Random
 
 from . import calls
 from .desk import MAX_BYTES
-from .edges import EDGES, FULL, ZEROS, deep, files, image
+from .edges import EDGES, FULL, ORDER_EDGES, ZEROS, chain, deep, deepest_first, files, image
 from .events import Call, Done, Load, Reply, Save
 from .image import LONGEST, write_image
 from .lies import OVER, WRONG
@@ -19,7 +19,8 @@ from .recording import FULL_DISK, Recording
 from .rules import (
     ADDRESS, ANSWER, CHMOD, CLOSE, CREATE, DIRECTORY, FILE, MAP, MAX_COUNT, MAX_MAP, MAX_MAPS, MAX_MODE, MAX_NAME,
     MAX_NODES, MAX_OPEN, MAX_PATH, MAX_SIZE, MKDIR, NO_SPACE, OPEN, PAGE, READ, READDIR, READ_ONLY_KINDS, READ_RIGHT,
-    REMOVE, REQUEST, RMDIR, SEEK, SPACE, STAT, TRUNCATE, UNIT, UNMAP, WRITE, WRITE_RIGHT, Node, put, unsigned,
+    REMOVE, RENAME, REQUEST, RMDIR, SEEK, SPACE, STAT, TRUNCATE, UNIT, UNMAP, WRITE, WRITE_RIGHT, Node, put, root,
+    unsigned,
 )
 from .tree import digest, guard, read_only_guard
 
@@ -33,6 +34,21 @@ WORLDS = [
     (files(*FULL[1:], MAX_SIZE - PAGE, 0), 2, [WRITE, SEEK, TRUNCATE]),
     (files(*FULL[1:], MAX_SIZE - 1, 0), 2, [WRITE, TRUNCATE]),
     (deep(222), 0, [CREATE, MKDIR]),
+]
+
+
+def wide(count):
+    """A directory of so many files, and three to go to."""
+    directories = [Node(id, 1, DIRECTORY, 7, 0, b"%c" % letter) for id, letter in enumerate(b"abcd", start=2)]
+    return [root(), *directories, *(Node(id, 2, FILE, 7, 0, b"%d" % id) for id in range(6, 6 + count))]
+
+
+# the same for renames: deep trees, a full table, files that are open in a tree
+RENAME_WORLDS = [
+    ([*deep(222), Node(90, 1, DIRECTORY, 7, 0, b"a"), Node(91, 90, FILE, 7, 3, b"b")], 1, [MKDIR, STAT]),
+    (chain(115), 0, [STAT]),
+    (wide(MAX_NODES - 6), 3, [READDIR, CREATE]),
+    (wide(5), 5, [READ, WRITE, CLOSE]),
 ]
 
 
@@ -63,14 +79,24 @@ def generate_filling(seed, length=50):
     return FillingGenerator(Random(seed)).run(length)
 
 
+def generate_renaming(seed, length=50):
+    """A list of renames before all."""
+    return RenamingGenerator(Random(seed)).run(length)
+
+
+def generate_read_only_renaming(seed, length=50):
+    """A list for a read-only guard that is asked to rename, and loads what another has renamed."""
+    return ReadOnlyRenamingGenerator(Random(seed)).run(length)
+
+
 def generate_read_only(seed, length=50):
     """A list for a read-only guard."""
     return ReadOnlyGenerator(Random(seed)).run(length)
 
 
 def generate_for_desk(seed, length=50):
-    """The same with calls and replies alone, and buffers that are long enough; of four, one is of maps and one of a
-    full disk.
+    """The same with calls and replies alone, and buffers that are long enough; of four, one is of maps, one of a full
+    disk and one of renames.
     """
     return DESK_GENERATORS.get(seed % 4, Generator)(Random(seed), desk=True).run(length)
 
@@ -513,12 +539,84 @@ class FillingGenerator(Generator):
         return calls.map_(UNIT)
 
 
+class RenamingGenerator(Generator):
+    """Renames among the calls by path, most of them taken, others refused by each number; a tree to move in, files open
+    in it. Images are loaded in any order of nodes, and lies are about renames and what shows them.
+    """
+
+    def __init__(self, random, desk=False):
+        super().__init__(random, desk)
+        self.lean([MKDIR, STAT, READDIR])
+        self.weights[RENAME] = self.pick(30, 60)
+        self.lies_about = self.pick(RENAME, RENAME, STAT, READDIR)
+        self.lie /= 2
+        self.images /= 2
+
+    def all_makers(self):
+        return {**MAKERS, RENAME: RenamingGenerator.rename_call}
+
+    def start(self):
+        self.pick(self.make_files, self.make_tree, self.make_tree, self.enter_world, self.enter_world)()
+
+    def make_tree(self):
+        """Directories, one of them barred on the way or for changes, and a file in each."""
+        for path in (b"/a", b"/a/b", b"/a/b/c", b"/c", b"/..."):
+            self.recording.do(calls.mkdir(7, path))
+            self.recording.do(calls.create(7, path + b"/" + self.pick(*NAMES)))
+        self.recording.do(calls.chmod(self.pick(7, 6, 5, 5), self.pick(b"/a", b"/a/b", b"/c", b"/")))
+
+    def enter_world(self):
+        nodes, opened, leaning = self.pick(*RENAME_WORLDS)
+        if not opened and not self.desk and self.chance(0.5):
+            nodes = deepest_first(nodes)
+        self.enter(nodes, opened, leaning)
+
+    def load_edge(self):
+        sound, broken = self.pick(*self.pick(EDGES, ORDER_EDGES, ORDER_EDGES).values())
+        self.load_sound(self.pick(sound, sound, broken))
+
+    def rename_call(self, kind):
+        node = self.some_node(self.guard.nodes[1:] or self.guard.nodes)
+        first = self.path_of(node)
+        if self.chance(0.1):
+            first = self.pick(b"/", self.child_path(), self.path(STAT))
+        length = None
+        if self.chance(0.03):
+            length = self.pick(0, 1, len(first) - 1, len(first) + 1, 255)
+        return calls.rename(first[:255], self.second_path(node, first), length)
+
+    def second_path(self, node, first):
+        """In some directory as a rule; else its own, one that exists, one beneath it, one at the limit of paths."""
+        beneath = self.path_of(self.pick(*self.guard.subtree(node)))
+        name = b"/" + self.pick(*NAMES)
+        usual = [self.child_path(), self.child_path(), self.new_path(), self.new_path(), self.new_path()]
+        others = [first, self.path_of(self.pick(*self.guard.nodes)), beneath + name, first + name]
+        if self.chance(0.25):
+            return self.pick(*others, self.path(CREATE))
+        return self.chance(0.3) and self.limit_path(node) or self.pick(*usual)
+
+    def new_path(self):
+        """A name that is hardly there yet."""
+        directories = [node for node in self.guard.nodes if node.kind == DIRECTORY]
+        return self.path_of(self.some_node(directories)).rstrip(b"/") + b"/%d" % self.random.randrange(100)
+
+    def limit_path(self, node):
+        """A path at which the longest one beneath the node would have 255 bytes or 256; none where no name makes it so.
+        """
+        wanted = self.pick(MAX_PATH, MAX_PATH + 1) - self.guard.length_beneath(node)
+        starts = [self.path_of(parent).rstrip(b"/") + b"/" for parent in self.guard.nodes if parent.kind == DIRECTORY]
+        fitting = [start for start in starts if 1 <= wanted - len(start) <= MAX_NAME]
+        start = self.pick(*fitting or [b""])
+        return start and start + self.pick(b"l", b"m") * (wanted - len(start))
+
+
 class ReadOnlyGenerator(Generator):
     """A read-only guard that loads what another has made. Mostly calls that look; every fourth or so does not, some of
     those with a fault of form. Lies are about what is looked at.
     """
 
     make_guard = staticmethod(read_only_guard)
+    made_by = Generator
     entry_rights = READ_RIGHT
     first_kinds = OPEN, OPEN, READDIR
 
@@ -539,7 +637,7 @@ class ReadOnlyGenerator(Generator):
 
     def load_made(self):
         """The images of a few moments of another guard, whose host is this one's from now on; the last is loaded."""
-        made = Generator(self.random)
+        made = self.made_by(self.random)
         made.lie = made.bad_form = made.bad_time = made.bad_buffer = made.images = 0
         made.make_files()
         for length in (0, self.pick(0, 5), self.pick(5, 20)):
@@ -561,7 +659,21 @@ class ReadOnlyGenerator(Generator):
         return calls.unmap(self.pick(0, UNIT, SPACE - UNIT))
 
 
-DESK_GENERATORS = {1: FillingGenerator, 3: MappingGenerator}
+class ReadOnlyRenamingGenerator(ReadOnlyGenerator):
+    made_by = RenamingGenerator
+    second_path, new_path, limit_path = (
+        RenamingGenerator.second_path, RenamingGenerator.new_path, RenamingGenerator.limit_path,
+    )
+
+    def __init__(self, random):
+        super().__init__(random)
+        self.weights[RENAME] = self.pick(2, 8)
+
+    def all_makers(self):
+        return {**super().all_makers(), RENAME: RenamingGenerator.rename_call}
+
+
+DESK_GENERATORS = {1: FillingGenerator, 2: RenamingGenerator, 3: MappingGenerator}
 MAKERS = {
     CREATE: Generator.mode_call, MKDIR: Generator.mode_call, OPEN: Generator.open_call, CLOSE: Generator.close_call,
     SEEK: Generator.seek_call, READ: Generator.read_call, WRITE: Generator.write_call,

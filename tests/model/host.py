@@ -160,6 +160,12 @@ class Host:
         self.find(fields[1:]).mode = fields[0]
         return put(0, 4)
 
+    def rename(self, fields):
+        first, second = rules.split_paths(fields)
+        (directory, name), (new_directory, new_name) = self.split(first), self.split(second)
+        new_directory.entries[new_name] = directory.entries.pop(name)
+        return put(0, 4)
+
     def map(self, fields):
         length = unsigned(fields)
         address = self.new_address(length)
@@ -189,4 +195,5 @@ REQUESTS = {
     rules.CREATE: "create", rules.MKDIR: "mkdir", rules.OPEN: "open", rules.CLOSE: "close", rules.READ: "fetch",
     rules.WRITE: "store", rules.TRUNCATE: "cut", rules.REMOVE: "remove", rules.RMDIR: "remove",
     rules.CHMOD: "chmod", rules.READDIR: "readdir", rules.STAT: "stat", rules.MAP: "map", rules.UNMAP: "unmap",
+    rules.RENAME: "rename",
 }

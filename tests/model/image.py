@@ -93,9 +93,9 @@ def is_sound(nodes, digest_count):
         and all(is_name(node.name) and len(node.name) <= MAX_NAME for node in nodes[1:])
         and 0 not in (node.id for node in nodes)
         and len({node.id for node in nodes}) == len(nodes)
-        and parents_come_first(nodes)
+        and len(path_lengths(nodes)) == len(nodes)
         and len({(node.parent, node.name) for node in nodes}) == len(nodes)
-        and all(length <= MAX_PATH for length in path_lengths(nodes))
+        and max(path_lengths(nodes)) <= MAX_PATH
         and digest_count == sum(pages_of(node.size) for node in nodes)
         and digest_count <= MAX_PAGES
     )
@@ -110,20 +110,17 @@ def within_limits(node):
     return node.mode <= MAX_MODE and node.kind in largest and node.size <= largest[node.kind]
 
 
-def parents_come_first(nodes):
-    """Each parent is an earlier directory."""
-    earlier = {nodes[0].id}
-    for node in nodes[1:]:
-        if node.parent not in earlier:
-            return False
-        if node.kind == DIRECTORY:
-            earlier.add(node.id)
-    return True
-
-
 def path_lengths(nodes):
-    """The length of each full path: that of its parent, which is earlier, a slash and the name."""
-    lengths = {nodes[0].id: 0}
+    """The length of the full path of each node that reaches the root by its parents, all of them directories, in
+    whatever order they stand.
+    """
+    children = {}
     for node in nodes[1:]:
-        lengths[node.id] = lengths.get(node.parent, 0) + 1 + len(node.name)
-    return lengths.values()
+        children.setdefault(node.parent, []).append(node)
+    lengths, waiting = [], [(nodes[0], 0)]
+    while waiting:
+        node, length = waiting.pop()
+        lengths.append(length)
+        if node.kind == DIRECTORY:
+            waiting += [(child, length + 1 + len(child.name)) for child in children.pop(node.id, [])]
+    return lengths

@@ -217,4 +217,5 @@ WRONG = {
     rules.READDIR: wrong_listings, rules.STAT: wrong_stats, rules.CLOSE: wrong_statuses,
     rules.WRITE: wrong_statuses, rules.TRUNCATE: wrong_statuses, rules.REMOVE: wrong_statuses,
     rules.RMDIR: wrong_statuses, rules.CHMOD: wrong_statuses, rules.MAP: wrong_maps, rules.UNMAP: wrong_statuses,
+    rules.RENAME: wrong_statuses,
 }

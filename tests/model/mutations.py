@@ -14,13 +14,18 @@ import tempfile
 from pathlib import Path
 
 from . import events
-from .generate import generate, generate_filling, generate_growing, generate_longer, generate_mapping
+from .generate import (
+    generate, generate_filling, generate_growing, generate_longer, generate_mapping, generate_renaming,
+)
+from .renames import RENAMES
+from .script import asked
 from .transcripts import read_only_recordings
 
 PACKAGE = Path(__file__).parent
 COPIED = ["__init__", "events", "rules", "image", "tree", "desk"]
 SEEDS = range(1400)
 FILLING_SEEDS = range(1400, 2200)
+RENAMING_SEEDS = range(2200, 2800)
 
 
 def replaced(place, text, instead):
@@ -112,7 +117,8 @@ def ended_by_full(change):
 
 IS_READ_ONLY = "isinstance(self, ReadOnly)"
 IS_NO_LOOK = "not self.takes(call)"
-IS_NO_LOOK_YET = "(call := rules.read_call(event.data)) and not rules.is_long(call.path) and not self.takes(call)"
+IS_LONG = "any(map(rules.is_long, call.paths))"
+IS_NO_LOOK_YET = f"(call := rules.read_call(event.data)) and not {IS_LONG} and not self.takes(call)"
 
 
 def read_only_takes(kinds):
@@ -143,6 +149,51 @@ def read_only_early(number, condition):
 def read_only_changes(change):
     """What a call that is not taken does before it is refused."""
     return added("tree.on_call", "refuse(30", f"{change} if {IS_NO_LOOK} else None")
+
+
+REACH = "len(path_lengths(nodes)) == len(nodes)"
+PARENTS_ARE_DIRECTORIES = "all(node.parent in [n.id for n in nodes if n.kind == DIRECTORY] for node in nodes[1:])"
+LONG_BENEATH = "36, len(second) + self.length_beneath(node) > MAX_PATH"
+
+
+def renamed_form(condition):
+    """What is asked of a rename's bytes."""
+    return replaced("rules", "None not in map(read_path, split_paths(both))", condition)
+
+
+def renamed_early(number, refusal):
+    """A rename is refused so before a number."""
+    return added("tree.rename", f"refuse({number}", f"refuse({refusal})")
+
+
+def renamed_before_13(whose):
+    """36 comes before 13 of this parent."""
+    return added("tree.rename", f"refuse(13, {whose}.mode", f"refuse({LONG_BENEATH})")
+
+
+def renamed_over(condition):
+    """What exists is in the way only so."""
+    return replaced("tree.rename", "there is not None", f"there is not None and {condition}")
+
+
+def renamed_with(change):
+    """What else a rename does."""
+    return added("tree.rename", "node.parent, node.name", change)
+
+
+def one_bit_is_enough(source):
+    line = line_with(source, "refuse(13, not parent")
+    return source.replace(line, "").replace("not new_parent.mode", "not (parent.mode | new_parent.mode)")
+
+
+def measured(how):
+    """How the paths beneath a node are measured, by pairs of kind and length."""
+    pairs = "[(child.kind, 1 + len(child.name) + self.length_beneath(child)) for child in self.children(node)] "
+
+    def change(source):
+        return source.replace(line_with(source, "return max"), f"        return {how.format(pairs)}\n")
+
+    return "tree.length_beneath", change
 
 
 IF_GROWN = "if call.size > node.size"
@@ -991,7 +1042,7 @@ MUTATIONS = {
     "read-only: 30 before 34": read_only_early(34, IS_NO_LOOK_YET),
     "read-only: 30 before 22": read_only_early(
         22,
-        f"{IS_READ_ONLY} and event.data[:1] and event.data[0] in {{*range(1, 16)}} - {{3, *rules.READ_ONLY_KINDS}}",
+        f"{IS_READ_ONLY} and event.data[:1] and event.data[0] in {{*range(1, 17)}} - {{3, *rules.READ_ONLY_KINDS}}",
     ),
     "read-only: 30 before 22 at rights": read_only_early(
         22,
@@ -1015,8 +1066,29 @@ MUTATIONS = {
     ),
     "read-only: an empty call is 30": read_only_early(22, f"{IS_READ_ONLY} and not event.data"),
     "read-only: kind 0 is 30": read_only_early(22, f"{IS_READ_ONLY} and event.data[:1] == b'\\0'"),
-    "read-only: kind 16 is 30": read_only_early(22, f"{IS_READ_ONLY} and event.data[:1] == b'\\x10'"),
-    "read-only: a kind from 16 up is 30": read_only_early(22, f"{IS_READ_ONLY} and event.data[:1] > b'\\x0f'"),
+    "read-only: kind 17 is 30": read_only_early(22, f"{IS_READ_ONLY} and event.data[:1] == b'\\x11'"),
+    "read-only: a kind from 17 up is 30": read_only_early(22, f"{IS_READ_ONLY} and event.data[:1] > b'\\x10'"),
+    "read-only: every rename is 30": read_only_early(22, f"{IS_READ_ONLY} and event.data[:1] == b'\\x10'"),
+    "read-only: every rename with two bytes is 30": read_only_early(
+        22,
+        f"{IS_READ_ONLY} and event.data[:1] == b'\\x10' and len(event.data) > 2",
+    ),
+    "read-only: 30 before 36 at rename": read_only_early(36, f"{IS_READ_ONLY} and call.kind == rules.RENAME"),
+    "read-only: takes rename": read_only_takes("call.kind in (*READ_ONLY_KINDS, RENAME)"),
+    "read-only: 30 after a rename's first walk": read_only_changes(
+        "call.kind == rules.RENAME and self.walk(rules.read_path(call.paths[0]))",
+    ),
+    "read-only: 30 after a rename's second walk": read_only_changes(
+        "call.kind == rules.RENAME and self.walk(rules.read_path(call.paths[1]), last_may_be_absent=True)",
+    ),
+    "read-only: 30 after a rename's 16": read_only_after(16, "call.kind == rules.RENAME and call.paths[0] == b'/'"),
+    "read-only: 30 after a rename's 17": read_only_after(17, "call.kind == rules.RENAME and call.paths[1] == b'/'"),
+    "read-only: a rename to its own path is done": read_only_changes(
+        "call.kind == rules.RENAME and call.paths[0] == call.paths[1] and refuse(0, True)",
+    ),
+    "read-only: a refused rename renames": read_only_changes(
+        "call.kind == rules.RENAME and vars(self.nodes[-1]).update(name=b'renamed')",
+    ),
     "read-only: 30 before 36": delayed("tree.on_call", "refuse(36", "refuse(30"),
     "read-only: 30 after the walk": read_only_changes("self.walk(call.names or (), last_may_be_absent=True)"),
     "read-only: 30 after all of the walk": read_only_changes("call.path and self.walk(call.names)"),
@@ -1177,11 +1249,212 @@ MUTATIONS = {
     "an image's name with a slash": replaced("rules.is_name", ' and b"/" not in name', ""),
     "an image's id 0": dropped("image.is_sound", "0 not in"),
     "an image's ids twice": dropped("image.is_sound", "{node.id for"),
-    "an image's parent is a file": replaced("image.parents_come_first", "node.kind == DIRECTORY", "node.kind"),
-    "an image's parent is later": replaced(
-        "image.parents_come_first",
-        "{nodes[0].id}",
-        "{node.id for node in nodes if node.kind == DIRECTORY}",
+    "an image's parent is a file": replaced("image.path_lengths", "node.kind == DIRECTORY", "node.kind"),
+    "an image's parent is absent": dropped("image.is_sound", REACH),
+    "an image's parents come first": replaced(
+        "image.is_sound",
+        REACH,
+        f"{REACH} and all(node.parent in [n.id for n in nodes[:i]] for i, node in enumerate(nodes) if i)",
+    ),
+    "an image's parents come next": replaced(
+        "image.is_sound",
+        REACH,
+        f"{REACH} and all(node.parent in [n.id for n in nodes[: i + 2]] for i, node in enumerate(nodes) if i)",
+    ),
+    "an image with a ring": replaced("image.is_sound", REACH, PARENTS_ARE_DIRECTORIES),
+    "an image with a ring of two": replaced(
+        "image.is_sound",
+        REACH,
+        f"{PARENTS_ARE_DIRECTORIES} and all(node.id != node.parent for node in nodes)",
+    ),
+    "an image with a long ring": replaced(
+        "image.is_sound",
+        REACH,
+        f"({REACH} or {PARENTS_ARE_DIRECTORIES} and len(nodes) - len(path_lengths(nodes)) > 2)",
+    ),
+    "an image with a ring of 200": replaced(
+        "image.is_sound",
+        REACH,
+        f"({REACH} or {PARENTS_ARE_DIRECTORIES} and len(nodes) - len(path_lengths(nodes)) > 127)",
+    ),
+    "an image's later parent is a file": replaced(
+        "image.path_lengths",
+        "node.kind == DIRECTORY",
+        "node.kind == DIRECTORY or nodes.index(node) == len(nodes) - 1",
+    ),
+    "an image's path is measured by its parent": replaced(
+        "image.path_lengths",
+        "length + 1 + len(child.name)",
+        "1 + len(node.name) + 1 + len(child.name)",
+    ),
+    "an image's path is measured up to an earlier parent": replaced(
+        "image.path_lengths",
+        "length + 1 + len(child.name)",
+        "(length if nodes.index(node) < nodes.index(child) else 0) + 1 + len(child.name)",
+    ),
+    # renames
+    "no rename": replaced("rules", '    RENAME: ("both",),\n', ""),
+    "rename: a first length of 0 is the root": replaced(
+        "rules.split_paths",
+        "return data[1:end]",
+        "return data[1:end] or b'/'",
+    ),
+    "rename: an empty second path is the root": replaced("rules.split_paths", "data[end:]", "(data[end:] or b'/')"),
+    "rename: the first path is of any form": renamed_form("read_path(split_paths(both)[1]) is not None and both[0]"),
+    "rename: the second path is of any form": renamed_form("read_path(split_paths(both)[0]) is not None"),
+    "rename: either path is of right form": renamed_form("any(map(read_path, split_paths(both)))"),
+    "rename: the length counts itself": replaced("rules.split_paths", "1 + data[0]", "data[0]"),
+    "rename: the length is the second path's": replaced(
+        "rules.split_paths",
+        "1 + data[0]",
+        "max(len(data) - data[0], 1)",
+    ),
+    "rename: 36 before 22": added(
+        "tree.on_call",
+        "refuse(22",
+        "refuse(36, event.data[:1] == b'\\x10' and any(map(rules.is_long, rules.split_paths(event.data[1:]))))",
+    ),
+    "rename: the first path's names are of any length": replaced("tree.on_call", "call.paths", "call.paths[-1:]"),
+    "rename: the second path's names are of any length": replaced("tree.on_call", "call.paths", "call.paths[:1]"),
+    "rename: the second path is walked first": delayed("tree.rename", "read_path(first)", "read_path(second), last"),
+    "rename: the second path is there to its end": replaced("tree.rename", "last_may_be_absent=True", "False"),
+    "rename: 16 before the second walk": replaced(
+        "tree.rename",
+        "new_parent, there",
+        "refuse(16, parent is None)\n        new_parent, there",
+    ),
+    "rename: the root is 22": replaced("tree.rename", "refuse(16, ", "refuse(22, "),
+    "rename: the root's own path is done": delayed("tree.rename", "refuse(16", "# nothing is sent"),
+    "rename: 17 before 16": renamed_early(16, "17, there is not None"),
+    "rename: 22 before 16": renamed_early(16, "22, new_parent is node"),
+    "rename: 13 before 16": renamed_early(16, "13, new_parent and not new_parent.mode & WRITE_BIT"),
+    "rename: its own path is 17": replaced("tree.rename", "if there is node", "if False"),
+    "rename: its own path is sent": replaced(
+        "tree.rename",
+        "return Done(0)  # nothing is sent",
+        "yield from self.ask_status(call.raw)\n            return Done(0)",
+    ),
+    "rename: its own path is done with the id": replaced("tree.rename", "Done(0)  #", "Done(node.id)  #"),
+    "rename: 13 before its own path": added(
+        "tree.rename",
+        "if there is node",
+        "refuse(13, not parent.mode & WRITE_BIT)",
+    ),
+    "rename: 16 for its own path where it is open": added(
+        "tree.rename",
+        "if there is node",
+        "refuse(16, there is node and node.id in self.open_files)",
+    ),
+    "rename: replaces a file": renamed_over("there.kind == DIRECTORY"),
+    "rename: replaces an empty directory": renamed_over("(there.kind == FILE or self.children(there))"),
+    "rename: replaces what is of its kind": renamed_over("(there.kind != node.kind or new_parent is None)"),
+    "rename: the root as second is 22": replaced("tree.rename", "refuse(17, ", "refuse(17 if new_parent else 22, "),
+    "rename: 22 before 17": delayed("tree.rename", "refuse(17", "refuse(22"),
+    "rename: 13 of the first before 17": renamed_early(17, "13, not parent.mode & WRITE_BIT"),
+    "rename: 13 of the second before 17": renamed_early(17, "13, new_parent and not new_parent.mode & WRITE_BIT"),
+    "rename: moves under itself": dropped("tree.rename", "refuse(22"),
+    "rename: moves into itself": replaced("tree.rename", "self.subtree(node)", "self.subtree(node)[1:]"),
+    "rename: moves beneath itself": replaced("tree.rename", "self.subtree(node)", "[node]"),
+    "rename: moves far beneath itself": replaced("tree.rename", "self.subtree(node)", "[node, *self.children(node)]"),
+    "rename: a name that begins alike is beneath": replaced(
+        "tree.rename",
+        "new_parent in self.subtree(node)",
+        "second.startswith(first)",
+    ),
+    "rename: beneath its parent": replaced("tree.rename", "in self.subtree(node)", "in self.subtree(parent)[1:]"),
+    "rename: beneath itself is 13": replaced("tree.rename", "refuse(22, ", "refuse(13, "),
+    "rename: 13 of the first before 22": delayed("tree.rename", "refuse(22", "refuse(13, not parent"),
+    "rename: 13 of the second before 22": renamed_early(22, "13, not new_parent.mode & WRITE_BIT"),
+    "rename: 36 before 22 for beneath": renamed_early(22, LONG_BENEATH),
+    "rename: the first parent's bit is skipped": dropped("tree.rename", "refuse(13, not parent"),
+    "rename: the second parent's bit is skipped": dropped("tree.rename", "refuse(13, not new_parent"),
+    "rename: one parent's bit is enough": ("tree.rename", one_bit_is_enough),
+    "rename: asks the node's bit 2": added("tree.rename", "refuse(36", "refuse(13, not node.mode & WRITE_BIT)"),
+    "rename: asks the first parent's bit 4": added(
+        "tree.rename",
+        "refuse(36",
+        "refuse(13, not parent.mode & READ_BIT)",
+    ),
+    "rename: asks bit 4 of the second parent": replaced(
+        "tree.rename",
+        "not new_parent.mode & WRITE_BIT",
+        "not new_parent.mode & READ_BIT",
+    ),
+    "rename: 36 before 13 of the first": renamed_before_13("not parent"),
+    "rename: 36 before 13 of the second": renamed_before_13("not new_parent"),
+    "rename: beneath is not measured": dropped("tree.rename", "refuse(36"),
+    "rename: 256 beneath": replaced("tree.rename", "> MAX_PATH", "> MAX_PATH + 1"),
+    "rename: no 255 beneath": replaced("tree.rename", "> MAX_PATH", ">= MAX_PATH"),
+    "rename: the children alone are measured": replaced(
+        "tree.rename",
+        "self.length_beneath(node)",
+        "max((1 + len(child.name) for child in self.children(node)), default=0)",
+    ),
+    "rename: files beneath are not measured": measured("max((n for kind, n in {}if kind == DIRECTORY), default=0)"),
+    "rename: the last child is measured": measured("[(0, 0), *{}][-1][1]"),
+    "rename: the first child is measured": measured("[*{}, (0, 0)][0][1]"),
+    "rename: all beneath is measured together": measured("sum(n for _, n in {})"),
+    "rename: no slash is measured": replaced("tree.length_beneath", "1 + len", "len"),
+    "rename: measured from the first path": replaced("tree.rename", "len(second) +", "len(first) +"),
+    "rename: measured from both": replaced("tree.rename", "len(second) +", "len(first) + len(second) +"),
+    "rename: 28 in a full table": added("tree.rename", "yield from", "refuse(28, len(self.nodes) == MAX_NODES)"),
+    "rename: an open file is refused": added("tree.rename", "refuse(36", "refuse(16, node.id in self.open_files)"),
+    "rename: a full directory is refused": added("tree.rename", "refuse(36", "refuse(39, self.children(node))"),
+    "rename: a directory is refused": added("tree.rename", "refuse(36", "refuse(21, node.kind == DIRECTORY)"),
+    "rename: open files beneath are refused": added(
+        "tree.rename",
+        "refuse(36",
+        "refuse(16, any(below.id in self.open_files for below in self.subtree(node)[1:]))",
+    ),
+    "rename: other paths are sent": replaced(
+        "tree.rename",
+        "ask_status(call.raw)",
+        "ask_status(call.raw[:1] + first + second)",
+    ),
+    "rename: the paths are sent the other way round": replaced(
+        "tree.rename",
+        "ask_status(call.raw)",
+        "ask_status(bytes([call.kind, len(second)]) + second + first)",
+    ),
+    "rename: the status is ignored": replaced("tree.rename", "from self.ask_status(call.raw)", "call.raw"),
+    "rename: the status is looked at in any length": replaced(
+        "tree.rename",
+        "yield from self.ask_status(call.raw)",
+        "stop(2, any((yield call.raw)))",
+    ),
+    "rename: answered by 1": replaced("tree.rename", "ask_status(call.raw)", "ask_status(call.raw, 1)"),
+    "rename: a full disk ends it": full_elsewhere("rename", "call.raw"),
+    "rename: a negative status refuses": replaced(
+        "tree.rename",
+        "yield from self.ask_status(call.raw)",
+        "refuse(17, (yield call.raw)[3:] > b'\\x7f')",
+    ),
+    "rename: done with the id": replaced(
+        "tree.rename",
+        "[-1]\n        return Done(0)",
+        "[-1]\n        return Done(node.id)",
+    ),
+    "rename: before it is answered": delayed("tree.rename", "yield from", "node.parent, node.name"),
+    "rename: the record goes to the end": renamed_with("self.nodes.append(self.nodes.pop(self.nodes.index(node)))"),
+    "rename: the record goes behind its parent": renamed_with(
+        "self.nodes.insert(self.nodes.index(new_parent) + 1, self.nodes.pop(self.nodes.index(node)))",
+    ),
+    "rename: another id": renamed_with("node.id = min({*range(2, 999)} - {other.id for other in self.nodes})"),
+    "rename: the handle is lost": renamed_with("self.open_files.pop(node.id, None)"),
+    "rename: the cursor goes back": renamed_with("vars(self.open_files.get(node.id, node)).update(cursor=0)"),
+    "rename: the descriptor is another": renamed_with("vars(self.open_files.get(node.id, node)).update(descriptor=0)"),
+    "rename: the children stay behind": renamed_with(
+        "[vars(below).update(parent=parent.id) for below in self.children(node)]",
+    ),
+    "rename: the mode is 7": renamed_with("node.mode = 7"),
+    "rename: the bytes are lost": renamed_with("node.pages, node.size = [], 0"),
+    "rename: the first digest is lost": renamed_with("node.pages[:1] = [bytes(32) for _ in node.pages[:1]]"),
+    "rename: the name stays": replaced("tree.rename", "rules.read_path(second)[-1]", "node.name"),
+    "rename: the parent stays": replaced("tree.rename", "node.name = new_parent.id", "node.name = parent.id"),
+    "rename: nothing moves": dropped("tree.rename", "node.parent, node.name"),
+    "rename: the first component is the name": replaced("tree.rename", "read_path(second)[-1]", "read_path(second)[0]"),
+    "rename: a copy stays": renamed_with(
+        "self.nodes.append(Node(0xABCDEF + len(self.nodes), parent.id, node.kind, 7, 0, rules.read_path(first)[-1]))",
     ),
     "an image's sibling names twice": dropped("image.is_sound", "(node.parent, node.name)"),
     "an image's names differ everywhere": replaced("image.is_sound", "(node.parent, node.name)", "node.name"),
@@ -1240,11 +1513,15 @@ def differs(make_guards, recording):
 
 def lists():
     """The lists that must tell every mutation, by seed; of seven, one in longer buffers, one of growing files, two of
-    maps; then those of a full disk; then, by name, the stored ones of a read-only guard.
+    maps; then those of a full disk and of renames; then, by name, the scripts of renames and the stored lists of a
+    read-only guard.
     """
     makers = [generate_longer, generate_growing, generate_mapping, generate_mapping, generate, generate, generate]
     made = [(seed, makers[seed % len(makers)](seed)) for seed in SEEDS]
-    return made + [(seed, generate_filling(seed)) for seed in FILLING_SEEDS] + list(read_only_recordings())
+    made += [(seed, generate_filling(seed)) for seed in FILLING_SEEDS]
+    made += [(seed, generate_renaming(seed)) for seed in RENAMING_SEEDS]
+    made += [(script.__name__, asked(script)) for script in RENAMES]
+    return made + list(read_only_recordings())
 
 
 def caught_by(name, recordings):

@@ -3,13 +3,13 @@ saves is the one that it last loaded. What it loads, another guard has made, who
 """
 
 from . import calls
-from .edges import FULL, ZEROS, crowd, deep, files, image
+from .edges import FULL, ORDER_EDGES, ZEROS, crowd, deep, files, image
 from .events import Call, Load, Reply, Save
 from .image import LONGEST
 from .recording import FULL_DISK
 from .rules import (
     ANSWER, DIRECTORY, FILE, READ_ONLY_KINDS, MAX_COUNT, MAX_MAP, MAX_NAME, MAX_NODES, MAX_OPEN, MAX_PATH, MAX_SIZE, OPEN, PAGE,
-    READ_RIGHT, READDIR, REQUEST, SPACE, UNIT, UNMAP, Node, put, root,
+    READ_RIGHT, READDIR, RENAME, REQUEST, SPACE, UNIT, Node, put, root,
 )
 from .script import Script, load_of
 from .tree import read_only_guard
@@ -22,11 +22,12 @@ TEXT = b"".join(b"%07d " % i for i in range(600))  # 4,800 bytes, each page othe
 FRESH_IMAGE = image([root()])
 
 # one call of each kind that is not taken, each right in form, and in itself possible in the house
-REFUSED = [
+CHANGES = [
     calls.create(7, b"/new"), calls.mkdir(7, b"/new"), calls.open_(2, b"/f"), calls.open_(3, b"/f"),
     calls.write(2, b"x"), calls.truncate(2, 0), calls.remove(b"/f"), calls.rmdir(b"/kept/e"), calls.chmod(7, b"/f"),
     calls.map_(UNIT), calls.unmap(UNIT),
 ]
+REFUSED = [*CHANGES, calls.rename(b"/f", b"/new")]
 # one of each kind that is taken
 TAKEN = [
     calls.open_(1, b"/f"), calls.close(2), calls.seek(2, 0), calls.read(2, 1), calls.readdir(b"/"), calls.stat(b"/"),
@@ -295,10 +296,55 @@ def read_only_maps_nothing(s):
         s.refuses(30, calls.map_(UNIT))
 
 
+def read_only_renames_nothing(s):
+    """30 behind each fault of form and each length of either path, before the walks and all that follows them."""
+    s.take(house())
+    long, longest = b"/" + LONG, b"/n" * 127 + b"/n"
+    for first, second in (
+        (b"/f", b"/new"), (b"/d", b"/new"), (b"/d/x", b"/y"), (b"/f", b"/d/f"), (b"/d", b"/blind/d"), (b"/f", b"/f"),
+        (b"/", b"/"), (b"/", b"/new"), (b"/f", b"/"), (b"/f", b"/d"), (b"/d", b"/d/y"), (b"/d", b"/d/x"),
+        (b"/kept/x", b"/y"), (b"/f", b"/kept/f"), (b"/kept/x", b"/kept/y"), (b"/kept/x", b"/kept/x"),
+        (b"/f/x", b"/new"), (b"/shut/x", b"/new"), (b"/none", b"/new"), (b"/f", b"/f/x"), (b"/f", b"/shut/f"),
+        (b"/f", b"/none/f"), (b"/" + LONG[1:], longest[:-2]),
+    ):
+        s.refuses(30, calls.rename(first, second))
+    for wrong in (b"", b"f", b"/f/", b"/d//x", b"/..", b"/f\0", long + b"/", longest + b"/"):
+        s.refuses(22, calls.rename(b"/f", wrong), calls.rename(long, wrong))
+        s.refuses(22, calls.rename(wrong[:255], b"/new"), calls.rename(wrong[:255], long))
+    wrong = (calls.rename(b"/f", b"/new", length) for length in (0, 1, 3, 6, 9))
+    s.refuses(22, b"\x10", b"\x10\0", b"\x10\2/f", *wrong)
+    s.refuses(36, calls.rename(b"/f", long), calls.rename(long, b"/f"), calls.rename(b"/none", longest))
+    s.refuses(36, calls.rename(long, longest), calls.rename(b"/", long), calls.rename(b"/f/x", b"/shut" + long))
+    s.is_last()
+
+
+def read_only_renamed_elsewhere(s):
+    """What another guard has renamed is read here, and saved with each node before its parent."""
+    made = Script()
+    for path in (b"/a", b"/b"):
+        made.do(calls.mkdir(7, path))
+    made.do(calls.create(6, b"/a/x"))
+    fill(made, b"/a/x", TEXT[:PAGE])
+    made.do(calls.rename(b"/a", b"/b/a"))
+    s.take(saved(made))
+    s.is_last()
+    s.refuses(2, calls.stat(b"/a"), calls.open_(1, b"/a/x"))
+    handle = s.open(b"/b/a/x")
+    s.refuses(30, calls.rename(b"/b/a", b"/a"), calls.rename(b"/b/a/x", b"/b/a/x"))
+    s.expect_end(f"done {PAGE} {TEXT[:PAGE].hex()}", calls.read(handle, MAX_COUNT))
+    s.expect_end("done 0", calls.close(handle))
+    s.expect_end("done 1", calls.readdir(b"/b"))
+    s.is_last()
+    for sound, broken in ORDER_EDGES.values():
+        s.expect("refused 84", load_of(broken))
+        s.expect("done 0", load_of(sound))
+        s.expect(f"done {len(sound)} {sound.hex()}", Save(len(sound)))
+
+
 def read_only_other_kinds(s):
     """There are none: that is a fault of form."""
     s.refuses(22, b"", b"\0", b"\0/f")
-    for kind in (UNMAP + 1, UNMAP + 2, UNMAP + 3, 32, 127, 255):
+    for kind in (RENAME + 1, RENAME + 2, RENAME + 3, 32, 127, 255):
         s.refuses(22, bytes([kind]), bytes([kind]) + b"/f", bytes([kind, 1]) + b"/f", bytes([kind]) + put(2, 8))
     s.refuses(22, *(call[:1] for call in (*REFUSED, *TAKEN)))
 
@@ -531,6 +577,7 @@ SCRIPTS = [
     read_only_114_before_34, read_only_114_while_reading, read_only_34_before_all_else, read_only_longer_buffers,
     read_only_22_before_36_before_30, read_only_30_before_the_walk, read_only_30_before_28, read_only_saves,
     read_only_loads, read_only_refused_loads, read_only_modes_of_a_root, read_only_short_replies,
+    read_only_renames_nothing, read_only_renamed_elsewhere,
 ]
 
 
@@ -597,7 +644,7 @@ def dishonest_lists():
             s = asked(question)
             is_length = len(lie) != len(s.truth) and s.request[0] != READDIR
             s.expect(f"stopped {1 if is_length else reason}", Reply(lie))
-            for event in (Call(REFUSED[len(name) % len(REFUSED)]), Call(calls.stat(b"/")), Save(LONGEST)):
+            for event in (Call(CHANGES[len(name) % len(CHANGES)]), Call(calls.stat(b"/")), Save(LONGEST)):
                 s.expect("refused 5", event)
             yield f"read-only, {question.__name__}: {name}", s
 

@@ -25,8 +25,8 @@ SPACE = 1 << 8 * ADDRESS  # the first address that there is not
 
 # SPECIFICATION 4
 (
-    CREATE, MKDIR, OPEN, CLOSE, SEEK, READ, WRITE, TRUNCATE, REMOVE, RMDIR, CHMOD, READDIR, STAT, MAP, UNMAP,
-) = range(1, 16)
+    CREATE, MKDIR, OPEN, CLOSE, SEEK, READ, WRITE, TRUNCATE, REMOVE, RMDIR, CHMOD, READDIR, STAT, MAP, UNMAP, RENAME,
+) = range(1, 17)
 # what a read-only guard takes, beside an open with the right to read alone
 READ_ONLY_KINDS = CLOSE, SEEK, READ, READDIR, STAT
 READ_RIGHT, WRITE_RIGHT = 1, 2
@@ -93,6 +93,12 @@ def read_path(path):
     return tuple(names) if first == b"" and names and all(map(is_name, names)) else None
 
 
+def split_paths(data):
+    """A rename's two paths, the first behind its length; where that passes the end, nothing is left for the second."""
+    end = 1 + data[0] if data else 0
+    return data[1:end], data[end:]
+
+
 def is_long(path):
     return len(path) > MAX_PATH or any(len(name) > MAX_NAME for name in path.split(b"/"))
 
@@ -113,6 +119,7 @@ FIELDS = {
     STAT: ("path",),
     MAP: ("length",),
     UNMAP: ("address",),
+    RENAME: ("both",),
 }
 WIDTHS = {  # others take the rest
     "mode": 1, "rights": 1, "handle": ID, "position": 8, "count": 4, "size": 8, "length": 4, "address": ADDRESS,
@@ -123,6 +130,7 @@ FORMS = {
     "count": lambda count: count <= MAX_COUNT,
     "data": lambda data: len(data) <= MAX_COUNT,
     "path": lambda path: read_path(path) is not None,
+    "both": lambda both: None not in map(read_path, split_paths(both)),
     "length": lambda length: UNIT <= length <= MAX_MAP and length % UNIT == 0,
 }
 
@@ -142,6 +150,7 @@ class ParsedCall:
     data: bytes = b""
     length: int = 0
     address: int = 0
+    both: bytes = b""
 
     @property
     def kind(self):
@@ -150,6 +159,10 @@ class ParsedCall:
     @property
     def names(self):
         return read_path(self.path)
+
+    @property
+    def paths(self):
+        return split_paths(self.both) if self.kind == RENAME else (self.path,)
 
 
 def read_call(raw):

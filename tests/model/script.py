@@ -83,5 +83,12 @@ class Script(Recording):
             self.do(calls.chmod(mode, path))
 
 
+def asked(script):
+    """A script that has run."""
+    s = Script()
+    script(s)
+    return s
+
+
 def load_of(data):
     return Load(data, digest(data))

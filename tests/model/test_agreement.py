@@ -3,15 +3,18 @@ honest host.
 """
 
 import unittest
+from functools import partial
 from random import Random
 
 from . import calls
 from .edges import image, sample
-from .events import Call, Done, Load, Refused, Reply, Save, Stopped
+from .events import Ask, Call, Done, Load, Refused, Reply, Save, Stopped
 from .full import full_lists, neighbour_lists
-from .generate import FillingGenerator, Generator, GrowingGenerator, MappingGenerator
+from .generate import FillingGenerator, Generator, GrowingGenerator, MappingGenerator, RenamingGenerator
+from .host import Host
+from .image import read_image, write_image
 from .recording import FULL_DISK
-from .rules import DIRECTORY, MAX_COUNT, MAX_MAPS, SPACE, UNIT, unsigned
+from .rules import DIRECTORY, MAX_COUNT, MAX_MAPS, RENAME, SPACE, UNIT, put, split_paths, unsigned
 from .script import Script, load_of
 from .transcripts import SCRIPTS
 from .tree import guard, tree
@@ -20,8 +23,9 @@ SEEDS = range(10_000, 10_200)
 
 
 def generator(seed):
-    """In turn of all calls of files, of growing files, of maps, of a full disk."""
-    return (Generator, GrowingGenerator, MappingGenerator, FillingGenerator)[seed % 4](Random(seed))
+    """In turn of all calls of files, of growing files, of maps, of a full disk, of renames."""
+    kinds = Generator, GrowingGenerator, MappingGenerator, FillingGenerator, RenamingGenerator
+    return kinds[seed % len(kinds)](Random(seed))
 
 
 def of_saves(steps):
@@ -51,6 +55,31 @@ def stops_with(grown, seed):
         return status
 
     host.cut = cut
+    return any(isinstance(outcome, Stopped) for _, outcome in honest.run(80).steps)
+
+
+def left_children(host, fields):
+    """A directory is renamed without what is in it."""
+    status = Host.rename(host, fields)
+    _, second = split_paths(fields)
+    host.find(second).entries = {}
+    return status
+
+
+def stops_with_renames(wrong, seed):
+    """Whether an honest list stops with a host that renames in this way, and says so where it finds no such name."""
+    honest = RenamingGenerator(Random(seed))
+    honest.lie = 0
+    host = honest.recording.host
+    right = host.reply
+
+    def reply(request):
+        try:
+            return right(request)
+        except KeyError:
+            return put(-2, 4)
+
+    host.rename, host.reply = partial(wrong, host), reply
     return any(isinstance(outcome, Stopped) for _, outcome in honest.run(80).steps)
 
 
@@ -135,6 +164,31 @@ class Agreement(unittest.TestCase):
             lambda data, size: data.ljust(size + 1, b"\0"),
         ):
             self.assertTrue(any(stops_with(grown, seed) for seed in range(100)))
+
+    def test_renames_leave_host_and_guard_alike(self):
+        """After an honest list of renames all is found where the host has it; nothing stops."""
+        moved = 0
+        for seed in SEEDS:
+            honest = RenamingGenerator(Random(seed))
+            honest.lie = 0
+            recording = honest.run(80)
+            moved += sum(isinstance(outcome, Ask) and outcome.data[0] == RENAME for _, outcome in recording.steps)
+            recording.finish() if recording.guard.pending else None
+            self.assertFalse(recording.guard.stopped, seed)
+            self.see_all(honest, recording)
+        self.assertGreaterEqual(moved, 500)
+
+    def test_a_rename_that_was_none_is_seen(self):
+        """A host that says that it has renamed, and has not, or has left the children behind, is stopped."""
+        for wrong in (lambda host, fields: put(0, 4), left_children):
+            self.assertTrue(any(stops_with_renames(wrong, seed) for seed in range(100)))
+
+    def test_tables_stay_a_tree(self):
+        """Whatever the host replies, a save of the nodes is sound: each reaches the root, no path is too long."""
+        for seed in SEEDS:
+            nodes = RenamingGenerator(Random(seed)).run(80).guard.nodes
+            data = write_image(nodes, [page for node in nodes for page in node.pages])
+            self.assertIsNotNone(read_image(data))
 
     def test_maps_keep_apart(self):
         """Whatever the host replies: sixteen at most, within the space, none over another."""

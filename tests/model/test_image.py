@@ -4,14 +4,17 @@ back.
 
 import unittest
 
-from .edges import FULL, crowd, edges, image, sample
+from .edges import FULL, crowd, edges, image, order_edges, sample
 from .image import DELIVERED, LONGEST, MAKER, Layout, longest, read_image, write_image
 from .rules import Node, root
 
 # the longest image by hand: a record without its name has 4 + 4 + 1 + 1 + 4 + 1 = 15 bytes, so that there are
 # 4 + 15 + 255 * (15 + 32) + 4 + 1,024 * 32 = 44,776; 256 makers are 256 more, 512 ids of 8 bytes 2,048 more
 LENGTHS = {DELIVERED: 44_776, Layout(4, True): 45_032, Layout(8, False): 46_824, Layout(8, True): 47_080}
-EDGES = [(layout, rule, *both) for layout in LENGTHS for rule, both in edges(layout).items()]
+EDGES = [
+    (layout, rule, *both) for layout in LENGTHS
+    for rule, both in (*edges(layout).items(), *order_edges(layout).items())
+]
 
 
 class Images(unittest.TestCase):

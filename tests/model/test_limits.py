@@ -13,7 +13,7 @@ class Limits(unittest.TestCase):
         self.assertEqual((rules.MAX_SIZE, rules.MAX_PATH, rules.MAX_NAME, rules.MAX_COUNT), (65_536, 255, 32, 4096))
         self.assertEqual((rules.MAX_MODE, rules.MAX_DESCRIPTOR, rules.STAT), (7, 1023, 13))
         self.assertEqual((rules.MAP, rules.UNMAP, rules.UNIT, rules.MAX_MAP), (14, 15, 4096, 65_536))
-        self.assertEqual((rules.MAX_MAPS, rules.SPACE), (16, 2**64))
+        self.assertEqual((rules.MAX_MAPS, rules.SPACE, rules.RENAME), (16, 2**64, 16))
         self.assertEqual((rules.NO_SPACE, rules.put(rules.NO_SPACE, rules.ID)), (-28, b"\xe4\xff\xff\xff"))
 
     def test_lengths(self):

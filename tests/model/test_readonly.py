@@ -6,14 +6,15 @@ from random import Random
 from . import calls, rules
 from .edges import image
 from .events import Call, Done, Load, Refused, Save
-from .generate import ReadOnlyGenerator, generate_read_only
+from .generate import ReadOnlyGenerator, generate_read_only, generate_read_only_renaming
 from .image import LONGEST
 from .readonly import QUESTIONS, REFUSED, TAKEN, dishonest_lists, is_taken, scripted_lists
-from .rules import UNMAP, read_call, root
+from .rules import RENAME, read_call, root
 from .transcripts import read_only_recordings
 from .tree import DigestStore, ReadOnly, guard
 
 SEEDS = range(20_000, 20_300)
+RENAMING_SEEDS = range(20_300, 20_350)
 FRESH = image([root()])
 
 
@@ -71,7 +72,8 @@ class ReadOnlyGuard(unittest.TestCase):
     @classmethod
     def setUpClass(cls):
         stored = [recording for _, recording in read_only_recordings()]
-        cls.recordings = [ended(recording) for recording in (*stored, *map(generate_read_only, SEEDS))]
+        made = (*map(generate_read_only, SEEDS), *map(generate_read_only_renaming, RENAMING_SEEDS))
+        cls.recordings = [ended(recording) for recording in (*stored, *made)]
 
     def test_saves_what_it_loaded(self):
         saves = 0
@@ -104,7 +106,7 @@ class ReadOnlyGuard(unittest.TestCase):
 
     def test_every_kind(self):
         """The scripts have each kind among what is taken or refused, and each number of the order."""
-        self.assertEqual({call[0] for call in (*REFUSED, *TAKEN)}, set(range(1, UNMAP + 1)))
+        self.assertEqual({call[0] for call in (*REFUSED, *TAKEN)}, set(range(1, RENAME + 1)))
         steps = [step for _, recording in scripted_lists() for step in recording.steps]
         numbers = {outcome.number for _, outcome in steps if isinstance(outcome, Refused)}
         self.assertEqual(numbers, {5, 114, 61, 34, 22, 36, 30, 20, 13, 2, 21, 16, 24, 9, 74, 84})

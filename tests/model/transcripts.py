@@ -23,21 +23,26 @@ A later kind of event or setting takes a letter of its own, so stored lines stay
 
 import sys
 
-from . import dishonest, full, maps, numbers, pages, readonly, trials
+from . import dishonest, full, maps, numbers, pages, readonly, renames, trials
 from .events import Call, Load, Reply, Save
 from .generate import (
     generate, generate_filling, generate_growing, generate_longer, generate_mapping, generate_read_only,
+    generate_read_only_renaming, generate_renaming,
 )
 from .rules import ANSWER, REQUEST
 from .script import Script
 
-SCRIPTS = [*trials.TRIALS, *numbers.NUMBERS, *numbers.NEIGHBOURS, *pages.PAGES, *maps.MAPS, *full.SCRIPTS]
+SCRIPTS = [
+    *trials.TRIALS, *numbers.NUMBERS, *numbers.NEIGHBOURS, *pages.PAGES, *maps.MAPS, *full.SCRIPTS, *renames.RENAMES,
+]
 SEEDS = range(100)
 LONGER_SEEDS = range(100, 120)
 GROWING_SEEDS = range(120, 150)
 MAPPING_SEEDS = range(150, 161)
 FILLING_SEEDS = range(161, 181)
 READ_ONLY_SEEDS = range(181, 197)
+RENAMING_SEEDS = range(197, 237)
+READ_ONLY_RENAMING_SEEDS = range(237, 243)
 
 
 def recordings():
@@ -59,6 +64,8 @@ def recordings():
         yield f"seed {seed}, maps", generate_mapping(seed)
     for seed in FILLING_SEEDS:
         yield f"seed {seed}, a full disk", generate_filling(seed)
+    for seed in RENAMING_SEEDS:
+        yield f"seed {seed}, renames", generate_renaming(seed)
 
 
 def read_only_recordings():
@@ -67,6 +74,8 @@ def read_only_recordings():
     yield from readonly.dishonest_lists()
     for seed in READ_ONLY_SEEDS:
         yield f"seed {seed}, read-only", generate_read_only(seed)
+    for seed in READ_ONLY_RENAMING_SEEDS:
+        yield f"seed {seed}, read-only, renames", generate_read_only_renaming(seed)
 
 
 def write_list(name, steps, shown={}, letter="f"):

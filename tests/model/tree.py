@@ -25,7 +25,8 @@ from .events import Ask, Call, Done, Load, Refused, Reply, Save, Stopped
 from .image import DIGEST, read_image, write_image
 from .rules import (
     ADDRESS, ANSWER, DIRECTORY, FILE, ID, MAX_DESCRIPTOR, MAX_MAPS, MAX_NODES, MAX_OPEN, MAX_PAGES, MAX_SIZE, NO_SPACE,
-    PAGE, READ_BIT, READ_RIGHT, REQUEST, SEARCH_BIT, SPACE, UNIT, WRITE_BIT, WRITE_RIGHT, Node, pages_between, pages_of,
+    MAX_PATH, PAGE, READ_BIT, READ_RIGHT, REQUEST, SEARCH_BIT, SPACE, UNIT, WRITE_BIT, WRITE_RIGHT, Node, pages_between,
+    pages_of,
 )
 
 
@@ -133,7 +134,7 @@ class Machine:
         refuse(34, event.answer_len < ANSWER or event.request_len < REQUEST)
         call = rules.read_call(event.data)
         refuse(22, call is None)
-        refuse(36, rules.is_long(call.path))
+        refuse(36, any(map(rules.is_long, call.paths)))
         refuse(30, not self.takes(call))
         return self.advance(getattr(self, CALLS[call.kind])(call))
 
@@ -197,6 +198,14 @@ class Machine:
             refuse(2, child is None and not (last_may_be_absent and left == 0))
             parent, node = node, child
         return parent, node
+
+    def subtree(self, node):
+        """A node and all that is beneath it."""
+        return [node, *(below for child in self.children(node) for below in self.subtree(child))]
+
+    def length_beneath(self, node):
+        """How much longer the longest path beneath a node is than the node's own."""
+        return max((1 + len(child.name) + self.length_beneath(child) for child in self.children(node)), default=0)
 
     def opened(self, handle, right=0):
         """The open file of a handle and its node; close and seek need no right."""
@@ -274,6 +283,23 @@ class Machine:
         stop(1, len(reply) != ID + 6)
         stop(6, reply != rules.stat_reply(node))
         return Done(node.size, reply)
+
+    def rename(self, call):
+        """The node keeps its place, its id and all that is beneath it."""
+        first, second = call.paths
+        parent, node = self.walk(rules.read_path(first))
+        new_parent, there = self.walk(rules.read_path(second), last_may_be_absent=True)
+        refuse(16, parent is None)
+        if there is node:
+            return Done(0)  # nothing is sent
+        refuse(17, there is not None)
+        refuse(22, new_parent in self.subtree(node))
+        refuse(13, not parent.mode & WRITE_BIT)
+        refuse(13, not new_parent.mode & WRITE_BIT)
+        refuse(36, len(second) + self.length_beneath(node) > MAX_PATH)
+        yield from self.ask_status(call.raw)
+        node.parent, node.name = new_parent.id, rules.read_path(second)[-1]
+        return Done(0)
 
     # calls by handle
 
@@ -408,7 +434,7 @@ CALLS = {
     rules.CREATE: "create", rules.MKDIR: "create", rules.OPEN: "open", rules.CLOSE: "close", rules.SEEK: "seek",
     rules.READ: "read", rules.WRITE: "write", rules.TRUNCATE: "truncate", rules.REMOVE: "remove",
     rules.RMDIR: "rmdir", rules.CHMOD: "chmod", rules.READDIR: "readdir", rules.STAT: "stat", rules.MAP: "map",
-    rules.UNMAP: "unmap",
+    rules.UNMAP: "unmap", rules.RENAME: "rename",
 }
 
 

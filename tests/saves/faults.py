@@ -9,7 +9,7 @@ from pathlib import Path
 
 from model import calls
 
-from .power import ON, WORK, Life, expect, new_place
+from .power import WORK, Life, expect, new_place, work_on
 
 EIO, ENOSPC, EBADMSG = "5", "28", "74"
 EVER = 1000  # system calls: all that come
@@ -47,8 +47,7 @@ def disk_fails(program, place):
     expect(life.send("s"), ["failed", EIO])
     expect(life.send("b"), ["loaded"])
     expect(life.looks(), right)
-    for call in ON:
-        expect(life.do(call)[0], "done")
+    work_on(life)
     expect(life.send("s"), ["saved"])
     expect(life.end(), 0)
 
@@ -99,8 +98,7 @@ def full_save_at(program, place, first):
     expect(life.send("b"), ["loaded"])
     expect(life.looks() in ([right] if first < 10 else [right, after]), True)
     expect([path.name for path in place.rglob("*") if path.name in ("new", "digest.new")], [])
-    for call in ON:
-        expect(life.do(call)[0], "done")
+    work_on(life)
     expect(life.send("s"), ["saved"])
     expect(life.end(), 0)
     return True

@@ -17,15 +17,17 @@ from host.beside import Different, Driver, Killed, comparable, durable
 from host.lost import Disk
 from model import calls
 
+# in the second image a file stands before its directory; in the third it is back, renamed while it was open
 WORK = [
     [calls.create(6, b"/a"), calls.open_(3, b"/a"), calls.write(2, b"1" * 1500), calls.close(2), calls.mkdir(7, b"/d")],
     [calls.create(7, b"/d/b"), calls.open_(3, b"/a"), calls.truncate(2, 700), calls.close(2), calls.chmod(4, b"/d/b"),
-     calls.map_(8192)],
-    [calls.remove(b"/d/b"), calls.rmdir(b"/d"), calls.open_(3, b"/a"), calls.write(2, b"third"), calls.close(2)],
+     calls.map_(8192), calls.rename(b"/a", b"/d/a")],
+    [calls.remove(b"/d/b"), calls.open_(3, b"/d/a"), calls.rename(b"/d/a", b"/a"), calls.rmdir(b"/d"),
+     calls.write(2, b"third"), calls.close(2)],
 ]
 LOOKS = [
     calls.readdir(b"/"), calls.readdir(b"/d"), calls.stat(b"/a"), calls.stat(b"/d"), calls.stat(b"/d/b"),
-    calls.open_(1, b"/a"), calls.read(2, 4096), calls.close(2),
+    *(call for path in (b"/a", b"/d/a") for call in (calls.open_(1, path), calls.read(2, 4096), calls.close(2))),
 ]
 CHANGES = 100  # of the disk, in a save
 ON = [calls.create(7, b"/on"), calls.open_(3, b"/a"), calls.seek(2, 100), calls.write(2, b"on"), calls.close(2)]
@@ -118,8 +120,7 @@ def lose(life, place, random):
 
 def go_on(program, place, life, before, random):
     """The new life works and saves; power is lost once more in that save or behind it."""
-    for call in ON[: len(ON) if life.do(calls.stat(b"/a"))[0] == "done" else 1]:
-        expect(life.do(call)[0], "done")
+    work_on(life)
     after = life.looks()
     life.send(f"k {random.randrange(1, CHANGES)}")
     try:
@@ -132,6 +133,12 @@ def go_on(program, place, life, before, random):
     life.send("b")
     expect(life.looks() in (before, after), True)
     expect(life.end(), 0)
+
+
+def work_on(life):
+    """What can be done in the tree that there is: its file may not be there yet, or be elsewhere."""
+    for call in ON[: len(ON) if life.do(calls.stat(b"/a"))[0] == "done" else 1]:
+        expect(life.do(call)[0], "done")
 
 
 def main():

@@ -47,6 +47,39 @@ static size_t longest(void)
     return setup_image(m, NODES, image);
 }
 
+/* the root and directories with names of one byte, each before the one it stands in; the last one's parent is `top` */
+static size_t deepest_first(size_t directories, size_t top)
+{
+    for (size_t i = 0; i <= directories; i++) {
+        uint8_t *r = m + NODES_AT + WIDTH * i;
+        r[0] = i == 0 ? 1 : directories + 2 - i;
+        r[8] = i == 0 ? 0 : i == directories ? top : directories + 1 - i;
+        r[16] = 2;
+        r[17] = 7;
+        r[22] = i != 0;
+        r[23] = 'd';
+    }
+    return setup_image(m, directories + 1, image);
+}
+
+/* what is judged beside the longest image: how many directories, the last one's parent, a place that is a file's or 0,
+ * and whether it is sound */
+static const struct order { const char *name; size_t directories, top, file; int is_sound; } orders[] = {
+    {"deepest first", 127, 1, 0, 1}, {"too deep", 128, 1, 0, 0}, {"no parent", 3, 9, 0, 0},
+    {"a file last", 3, 1, 3, 0}, {"a file first", 3, 1, 1, 1}, {"its own parent", 1, 2, 0, 0},
+    {"ring of two", 2, 3, 0, 0}, {"ring of three", 3, 4, 0, 0}, {"ring of 200", 200, 201, 0, 0},
+};
+enum { ORDERS = sizeof orders / sizeof *orders };
+
+static int is_sound(int ours, const struct order *o)
+{
+    memset(m, 0, sizeof m);
+    size_t n = deepest_first(o->directories, o->top);
+    if (o->file)
+        image[4 + 15 + (o->file - 1) * 16 + 8] = 1;
+    return ours ? ours_is_sound(image, n) : plain_is_sound(image, n);
+}
+
 static const char *const cases[] = {"find1", "find7", "find28", "middle28", "add", "remove", "digest", "image", "sound",
     "load"};
 enum { CASES = sizeof cases / sizeof *cases };
@@ -96,7 +129,13 @@ static int compare(void)
         if (strcmp(cases[i], "sound") == 0 && r != 1)
             return printf("tables: the longest image is judged unsound\n"), 2;
     }
-    printf("tables: the same answer and memory as C in %d cases\n", CASES);
+    for (const struct order *o = orders; o < orders + ORDERS; o++) {
+        if (is_sound(1, o) != o->is_sound)
+            return printf("tables: %s is judged wrongly\n", o->name), 2;
+        if (is_sound(0, o) != o->is_sound)
+            return printf("tables: %s differs from C\n", o->name), 1;
+    }
+    printf("tables: the same answer and memory as C in %d cases, %d orders of nodes\n", CASES, ORDERS);
     return 0;
 }
 

@@ -96,28 +96,47 @@ static int is_record(const uint8_t *r, int is_root)
     return name[0] != '.' || !(l == 1 || (l == 2 && name[1] == '.'));
 }
 
-/* the place of record i's directory before it; i where there is none, or where its id or its name there stands twice */
-static size_t place_of_parent(const uint8_t *const *at, size_t i)
+/* whether record i's id and its name in its directory stand nowhere before it; `up` gets its parent's place, and its
+ * own place for those before it whose parent it is */
+static int is_new(const uint8_t *const *at, size_t i, uint8_t *up)
 {
     const uint8_t *r = at[i];
     uint32_t id = get32(r), parent = get32(r + 4);
-    size_t j = i;
+    up[i] = i;
     for (size_t k = 0; k < i; k++) {
         if (get32(at[k]) == id)
-            return i;
+            return 0;
         if (get32(at[k]) == parent)
-            j = k;
+            up[i] = k;
+        if (get32(at[k] + 4) == id)
+            up[k] = i;
         if (get32(at[k] + 4) == parent && at[k][14] == r[14] && memcmp(at[k] + 15, r + 15, r[14]) == 0)
-            return i;
+            return 0;
     }
-    return j < i && at[j][8] == 2 ? j : i;
+    return 1;
+}
+
+/* whether each record goes up to the root by directories, within a path's length; a ring has more steps than records */
+static int all_reach_root(const uint8_t *const *at, size_t n, const uint8_t *up)
+{
+    for (size_t i = 1; i < n; i++) {
+        size_t length = 0, steps = 0;
+        for (size_t k = i; k != 0; k = up[k]) {
+            if (steps++ == n || at[up[k]][8] != 2)
+                return 0;
+            length += 1 + at[k][14];
+        }
+        if (length > GUARD_PATH_LENGTH)
+            return 0;
+    }
+    return 1;
 }
 
 /* every soundness rule; 0 where one fails */
 int plain_is_sound(const uint8_t *s, size_t length)
 {
     const uint8_t *at[NODES];
-    uint16_t path[NODES];
+    uint8_t up[NODES];
     size_t total = 0, p = 4;
     if (length < 4)
         return 0;
@@ -129,17 +148,11 @@ int plain_is_sound(const uint8_t *s, size_t length)
             return 0;
         at[i] = s + p;
         p += 15 + at[i][14];
-        if (!is_record(at[i], i == 0))
+        if (!is_record(at[i], i == 0) || !is_new(at, i, up))
             return 0;
         total += pages(get32(at[i] + 10));
-        size_t j = place_of_parent(at, i);
-        if (i > 0 && j == i)
-            return 0;
-        path[i] = i == 0 ? 0 : path[j] + 1 + at[i][14];
-        if (path[i] > GUARD_PATH_LENGTH)
-            return 0;
     }
-    if (length - p < 4 || total > GUARD_PAGES || get32(s + p) != total)
+    if (!all_reach_root(at, n, up) || length - p < 4 || total > GUARD_PAGES || get32(s + p) != total)
         return 0;
     return length - p - 4 == total * DIGEST;
 }

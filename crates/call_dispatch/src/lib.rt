@@ -71,6 +71,12 @@ pub fn begin_call(m: &mut [u8], call: &[u8], request: &mut [u8]) -> outcomes::Ou
         ),
         call_reader::ParsedCall::Map { size } => maps::begin_map(m, size, request),
         call_reader::ParsedCall::Unmap { address } => maps::begin_unmap(m, address, request),
+        call_reader::ParsedCall::Rename { second } => renames::begin_rename(
+            m,
+            &call[2..second],
+            &call[second..],
+            request,
+        ),
         call_reader::ParsedCall::Malformed => outcomes::Outcome::Refused(22),
     }
 }

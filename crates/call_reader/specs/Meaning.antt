@@ -9,16 +9,17 @@ use mathlib.Core.Option.{Option, some, none}
 use mathlib.Core.Path.{_≡_}
 use Prim.Native.Nat.{ℕ, _-_, _^_, _<_, _≤_}
 use lib.Dec.{eqb}
-use lib.ListN.{drop}
+use lib.ListN.{take, drop}
 use Rattle.lists.specs.Pick.{pick}
+use Rattle.lists.specs.Form.{bind}
 use Rattle.filesystem.specs.Tables.{ID-BYTES, DATA-BYTES}
-use Rattle.filesystem.specs.Paths.{Path}
+use Rattle.filesystem.specs.Paths.{Path, readPath}
 use Rattle.rules.specs.Calls.{Call, create, mkdir, openAs, close, seek, read, write, truncate, remove, rmdir, chmod}
 use Rattle.rules.specs.MapRules.{isMapSize}
-use Rattle.rules.specs.Calls.{readdir, stat, mapMemory, unmap, byPath}
+use Rattle.rules.specs.Calls.{readdir, stat, mapMemory, unmap, rename, byPath}
 use Rattle.call_reader.specs.declared.ParsedCall.{ParsedCall}
 use Rattle.call_reader.specs.declared.ParsedCall.the-variants.{ByPath, Close, Seek, Read, Write, Truncate}
-use Rattle.call_reader.specs.declared.ParsedCall.the-variants.{Map, Unmap, Malformed}
+use Rattle.call_reader.specs.declared.ParsedCall.the-variants.{Map, Unmap, Rename, Malformed}
 
 -- the call of a kind with a path
 unfoldable pub madeBy : (kind number : ℕ) → Path → Call
@@ -41,6 +42,7 @@ meant (Write h start) s = some (write h (drop start s))
 meant (Truncate h n) s = some (truncate h n)
 meant (Map n) s = some (mapMemory n)
 meant (Unmap a) s = some (unmap a)
+meant (Rename second) s = bind (readPath (take (second - 2) (drop 2 s))) (λ p. byPath (rename p) (drop second s))
 meant Malformed s = none
 
 -- a kind with a path, and the mode or the rights that it can have
@@ -61,4 +63,5 @@ Ranges (Write h start) size = (h < 256 ^ ID-BYTES) × (start ≤ size) × (size 
 Ranges (Truncate h n) size = (h < 256 ^ ID-BYTES) × (n < 256 ^ 8)
 Ranges (Map n) size = isMapSize n ≡ true
 Ranges (Unmap a) size = a < 256 ^ 8
+Ranges (Rename second) size = (2 ≤ second) × (second ≤ size) × (second ≤ 257)
 Ranges Malformed size = Unit {0}

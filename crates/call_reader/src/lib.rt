@@ -10,7 +10,7 @@ ghost use Rattle.filesystem.specs.Tables.{ID-BYTES, DATA-BYTES};
 ghost use Rattle.rules.specs.Calls.{close, seek, read, write, truncate, byPath, byNumberAndPath, byHandle};
 ghost use Rattle.rules.specs.MapRules.{isMapSize};
 ghost use Rattle.rules.specs.Calls.{byHandleAndNumber, byHandleAndBytes, byNumber, readFields, readCall, mapMemory};
-ghost use Rattle.rules.specs.Calls.{unmap};
+ghost use Rattle.rules.specs.Calls.{unmap, rename, byTwoPaths};
 ghost use Rattle.call_reader.specs.Meaning.{madeBy, meant, NumberFits, Ranges};
 use limits::kinds;
 
@@ -27,6 +27,8 @@ pub enum ParsedCall {
     Truncate { handle: u64, size: u64 },
     Map { size: u32 },
     Unmap { address: u64 },
+    // Both paths: the first from byte 2 on, the second from `second` on.
+    Rename { second: usize },
     Malformed,
 }
 
@@ -195,6 +197,22 @@ fn read_unmap(s: &[u8]) -> ParsedCall
     ParsedCall::Unmap { address }
 }
 
+// rename: the first path's length, then both paths.
+fn read_rename(s: &[u8]) -> ParsedCall
+    requires { ⌜ 0 < length (now s) ⌝ }
+    ensures { λ r. ⌜ (meant r (now (s .entry)) ≡ byTwoPaths rename (drop 1 (now (s .entry))))
+        × Ranges r (length (now (s .entry))) ⌝ }
+{
+    if s.len() == 1 {
+        return ParsedCall::Malformed;
+    }
+    let second = 2 + s[1] as usize;
+    if s.len() < second {
+        return ParsedCall::Malformed;
+    }
+    ParsedCall::Rename { second }
+}
+
 // ---- by the kind
 
 // close, seek, read, write, truncate.
@@ -266,6 +284,7 @@ pub fn read_call(s: &[u8]) -> ParsedCall
         kinds::CLOSE..=kinds::TRUNCATE => read_by_handle(s, kind),
         kinds::REMOVE..=kinds::STAT => read_by_path(s, kind),
         kinds::MAP..=kinds::UNMAP => read_on_maps(s, kind),
+        kinds::RENAME => read_rename(s),
         _ => ParsedCall::Malformed,
     }
 }
@@ -287,6 +306,7 @@ pub fn read_other(s: &[u8]) -> ParsedCall
         kinds::TRUNCATE => read_truncate(s),
         kinds::REMOVE..=kinds::STAT => read_by_path(s, kind),
         kinds::MAP..=kinds::UNMAP => read_on_maps(s, kind),
+        kinds::RENAME => read_rename(s),
         _ => ParsedCall::Malformed,
     }
 }

@@ -1,4 +1,4 @@
--- Five lists of events, and what they come to, over digests that are cheap to compute.
+-- Six lists of events, and what they come to, over digests that are cheap to compute.
 use mathlib.Core.Path.{_≡_, refl}
 use mathlib.Core.Logic.{inl, inr}
 use mathlib.Core.Bool.{true}
@@ -18,20 +18,23 @@ use Rattle.lists.specs.LittleEndian.{encode, decode}
 use Rattle.lists.specs.Form.{bind, front, get₂, get-fixed, get-as, put-all, get-all, ended, whole}
 use Rattle.lists.specs.Checks.{decide}
 use Rattle.filesystem.specs.Tables.{newNode, root, withSize, pagesFor, pageTotal, nodeAt, openAt, findId, findChild, children, findHandle, findDescriptor, setMode, setSize, setCursor}
+use Rattle.filesystem.specs.Tables.{Node, renamed}
 use Rattle.filesystem.specs.Rights.{coverTable, covers}
 use Rattle.filesystem.specs.Paths.{joined, pathBytes, componentForm, onto, split, afterSlash, readPath, tooLong, childAt, walk, walkChecks, parentChecks, parentOf, lastOf}
 use Rattle.filesystem.specs.Image.{saved, current, layoutOf, makerBytes, nodeForm, imageForm, flatten, divide, climb}
-use Rattle.filesystem.specs.Image.{pathLength}
-use Rattle.filesystem.specs.Image.{lies, inLimits, parentsEarlier, soundNodes, sound, print, recordsLength}
+use Rattle.filesystem.specs.Image.{pathLength, beneath, tooDeep}
+use Rattle.filesystem.specs.Image.{lies, inLimits, soundNodes, sound, print, recordsLength}
 use Rattle.filesystem.specs.Image.{imageLength, parse}
 use Rattle.filesystem.specs.Digests.{replaced}
 use Rattle.rules.specs.Calls.{callBytes, byPath, byNumberAndPath, byHandle, byHandleAndNumber, byHandleAndBytes, readFields, readCall, byNumber}
+use Rattle.rules.specs.Calls.{byTwoPaths}
 use Rattle.rules.specs.Pages.{pageAt, pageOf, bytesAt, resized, splice, overlay, pagePart, truncating, addedBy, first, last, fetches, fill, sizeSent, cuts, bytesAfter, sizeAfter, cursorAfter, numberOf, before}
 use Rattle.rules.specs.Requests.{storeLength, isFetch, closeRequest, fetchRequest, storeRequest, cutRequest}
 use Rattle.rules.specs.Rules.{noRoom, callChecks, readAction, callAction, isNumber, isDescriptor, replyChecks, replyAction, isFull, saysFull, fullAction, isIdle, callOr, imageOr, isNone, eventChecks, eventAction, judge, saving, mapChecks, mapReasons, reasons}
+use Rattle.rules.specs.Rules.{statBytes}
 use Rattle.rules.specs.Skeleton.{Config, answerLength, requestLength, Event, call, reply, save, load, Answer, done, ask, refused, stopped, Outcome}
 use Rattle.machine.specs.Machine.{State, imageOf, fresh, readOn, finishChange, pagesStored, askStore, onPage, pagesFrom, apply, step, outcomes, final, zeroDigest, guard}
-use Rattle.machine.specs.Tree.{tree, digestsOf, lookup, goBack}
+use Rattle.machine.specs.Tree.{Saved, tree, digestsOf, lookup, goBack}
 use Rattle.machine.specs.Claim.{HonestAt, Honest}
 use Rattle.machine.specs.History.{pages, awaitsPage, pageIn, pageOut, storedPage, pageAdded}
 use Rattle.machine.specs.Seen.{shown, standing, pageReplied, pagesAfter, pagesSeen}
@@ -138,6 +141,38 @@ filledAnswers =
     ∷ ask (7 ∷ 0 ∷ 0 ∷ 0 ∷ 0 ∷ 0 ∷ 0 ∷ 0 ∷ 0 ∷ 0 ∷ 4 ∷ 0 ∷ 0 ∷ firstPage) ∷ ask (7 ∷ 0 ∷ 0 ∷ 0 ∷ 0 ∷ 1 ∷ 0 ∷ 0 ∷ 0 ∷ 1 ∷ 4 ∷ 0 ∷ 0 ∷ secondPage) ∷ done 1024 []
     ∷ ask (8 ∷ 0 ∷ 0 ∷ 0 ∷ 0 ∷ 0 ∷ 8 ∷ 0 ∷ 0 ∷ []) ∷ refused 28 ∷ []
 
+-- A rename: a file and a directory are made, and the file goes into it, so that its record stands before its parent's.
+-- That is saved and loaded, and the file is found by its new path.
+abbrev pub movedNodes : List Node
+movedNodes = root ∷ newNode 2 3 1 7 (98 ∷ []) ∷ newNode 3 1 2 7 (100 ∷ []) ∷ []
+
+abbrev pub movedImage : List ℕ
+movedImage = print (saved 4) (movedNodes, [])
+
+-- given, since to find it by computing costs too much
+abbrev pub movedSaved : Saved
+movedSaved = record {
+  digest = cheap .digest movedImage;
+  files = record { nodes = movedNodes; contents = [] ∷ [] ∷ [] ∷ [] };
+}
+
+abbrev pub renaming : List ℕ
+renaming = 16 ∷ 2 ∷ 47 ∷ 97 ∷ 47 ∷ 100 ∷ 47 ∷ 98 ∷ []
+
+abbrev pub statReply : List ℕ
+statReply = 2 ∷ 0 ∷ 0 ∷ 0 ∷ 1 ∷ 7 ∷ 0 ∷ 0 ∷ 0 ∷ 0 ∷ []
+
+abbrev pub moved : List Event
+moved =
+    c (1 ∷ 7 ∷ 47 ∷ 97 ∷ []) ∷ r (2 ∷ 0 ∷ 0 ∷ 0 ∷ []) ∷ c (2 ∷ 7 ∷ 47 ∷ 100 ∷ []) ∷ r (3 ∷ 0 ∷ 0 ∷ 0 ∷ [])
+    ∷ c renaming ∷ r (status 0) ∷ save 44776 ∷ load current movedImage (cheap .digest movedImage)
+    ∷ c (13 ∷ 47 ∷ 100 ∷ 47 ∷ 98 ∷ []) ∷ r statReply ∷ []
+
+abbrev pub movedAnswers : List Answer
+movedAnswers =
+    ask (1 ∷ 7 ∷ 47 ∷ 97 ∷ []) ∷ done 2 [] ∷ ask (2 ∷ 7 ∷ 47 ∷ 100 ∷ []) ∷ done 3 [] ∷ ask renaming ∷ done 0 []
+    ∷ done (length movedImage) movedImage ∷ done 0 [] ∷ ask (13 ∷ 47 ∷ 100 ∷ 47 ∷ 98 ∷ []) ∷ done 0 statReply ∷ []
+
 -- All that is computed here.
 pub record Computed : Type 0 where
   pub guard-does : answersOf (outcomes cheap (guard cheap) (fresh cheap (guard cheap)) honest) ≡ honestAnswers
@@ -153,6 +188,9 @@ pub record Computed : Type 0 where
   pub growths-seen : pagesSeen cheap (fresh cheap (tree cheap)) (shown cheap (guard cheap) (fresh cheap (guard cheap)) growths) ≡ zeroPages
   pub full-does : answersOf (outcomes cheap (guard cheap) (fresh cheap (guard cheap)) filled) ≡ filledAnswers
   pub full-right : Honest cheap (fresh cheap (guard cheap)) (fresh cheap (tree cheap)) filled
+  pub moved-does : answersOf (outcomes cheap (guard cheap) (fresh cheap (guard cheap)) moved) ≡ movedAnswers
+  pub moved-right : Honest cheap (fresh cheap (guard cheap)) (fresh cheap (tree cheap)) moved
+  pub moved-bytes : every (λ b. ltb b 256) movedImage ≡ true
 
 pub computed : Computed
 unfolding pages awaitsPage pageIn pageOut storedPage pageAdded addedBy pagesAfter pageReplied standing shown
@@ -165,15 +203,20 @@ unfolding pages awaitsPage pageIn pageOut storedPage pageAdded addedBy pagesAfte
     readPath tooLong childAt walk walkChecks parentChecks parentOf lastOf coverTable covers pagesFor pageTotal nodeAt
     openAt findId findChild children findHandle findDescriptor setMode setSize setCursor bind front get₂ get-fixed
     get-as get-all ended whole encode decode every any place select without tab equal cheap imageOr unique put-all
-    layoutOf makerBytes nodeForm imageForm flatten divide climb pathLength lies inLimits parentsEarlier soundNodes
+    layoutOf makerBytes nodeForm imageForm flatten divide climb pathLength lies inLimits soundNodes
     sound print recordsLength imageLength parse pageOf bytesAt resized splice pagePart bytesAfter zeroDigest replaced
-    digestsOf lookup goBack mapChecks mapReasons reasons byNumber
+    digestsOf lookup goBack mapChecks mapReasons reasons byNumber byTwoPaths beneath tooDeep renamed statBytes
 computed = record {
   guard-does = refl;
   replies-right = (
     tt,
     (
-      inl (record { long = refl; not-zero = λ e. absurd (eqb-false 2 0 refl e); not-full = λ e. absurd (let z : _≡_ {A = ℕ} 0 1 = cc in omega arith); not-held = both (eqb-false 1 2 refl) all-none }),
+      inl (record {
+        long = refl;
+        not-zero = λ e. absurd (eqb-false 2 0 refl e);
+        not-full = λ e. absurd (let z : _≡_ {A = ℕ} 0 1 = cc in omega arith);
+        not-held = both (eqb-false 1 2 refl) all-none;
+      }),
       (tt, (record { descriptor = 0; long = refl; is = refl; low = omega arith; not-held = all-none }, (tt, (inl refl, (inl refl, (tt, (refl, tt))))))),
     ),
   );
@@ -194,10 +237,59 @@ computed = record {
       (
         tt,
         (
-          inl (record { long = refl; not-zero = λ e. absurd (eqb-false 2 0 refl e); not-full = λ e. absurd (let z : _≡_ {A = ℕ} 0 1 = cc in omega arith); not-held = both (eqb-false 1 2 refl) all-none }),
+          inl (record {
+            long = refl;
+            not-zero = λ e. absurd (eqb-false 2 0 refl e);
+            not-full = λ e. absurd (let z : _≡_ {A = ℕ} 0 1 = cc in omega arith);
+            not-held = both (eqb-false 1 2 refl) all-none;
+          }),
           (tt, (record { descriptor = 0; long = refl; is = refl; low = omega arith; not-held = all-none }, (tt, (inl refl, (inr (refl, (refl, refl)), (tt, (inr (refl, (refl, refl)), tt))))))),
         ),
       ),
     ),
   );
+  moved-does = refl;
+  moved-right = (
+    tt,
+    (
+      inl (record {
+        long = refl;
+        not-zero = λ e. absurd (eqb-false 2 0 refl e);
+        not-full = λ e. absurd (let z : _≡_ {A = ℕ} 0 1 = cc in omega arith);
+        not-held = both (eqb-false 1 2 refl) all-none;
+      }),
+      (
+        tt,
+        (
+          inl (record {
+            long = refl;
+            not-zero = λ e. absurd (eqb-false 3 0 refl e);
+            not-full = λ e. absurd (let z : _≡_ {A = ℕ} 0 1 = cc in omega arith);
+            not-held = both (eqb-false 1 3 refl) (both (eqb-false 2 3 refl) all-none);
+          }),
+          (
+            tt,
+            (
+              refl,
+              (
+                tt,
+                (
+                  (λ d. record {
+                    latest = movedSaved;
+                    earlier = [];
+                    saves = refl;
+                    image = refl;
+                    digest = refl;
+                    unchanged = refl;
+                  }),
+                  (tt, (refl, tt)),
+                ),
+              ),
+            ),
+          ),
+        ),
+      ),
+    ),
+  );
+  moved-bytes = refl;
 }

@@ -1,4 +1,5 @@
--- The claim's hypotheses can be met and its conclusion is not empty: an honest list, a stale page, a digest that is constant.
+-- The claim's hypotheses can be met and its conclusion is not empty: an honest list, one with a rename, a stale page,
+-- a digest that is constant.
 use mathlib.Core.Path.{_≡_, refl, ap, sym, _∙_}
 use mathlib.Core.Bool.{true}
 use mathlib.Core.List.{List, [], _∷_, _++_, map, map-id}
@@ -15,8 +16,9 @@ use Rattle.rules.specs.Skeleton.{Config, Event, save, load, EventBytes, done, s
 use Rattle.rules.specs.Rules.{judge, saving}
 use Rattle.machine.specs.Machine.{State, files, imageOf, apply, step, fresh, outcomes, final, guard}
 use Rattle.machine.specs.Tree.{tree, digestsOf, guardOf}
-use Rattle.machine.specs.Claim.{Fit, HonestAt, Honest, Agrees, SecondHalf}
+use Rattle.machine.specs.Claim.{Fit, NoStop, HonestAt, Honest, Agrees, SecondHalf}
 use Rattle.machine.specs.HonestRun.{second-half}
+use Rattle.claim_examples.specs.Computed.{moved, movedAnswers, movedImage}
 use Rattle.claim_examples.specs.Computed.{cheap, constant, written, honest, honestAnswers, image, guardThen, treeThen, forged, answersOf, lastAnswer, computed}
 
 pub cheap-fit : Fit cheap
@@ -67,6 +69,24 @@ honest-agrees = second-half cheap cheap-fit honest honest-bytes honest-host .1
 tree-does : answersOf (outcomes cheap (tree cheap) (fresh cheap (tree cheap)) honest) ≡ honestAnswers
 unfolding Agrees
 tree-does = ap answersOf (sym (honest-agrees .0)) ∙ computed .guard-does
+
+-- The same of a list with a rename.
+moved-bytes : All EventBytes moved
+unfolding EventBytes every
+moved-bytes =
+    both (are-bytes _ refl) (both (are-bytes _ refl) (both (are-bytes _ refl) (both (are-bytes _ refl)
+    (both (are-bytes _ refl) (both (are-bytes _ refl)
+    (both tt (both {x = load current movedImage (cheap .digest movedImage)}
+    (are-bytes movedImage (computed .moved-bytes), cheap-fit .bytes movedImage)
+    (both (are-bytes _ refl) (both (are-bytes _ refl) all-none)))))))))
+
+moved-agrees : All NoStop (outcomes cheap (guard cheap) (fresh cheap (guard cheap)) moved) × Agrees cheap moved
+unfolding SecondHalf
+moved-agrees = second-half cheap cheap-fit moved moved-bytes (computed .moved-right)
+
+tree-moves : answersOf (outcomes cheap (tree cheap) (fresh cheap (tree cheap)) moved) ≡ movedAnswers
+unfolding Agrees
+tree-moves = ap answersOf (sym (moved-agrees .1 .0)) ∙ computed .moved-does
 
 -- With a digest that is constant guard and tree part: the collision alternative is needed.
 parted : outcomes constant (guard constant) (fresh constant (guard constant)) forged ≡ outcomes constant (tree constant) (fresh constant (tree constant)) forged

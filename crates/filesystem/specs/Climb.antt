@@ -2,18 +2,16 @@
 -- that climb alike.
 -- Assumes nothing.
 use mathlib.Core.Path.{_≡_, refl, ap, sym, _∙_, subst}
+use mathlib.Core.Bool.{true, false, true≢false}
 use mathlib.Core.List.{List}
 use Prim.Native.Nat.{ℕ, zero, suc, _+_, _≤_, _<_}
 use native.Mathlib.Omega.{arith}
-use lib.Dec.{ltb}
 use lib.ListN.{length}
-use borrow.Author.Tests.{ltb-true, ltb-false}
-use Rattle.lists.specs.Equal.{Is, isT, isF, is}
 use Rattle.lists.specs.Places.{same-place}
 use Rattle.filesystem.specs.Tables.{NODES, Node, nodeAt}
-use Rattle.filesystem.specs.Image.{pathLength}
+use Rattle.filesystem.specs.Image.{pathLength, beneath}
 use Rattle.filesystem.specs.Ways.{ParentAt, parent-moved, directory-place, Way, top, up, steps, bytes, Ground}
-use Rattle.filesystem.specs.Ways.{path-bytes, way-same}
+use Rattle.filesystem.specs.Ways.{onward, steps-onward, path-bytes, lies-way, way-lies, way-same, way-place}
 use Rattle.filesystem.specs.Sound.{Sound, ground, way-short}
 
 -- what the climb needs of nodes: ids, and a way to the root that the fuel suffices for
@@ -45,6 +43,22 @@ module _ (ns : List Node) (r : Rooted ns) where
       let v = r .ways j l .0 in
       pathLength-way h (up j h q v) ∙ ap (λ x. suc (length (nodeAt ns k .name)) + x) (sym (pathLength-way l v))
 
+  -- a node lies at or beneath another exactly where a way leads up to it
+  pub beneath-way : (a k : ℕ) → a < length ns → k < length ns → beneath ns a k ≡ true → Way ns a k
+  unfolding beneath
+  beneath-way a k l h e = lies-way (r .grounded) NODES a k l h e .0
+
+  pub way-beneath : {a k : ℕ} → a < length ns → Way ns a k → beneath ns a k ≡ true
+  unfolding beneath
+  way-beneath {a} {k} l v =
+      let (u, _) = r .ways a l in
+      let (x, m) = r .ways k (way-place l v) in
+      let (_, e) = way-same (r .grounded) (onward v u) x refl in
+      way-lies (r .grounded) NODES a v (omega (arith, steps-onward v u))
+
+  pub not-beneath : {a k : ℕ} → a < length ns → beneath ns a k ≡ false → Way ns a k → ⊥
+  not-beneath l e v = true≢false (sym (way-beneath l v) ∙ e)
+
 -- the nodes of ms below place n are those of ns in the places φ, but for modes and sizes
 pub record Same (n m : Node) : Type 0 where
   pub same-id : n .id ≡ m .id
@@ -61,14 +75,6 @@ pub record Kept (ns ms : List Node) (n : ℕ) (φ : ℕ → ℕ) : Type 0 where
   pub closed : (i j : ℕ) → i < n → j < length ns → ParentAt ns (nodeAt ns (φ i)) j → (h : ℕ) × (h < n) × (φ h ≡ j)
 
 module _ {ns ms : List Node} {n : ℕ} {φ : ℕ → ℕ} (p : Kept ns ms n φ) where
-  pub back : (i j : ℕ) → φ i < φ j → i < j
-  back i j h = go (is (ltb i j)) (is (ltb j i))
-    where
-      go : Is (ltb i j) → Is (ltb j i) → i < j
-      go (isT l) m = ltb-true i j l
-      go (isF l) (isT m) = let z = p .mono j i (ltb-true j i m) in absurd (omega arith)
-      go (isF l) (isF m) = let z : i ≡ j = omega (arith, ltb-false i j l, ltb-false j i m) in let y = ap φ z in absurd (omega arith)
-
   pub apart : (i j : ℕ) → φ i ≡ φ j → i ≡ j
   apart i j e = same-place i j (λ l. let z = p .mono i j l in omega arith) (λ l. let z = p .mono j i l in omega arith)
 

@@ -1,7 +1,7 @@
 -- The image that is saved (SPECIFICATION 8), over a layout: its bytes, and which tables are sound.
 -- Assumes nothing.
 use mathlib.Core.Path.{refl}
-use mathlib.Core.Bool.{Bool, true, false, _&&_, _||_, not}
+use mathlib.Core.Bool.{Bool, false, _&&_, _||_, not}
 use mathlib.Core.List.{List, [], _∷_, _++_}
 use mathlib.Core.Option.{Option, some, none}
 use Prim.Native.Nat.{ℕ, zero, suc, _+_, _-_, _*_, _^_}
@@ -9,7 +9,7 @@ use lib.Dec.{eqb, leb, ltb}
 use lib.ListN.{length, take, drop}
 use Rattle.lists.specs.Pick.{pick}
 use Rattle.lists.specs.Equal.{equal}
-use Rattle.lists.specs.Search.{every, unique}
+use Rattle.lists.specs.Search.{every, any, unique}
 use Rattle.lists.specs.Form.{Form, bind, whole}
 use Rattle.lists.specs.Formats.{num, bytes, then, fixed, as-form, counted, text}
 use Rattle.filesystem.specs.Tables.{NODES, PAGES, DIGEST-BYTES, FILE-BYTES, NAME-BYTES, PATH-BYTES, Node, isFile, isDirectory, nodeAt, findId, pagesFor, pageTotal}
@@ -77,6 +77,21 @@ lies (suc fuel) ns a n =
     let above = isDirectory (nodeAt ns (findId ns (n .parent))) && lies fuel ns a (nodeAt ns (findId ns (n .parent))) in
     eqb (n .id) a || above
 
+-- is node b node a, or beneath it?
+unfoldable pub beneath : List Node → ℕ → ℕ → Bool
+beneath ns a b = lies NODES ns (nodeAt ns a .id) (nodeAt ns b)
+
+-- the bytes of the path of `name` in the directory in place d
+abbrev pub lengthIn : List Node → ℕ → List ℕ → ℕ
+lengthIn ns d name = pathLength ns (nodeAt ns d) + 1 + length name
+
+-- would a path at or beneath node k pass PATH-BYTES, were it `name` in the directory in place d (36)?
+unfoldable pub tooDeep : List Node → ℕ → ℕ → List ℕ → Bool
+tooDeep ns k d name =
+    any
+    (λ n. lies NODES ns (nodeAt ns k .id) n
+    && ltb (PATH-BYTES + pathLength ns (nodeAt ns k)) (pathLength ns n + lengthIn ns d name)) ns
+
 -- the root, which stands first (SPECIFICATION 8.6, as all up to `sound`)
 abbrev pub isRoot : Node → Bool
 isRoot n = eqb (n .id) 1 && (eqb (n .kind) 2 && (eqb (n .parent) 0 && equal (n .name) []))
@@ -96,11 +111,6 @@ sameId m n = eqb (m .id) (n .id)
 abbrev pub sameChild : Node → Node → Bool
 sameChild m n = eqb (m .parent) (n .parent) && equal (m .name) (n .name)
 
--- each of the nodes from place k on has its parent before it
-unfoldable pub parentsEarlier : List Node → ℕ → List Node → Bool
-parentsEarlier all k [] = true
-parentsEarlier all k (n ∷ ns) = ltb (findId all (n .parent)) k && parentsEarlier all (suc k) ns
-
 -- sound nodes
 unfoldable pub soundNodes : ℕ → List Node → Bool
 soundNodes w [] = false
@@ -113,8 +123,7 @@ soundNodes w (r ∷ ns) =
     && (unique sameChild (r ∷ ns)
     && (every (lies NODES (r ∷ ns) 1) (r ∷ ns)
     && (every (λ n. leb (pathLength (r ∷ ns) n) PATH-BYTES) (r ∷ ns)
-    && (leb (pageTotal (r ∷ ns)) PAGES
-    && parentsEarlier (r ∷ ns) 1 ns))))))))
+    && leb (pageTotal (r ∷ ns)) PAGES)))))))
 
 -- the second count is the number of pages that the sizes need
 unfoldable pub sound : ℕ → Image → Bool

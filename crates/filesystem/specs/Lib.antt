@@ -8,7 +8,6 @@ pub mod Digests
 pub mod RightsLaws
 pub mod PathLaws
 pub mod Ways
-pub mod Order
 pub mod Sound
 pub mod ImageLaws
 pub mod Climb
@@ -16,3 +15,7 @@ pub mod SoundLaws
 pub mod LongestImage
 pub mod WalkLaws
 pub mod LayoutsApart
+pub mod RenamedWays
+pub mod Renaming
+pub mod RenamedWalks
+pub mod RenamingExamples

@@ -10,15 +10,14 @@ use lib.ListN.{length}
 use borrow.Author.Tests.{eq-eqb, ne-eqb}
 use Rattle.lists.specs.Pick.{pick, pick-ind}
 use Rattle.lists.specs.Equal.{equal, and-both}
-use Rattle.lists.specs.Search.{every, place}
+use Rattle.lists.specs.Search.{every}
 use Rattle.lists.specs.All.{All, Bytes, both, none}
 use Rattle.lists.specs.Cells.{tab, getD-tab, length-tab}
 use Rattle.lists.specs.Places.{all-tab}
-use Rattle.filesystem.specs.Tables.{FILE-BYTES, PATH-BYTES, Node, root, nodeAt, findId, pagesFor, pageTotal}
+use Rattle.filesystem.specs.Tables.{FILE-BYTES, PATH-BYTES, Node, root, nodeAt, pagesFor, pageTotal}
 use Rattle.filesystem.specs.Paths.{componentForm}
 use Rattle.filesystem.specs.Image.{Layout, Image, inLimits, isNamed, soundNodes, sound, print, imageLength}
 use Rattle.filesystem.specs.Image.{recordsLength, longestLength}
-use Rattle.filesystem.specs.Order.{Ordered}
 use Rattle.filesystem.specs.Sound.{ParentAt, of-limits, of-sound}
 use Rattle.filesystem.specs.Ways.{Way, top, up, bytes}
 use Rattle.filesystem.specs.ImageLaws.{Shaped, length-print}
@@ -109,14 +108,6 @@ full-pages : pageTotal full ≡ 1024
 unfolding full leaf tab pageTotal pagesFor pick
 full-pages = refl
 
-full-order : Ordered full
-unfolding findId place pick
-full-order k l h = full-ind (λ k n. 0 < k → findId full (n .parent) < k) (λ l. absurd (omega arith))
-    (λ k h l. unfold leaf in rw first (omega arith)) k h l
-  where
-    first : findId full 1 ≡ 0
-    first = unfold full in refl
-
 pub full-sound : (w : ℕ) → 256 < 256 ^ w → soundNodes w full ≡ true
 full-sound w wide =
     of-sound w full (record {
@@ -129,7 +120,6 @@ full-sound w wide =
       siblings = full-siblings;
       ways = full-ways;
       pages = omega (arith, full-pages);
-      order = full-order;
     })
 
 -- any digests will do

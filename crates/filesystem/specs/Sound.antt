@@ -24,7 +24,6 @@ pub use Rattle.filesystem.specs.Ways.{
   findId-has,
   parent-moved,
 }
-use Rattle.filesystem.specs.Order.{Ordered, to-order, of-order}
 use Rattle.filesystem.specs.Ways.{Way, top, up, steps, bytes, Ground, path-bytes, lies-way, way-lies, way-bytes}
 
 -- a place that is not present
@@ -42,7 +41,6 @@ pub record Sound (w : ℕ) (ns : List Node) : Type 0 where
   -- every node reaches the root by its parents, and its path has at most PATH-BYTES
   pub ways : (k : ℕ) → k < length ns → (v : Way ns 0 k) × (bytes v ≤ PATH-BYTES)
   pub pages : pageTotal ns ≤ PAGES
-  pub order : Ordered ns
 
 -- the limits of a node by itself
 pub record Limits (w : ℕ) (n : Node) : Type 0 where
@@ -110,7 +108,6 @@ to-sound w (r ∷ ns) e =
     let e₆ = and-snd (unique sameChild all) _ e₅ in
     let e₇ = and-snd (every (lies NODES all 1) all) _ e₆ in
     let e₈ = and-snd (every (λ n. leb (pathLength all n) PATH-BYTES) all) _ e₇ in
-    let e₉ = and-snd (leb (pageTotal all) PAGES) _ e₈ in
     record {
       has-root = omega arith;
       count = leb-true _ _ (and-fst _ _ e₁);
@@ -123,8 +120,7 @@ to-sound w (r ∷ ns) e =
           reached (and-fst (isRoot r) _ e) (and-fst _ _ e₂) (and-fst _ _ e₄) k h
           (every-at (lies NODES all 1) noNode all k (and-fst _ _ e₆) h)
           (leb-true _ _ (every-at (λ n. leb (pathLength all n) PATH-BYTES) noNode all k (and-fst _ _ e₇) h));
-      pages = leb-true _ _ (and-fst _ _ e₈);
-      order = to-order r ns e₉;
+      pages = leb-true _ _ e₈;
     }
   where
     named : every isNamed ns ≡ true → (k : ℕ) → 0 < k → k < suc (length ns) → isNamed (nodeAt (r ∷ ns) k) ≡ true
@@ -223,8 +219,7 @@ of-sound w (r ∷ ns) s =
     (and-both _ _ (at-every (λ n. leb (pathLength all n) PATH-BYTES) noNode all (λ k h.
     le-leb _ _ (subst (λ x. x ≤ PATH-BYTES) (sym (path-bytes (ground w all s) (s .ways k h .0)
     (way-short w all s k h))) (s .ways k h .1))))
-    (and-both _ _ (le-leb _ _ (s .pages))
-    (of-order r ns (s .order))))))))))
+    (le-leb _ _ (s .pages)))))))))
 
 pub sound-nodes : (w : ℕ) (ns : List Node) → (soundNodes w ns ≡ true) ↔ Sound w ns
 sound-nodes w ns = (to-sound w ns, of-sound w ns)

@@ -19,17 +19,16 @@ use Rattle.lists.specs.Search.{every, any, unique, place, place-passes, without
 use Rattle.lists.specs.Places.{none-place, select-none, none-select, skip, skip-before, skip-mono, skip-below, unskip, length-without, getD-without}
 use Rattle.filesystem.specs.Tables.{NODES, PAGES, FILE-BYTES, NAME-BYTES, PATH-BYTES, Node, noNode, root, newNode, withMode, withSize, isFile, isDirectory, hasId, isChild, nodeAt, findId, findChild, hasParent, children, pagesFor, pageTotal, setMode, setSize}
 use Rattle.filesystem.specs.Paths.{Path, joined, componentForm, childAt, walk, walkChecks, parentChecks, parentOf, lastOf}
-use Rattle.filesystem.specs.Image.{climb, pathLength, isRoot, inLimits, isNamed, lies, parentsEarlier, soundNodes}
-use Rattle.filesystem.specs.Order.{Ordered}
-use Rattle.filesystem.specs.Ways.{Way, up, bytes, findId-only, find-parent}
+use Rattle.filesystem.specs.Image.{climb, pathLength, isRoot, inLimits, isNamed, lies, soundNodes}
+use Rattle.filesystem.specs.Ways.{Way, up, bytes}
 use Rattle.filesystem.specs.Sound.{ParentAt, Sound, of-limits, nodeAt-append, to-sound, of-sound, limits-at}
-use Rattle.filesystem.specs.Sound.{root-parent, ground, has-parent, parent-here}
-use Rattle.filesystem.specs.Climb.{rooted, Same, Kept, back, apart, later, parent-kept, way-kept}
+use Rattle.filesystem.specs.Sound.{root-parent, has-parent, parent-here}
+use Rattle.filesystem.specs.Climb.{rooted, Same, Kept, apart, later, way-kept}
 use Rattle.filesystem.specs.Climb.{pathLength-way, pathLength-root, pathLength-step}
 
 -- what a fresh guard has is sound
 pub sound-root : (w : ℕ) → 1 ≤ w → soundNodes w (root ∷ []) ≡ true
-unfolding soundNodes inLimits every unique any lies parentsEarlier pathLength climb pageTotal pagesFor equal pick
+unfolding soundNodes inLimits every unique any lies pathLength climb pageTotal pagesFor equal pick
 sound-root zero h = absurd (omega arith)
 sound-root (suc w) h =
     let z = one-le-pow w 256 (omega arith) in
@@ -48,23 +47,6 @@ module _ (w : ℕ) {ns ms : List Node} {φ : ℕ → ℕ} (p : Kept ns ms (lengt
   own-kept i j h l e = apart p i j (s .ids (φ i) (φ j) (p .below i h) (p .below j l)
       (sym (p .same i h .same-id) ∙ (e ∙ p .same j l .same-id)))
 
-  -- and parents stand earlier still
-  order-kept : Ordered ms
-  order-kept k l h =
-      let z = p .mono 0 k l in
-      let (j, i, q) = has-parent w ns s (φ k) (omega arith) (p .below k h) in
-      let (g, c, a) = p .closed k j h i q in
-      let o : φ g < φ k = omega (
-        arith,
-        s .order (φ k) (omega arith) (p .below k h),
-        find-parent (ground w ns s)
-            (nodeAt ns (φ k)) j q,
-      ) in
-      let f : findId ms (nodeAt ms k .parent) ≡ g =
-      ap (findId ms) (sym (parent-kept p k g h c (subst (ParentAt ns (nodeAt ns (φ k))) (sym a) q) .is-parent))
-      ∙ findId-only ms g c (λ i b e. own-kept i g b c e) in
-      omega (arith, back p g k o)
-
   sound-kept : pageTotal ms ≤ PAGES → Sound w ms
   sound-kept pages =
       let z = p .same 0 some in
@@ -81,7 +63,6 @@ module _ (w : ℕ) {ns ms : List Node} {φ : ℕ → ℕ} (p : Kept ns ms (lengt
         ways = λ k h. let (v, b) = s .ways (φ k) (p .below k h) in let (u, e) = way-kept p v k h refl in
             (u, omega arith);
         pages = pages;
-        order = order-kept;
       }
 
 -- A change of one node, in mode or size.
@@ -116,7 +97,8 @@ module _ (ns : List Node) (k : ℕ) (y : Node) where
       of-sound w (set ns k y)
       (sound-kept w (kept-set same) s (omega arith) (λ i b. set-ind (λ j m. inLimits w m ≡ true) l (s .limits) i (omega arith)) pages)
 
-pageTotal-set : (ns : List Node) (k : ℕ) (y : Node) → y .size ≡ nodeAt ns k .size → pageTotal (set ns k y) ≡ pageTotal ns
+pub pageTotal-set : (ns : List Node) (k : ℕ) (y : Node) → y .size ≡ nodeAt ns k .size
+    → pageTotal (set ns k y) ≡ pageTotal ns
 unfolding pageTotal nodeAt
 pageTotal-set [] k y e = refl
 pageTotal-set (n ∷ ns) zero y e = ap (λ z. pagesFor z + pageTotal ns) e
@@ -305,25 +287,6 @@ module _ (w : ℕ) (ns : List Node) (d id kind mode : ℕ) (name : List ℕ) (a 
   ids-add : (i j : ℕ) → i < length more → j < length more → nodeAt more i .id ≡ nodeAt more j .id → i ≡ j
   ids-add = snoc-apart ns new (λ n m. n .id ≡ m .id) (s .ids) id-apart (λ i h e. id-apart i h (sym e))
 
-  -- the new node's parent stands earlier, as the others' do
-  order-add : Ordered more
-  order-add k l h =
-      snoc-ind ns new (λ k m. 0 < k → findId more (m .parent) < k)
-      (λ k h l. earlier k (has-parent w ns s k l h) (s .order k l h))
-      (λ l. omega (arith, at-place d (a .place), a .place)) k h l
-    where
-      at-place : (j : ℕ) → j < length ns → findId more (nodeAt ns j .id) ≡ j
-      at-place j b =
-          let l : j < length more = rw length-append (omega arith) in
-          ap (λ n. findId more (n .id)) (sym (nodeAt-append ns (new ∷ []) j b))
-          ∙ findId-only more j l (λ i h e. ids-add i j h l e)
-
-      earlier : (k : ℕ) → (j : ℕ) × (j < length ns) × ParentAt ns (nodeAt ns k) j → findId ns (nodeAt ns k .parent) < k
-          → findId more (nodeAt ns k .parent) < k
-      earlier k (j, b, q) o =
-          let e = find-parent (ground w ns s) (nodeAt ns k) j q in
-          omega (arith, ap (findId more) (sym (q .is-parent)) ∙ at-place j b)
-
   sound-more : Sound w more
   sound-more =
       record {
@@ -338,7 +301,6 @@ module _ (w : ℕ) (ns : List Node) (d id kind mode : ℕ) (name : List ℕ) (a 
             (λ i h r. child-apart i h (r .0) (r .1)) (λ i h r. child-apart i h (sym (r .0)) (sym (r .1))) i j h l (e, f);
         ways = ways-add;
         pages = rw (pageTotal-append ns (new ∷ [])) (let h = s .pages in unfold pageTotal pagesFor in omega arith);
-        order = order-add;
       }
 
 pub sound-add : (w : ℕ) (ns : List Node) (d id kind mode : ℕ) (name : List ℕ) → soundNodes w ns ≡ true → Addable w ns d id kind mode name

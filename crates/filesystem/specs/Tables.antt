@@ -143,6 +143,10 @@ withMode m n = record { id = n .id; parent = n .parent; kind = n .kind; mode = m
 abbrev pub withSize : ℕ → Node → Node
 withSize s n = record { id = n .id; parent = n .parent; kind = n .kind; mode = n .mode; size = s; name = n .name }
 
+-- another parent's id and another name
+abbrev pub withPlace : ℕ → List ℕ → Node → Node
+withPlace p name n = record { id = n .id; parent = p; kind = n .kind; mode = n .mode; size = n .size; name = name }
+
 abbrev pub newOpenFile : (handle descriptor rights : ℕ) → OpenFile
 newOpenFile h d r = record { handle = h; descriptor = d; rights = r; cursor = 0 }
 
@@ -154,6 +158,10 @@ setMode ns k m = set ns k (withMode m (nodeAt ns k))
 
 unfoldable pub setSize : List Node → ℕ → ℕ → List Node
 setSize ns k s = set ns k (withSize s (nodeAt ns k))
+
+-- the record keeps its place
+unfoldable pub renamed : List Node → ℕ → ℕ → List ℕ → List Node
+renamed ns k p name = set ns k (withPlace p name (nodeAt ns k))
 
 unfoldable pub setCursor : List OpenFile → ℕ → ℕ → List OpenFile
 setCursor os k p = set os k (withCursor p (openAt os k))

@@ -1,5 +1,5 @@
 -- What is pending, by its number under `header::CALL` (src/calls.rt); any other number is idle.
---   IDLE … UNMAPPING    the numbers, one for each constructor of the definition; LAST is the last of them
+--   IDLE … RENAMING    the numbers, one for each constructor of the definition; LAST is the last of them
 --   OnNode call         it is of a call on a node that is there: open, remove, chmod, readdir, stat
 --   questionOn          what such a call on the node in place k asks the host; `number` is its mode or its rights
 --   Truncating call     it is of a truncation that begins: to fewer bytes, to more
@@ -69,8 +69,11 @@ MAPPING = 15
 abbrev pub UNMAPPING : ℕ
 UNMAPPING = 16
 
+abbrev pub RENAMING : ℕ
+RENAMING = 17
+
 abbrev pub LAST : ℕ
-LAST = UNMAPPING
+LAST = RENAMING
 
 pub data OnNode : ℕ → Type 0 where
   forOpen : OnNode OPENING

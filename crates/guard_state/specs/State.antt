@@ -19,7 +19,7 @@ use Rattle.numbers.specs.Slices.{Slice}
 use Rattle.memory.specs.Layout.{memOf, openRows, newDigests}
 use Rattle.rules.specs.Pages.{writing, shrinking, growing}
 use Rattle.rules.specs.Requests.{asked, Pending, idle, creating, opening, closing, removing, changing, listing, stating}
-use Rattle.rules.specs.Requests.{reading, fetching, storing, cutting, mapping, unmapping}
+use Rattle.rules.specs.Requests.{reading, fetching, storing, cutting, mapping, unmapping, renaming}
 use Rattle.rules.specs.Skeleton.{Config}
 use Rattle.machine.specs.Machine.{State, Gathered, guard as digestStore}
 use Rattle.tables.specs.View.{View, viewOf, stagedDigests}
@@ -82,6 +82,7 @@ pendings g s =
     ∷ cutting (g .node) (g .opened) (growing (g .size))
     ∷ asked (mapping (g .size))
     ∷ asked (unmapping (g .parent))
+    ∷ asked (renaming (g .node) (g .parent) (stagedBytes g s))
     ∷ []
 
 unfoldable pub pendingIn : Guard → List ℕ → Pending

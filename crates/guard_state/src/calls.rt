@@ -37,4 +37,6 @@ pub const MAPPING: u64 = 15;
 
 pub const UNMAPPING: u64 = 16;
 
-pub const LAST: u64 = UNMAPPING;
+pub const RENAMING: u64 = 17;
+
+pub const LAST: u64 = RENAMING;

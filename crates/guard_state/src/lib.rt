@@ -9,6 +9,7 @@ ghost use Rattle.filesystem.specs.Tables.{NODES, NAME-BYTES, FILE-BYTES, DATA-B
 ghost use Rattle.rules.specs.Pages.{writing};
 ghost use Rattle.filesystem.specs.MemoryMaps.{MAPS, MAP-BYTES};
 ghost use Rattle.rules.specs.Requests.{asked, creating, closing, reading, fetching, mapping, unmapping};
+ghost use Rattle.rules.specs.Requests.{renaming};
 ghost use Rattle.rules.specs.Skeleton.{Config};
 ghost use Rattle.machine.specs.Machine.{fresh, guard as digestStore};
 ghost use Rattle.numbers.specs.Slices.{KeepsLength};
@@ -34,7 +35,8 @@ pub struct Guard {
     pub call: u64,
     pub node: usize,
     pub opened: usize,
-    // a new node: its parent's id, its kind and its mode; a mode that is set; the rights of an open
+    // a new node: its parent's id, which a rename has too, its kind and its mode; a mode that is set; the rights of an
+    // open
     pub parent: u64,
     pub kind: u64,
     pub mode: u64,
@@ -248,6 +250,20 @@ pub fn wait_unmap(m: &mut [u8], address: u64)
     clear(m);
     memory::put_head(m, header::CALL, calls::UNMAPPING);
     memory::put_head(m, header::PARENT, address);
+}
+
+// A rename: the node, its new parent's id, and the new name, which is staged.
+pub fn wait_rename(m: &mut [u8], node: usize, parent: u64, name: &[u8])
+    requires { ⌜ (node < NODES) × (length (now name) ≤ NAME-BYTES) × IsMemory m ⌝ }
+    ensures { λ _. ⌜ Waits m (asked (renaming node parent (now (name .entry)))) gatheredNone ⌝ }
+{
+    let n = name.len();
+    memory::stage(m, 0, name);
+    clear(m);
+    memory::put_head(m, header::CALL, calls::RENAMING);
+    memory::put_head(m, header::NODE, node as u64);
+    memory::put_head(m, header::PARENT, parent);
+    memory::put_head(m, header::BYTES, n as u64);
 }
 
 // The numbers of a read that waits for a page.

@@ -6,16 +6,15 @@
 --   OwnId, OwnName          whether record i has an id, or a name among siblings, that none before it has
 --   OwnIds                  the ids of the first n differ
 --   Judges r w ns F         F where r; where not, the nodes are not sound
---   Apart, Placed, Rooted   what the passes find: records that stand apart, their parents, ways to the root
+--   Apart, Rooted           what the passes find: records that stand apart, ways to the root
 -- Assumes nothing.
 use mathlib.Core.Bool.{Bool, true, false}
 use mathlib.Core.List.{List, [], _∷_}
 use mathlib.Core.Path.{_≡_}
-use Prim.Native.Nat.{ℕ, suc, _+_, _*_, _%_, _≤_, _<_}
+use Prim.Native.Nat.{ℕ, _+_, _*_, _%_, _≤_, _<_}
 use lib.ListN.{length, getD}
 use Rattle.filesystem.specs.Tables.{NODES, PATH-BYTES, Node}
 use Rattle.filesystem.specs.Image.{Layout, inLimits, isNamed}
-use Rattle.filesystem.specs.Order.{Ordered}
 use Rattle.filesystem.specs.Sound.{Sound}
 use Rattle.filesystem.specs.Ways.{Way, bytes}
 use Rattle.links.specs.Buckets.{BUCKETS}
@@ -87,16 +86,5 @@ pub record Apart (w : ℕ) (node : ℕ → Node) (n : ℕ) : Type 0 where
   pub ids : (i j : ℕ) → i < n → j < n → node i .id ≡ node j .id → i ≡ j
   pub siblings : (i j : ℕ) → i < n → j < n → Siblings (node i) (node j) → i ≡ j
 
--- of the first i of n nodes: parents' places, earlier ones, in `to`; the bytes of names, each with a slash, in `far`
-pub record Placed (node : ℕ → Node) (to far : List ℕ) (n i : ℕ) : Type 0 where
-  pub to-size : length to ≡ NODES
-  pub far-size : length far ≡ NODES
-  pub inside : (k : ℕ) → 0 < k → k < i → getD to k 0 < n
-  pub ids : (k : ℕ) → 0 < k → k < i → node (getD to k 0) .id ≡ node k .parent
-  pub kinds : (k : ℕ) → 0 < k → k < i → node (getD to k 0) .kind ≡ 2
-  pub earlier : (k : ℕ) → 0 < k → k < i → getD to k 0 < k
-  pub steps : (k : ℕ) → 0 < k → k < i → getD far k 0 ≡ suc (length (node k .name))
-
-pub record Rooted (ns : List Node) : Type 0 where
-  pub ways : (k : ℕ) → k < length ns → (v : Way ns 0 k) × (bytes v ≤ PATH-BYTES)
-  pub order : Ordered ns
+abbrev pub Rooted : List Node → Type 0
+Rooted ns = (k : ℕ) → k < length ns → (v : Way ns 0 k) × (bytes v ≤ PATH-BYTES)

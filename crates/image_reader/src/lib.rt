@@ -8,10 +8,11 @@ ghost use Rattle.filesystem.specs.Image.{inLimits, isNamed, sameChild, soundNod
 ghost use Rattle.filesystem.specs.Layouts.{layout, IsLayout};
 ghost use Rattle.filesystem.specs.Tables.{NODES, PAGES, pageTotal};
 ghost use Rattle.links.specs.Buckets.{BUCKETS, Indexed};
+ghost use Rattle.links.specs.Parents.{Placed};
 ghost use Rattle.image_records.specs.Records.{recordAt, recordEnd, nodesFrom, endFrom};
 ghost use Rattle.image_records.specs.Records.{isSome};
 ghost use Rattle.image_reader.specs.Judged.{spread, nodeOn, Located, Standing, idAt, idKey, nameKey};
-ghost use Rattle.image_reader.specs.Judged.{Found, OwnId, OwnIds, OwnName, Judges, Apart, Directory, Placed};
+ghost use Rattle.image_reader.specs.Judged.{Found, OwnId, OwnIds, OwnName, Judges, Apart, Directory};
 ghost use Rattle.image_reader.specs.Judged.{Rooted};
 
 const INDEX: usize = links::BUCKETS + limits::NODES;
@@ -208,8 +209,8 @@ fn find_directory(image: &[u8], w: usize, starts: &[u32], ids: &[u8], n: usize, 
     k
 }
 
-// Whether each record but the root has a directory before it for its parent. Its place is put into `to`, the bytes of
-// the record's name and a slash into `far`.
+// Whether each record but the root has a directory for its parent. Its place is put into `to`, the bytes of the
+// record's name and a slash into `far`.
 fn place_parents(
     image: &[u8],
     w: usize,
@@ -241,7 +242,7 @@ fn place_parents(
             image_records::record_parent(image, w, at),
         );
         // n where there is none
-        if k <= parent {
+        if n <= parent {
             return false;
         }
         let name = image_records::record_name(image, w, maker, at);

@@ -31,3 +31,5 @@ pub const STAT: u8 = 13;
 pub const MAP: u8 = 14;
 
 pub const UNMAP: u8 = 15;
+
+pub const RENAME: u8 = 16;

@@ -1,3 +1,4 @@
 pub mod Buckets
 pub mod Climbs
+pub mod Parents
 pub mod laws

@@ -21,7 +21,7 @@ pub fn insert(index: &mut [u8], b: usize, i: usize)
 
 // How long the way is from place k up to place 0, or some length above `PATH_BYTES` where it is longer or there is
 // none.
-fn climb(to: &[u8], far: &[u8], n: usize, k: usize) -> usize
+pub fn climb(to: &[u8], far: &[u8], n: usize, k: usize) -> usize
     requires { ⌜ (k < n) × Linked (now to) (now far) n ⌝ }
     ensures { λ r. ⌜ Climbs (now (to .entry)) (now (far .entry)) k r ⌝ }
 {

@@ -78,7 +78,8 @@ module _ {A : Type 0} (f : A → Bool) (z : A) where
     where
       go : Is (f x) → (length xs ≤ place f xs → place f (xs ++ (y ∷ ys)) ≡ length xs) → place f (x ∷ xs ++ (y ∷ ys)) ≡ suc (length xs)
       go (isT t) ih = let z : place f (x ∷ xs) ≡ 0 = pick-true _ _ _ t in absurd (omega arith)
-      go (isF t) ih = let z : place f (x ∷ xs) ≡ suc (place f xs) = pick-false _ _ _ t in pick-false _ _ _ t ∙ ap suc (ih (omega arith))
+      go (isF t) ih = let z : place f (x ∷ xs) ≡ suc (place f xs) = pick-false _ _ _ t in pick-false _ _ _ t
+          ∙ ap suc (ih (omega arith))
 
   -- none passes exactly where the place is past the end
   pub place-none : (xs : List A) → ((k : ℕ) → k < length xs → f (getD xs k z) ≡ false) → length xs ≤ place f xs
@@ -90,6 +91,38 @@ module _ {A : Type 0} (f : A → Bool) (z : A) where
 
   pub none-place : (xs : List A) (k : ℕ) → length xs ≤ place f xs → k < length xs → f (getD xs k z) ≡ false
   none-place xs k e h = place-first f xs z k (omega arith)
+
+  -- an element put in place k that does not pass, where the one found does not stand there; and one that does, where
+  -- none did
+  pub place-set-off : (xs : List A) (k : ℕ) (y : A) → f y ≡ false → (place f xs ≡ k → ⊥)
+      → place f (set xs k y) ≡ place f xs
+  unfolding place
+  place-set-off [] k y e d = refl
+  place-set-off (x ∷ xs) zero y e d = go (is (f x))
+    where
+      go : Is (f x) → place f (y ∷ xs) ≡ place f (x ∷ xs)
+      go (isT t) = absurd (d (pick-true _ _ _ t))
+      go (isF t) = pick-false _ _ _ e ∙ sym (pick-false _ _ _ t)
+  place-set-off (x ∷ xs) (suc k) y e d = go (is (f x)) (place-set-off xs k y e)
+    where
+      go : Is (f x) → ((place f xs ≡ k → ⊥) → place f (set xs k y) ≡ place f xs)
+          → place f (x ∷ set xs k y) ≡ place f (x ∷ xs)
+      go (isT t) ih = pick-true _ _ _ t ∙ sym (pick-true _ _ _ t)
+      go (isF t) ih =
+          let z : place f (x ∷ xs) ≡ suc (place f xs) = pick-false _ _ _ t in
+          pick-false _ _ _ t ∙ ap suc (ih (λ q. d (z ∙ ap suc q))) ∙ sym z
+
+  pub place-set-on : (xs : List A) (k : ℕ) (y : A) → k < length xs → length xs ≤ place f xs → f y ≡ true
+      → place f (set xs k y) ≡ k
+  unfolding place
+  place-set-on [] k y h l e = absurd (omega arith)
+  place-set-on (x ∷ xs) zero y h l e = pick-true _ _ _ e
+  place-set-on (x ∷ xs) (suc k) y h l e = go (is (f x)) (λ m. place-set-on xs k y (omega arith) m e)
+    where
+      go : Is (f x) → (length xs ≤ place f xs → place f (set xs k y) ≡ k) → place f (x ∷ set xs k y) ≡ suc k
+      go (isT t) ih = let z : place f (x ∷ xs) ≡ 0 = pick-true _ _ _ t in absurd (omega arith)
+      go (isF t) ih = let z : place f (x ∷ xs) ≡ suc (place f xs) = pick-false _ _ _ t in pick-false _ _ _ t
+          ∙ ap suc (ih (omega arith))
 
   -- nothing is selected where none passes
   pub select-none : (xs : List A) (k : ℕ) → select f xs ≡ [] → k < length xs → f (getD xs k z) ≡ false

@@ -17,6 +17,7 @@ use Rattle.filesystem.specs.Tables.{PAGE-BYTES, Node, Tables}
 use Rattle.filesystem.specs.Image.{saved, imageLength}
 use Rattle.rules.specs.Pages.{Change, first, last, fetches, cuts}
 use Rattle.rules.specs.Requests.{asked, Pending, idle, creating, opening, closing, removing, changing, listing, stating, mapping, unmapping, reading, fetching, storing, cutting}
+use Rattle.rules.specs.Requests.{renaming}
 use Rattle.rules.specs.Skeleton.{Config, Event, call, reply, save, Answer, done, ask, refused, stopped, Outcome, plain, answerLength, requestLength}
 use Rattle.filesystem.specs.MemoryMaps.{Map}
 use Rattle.rules.specs.MapRules.{begins, ends, findMap, mapsAfter, mapNumber}
@@ -158,6 +159,7 @@ module _ (c : Config) (S : Store) where
   behind s r (asked (stating k)) h = at-once _ refl
   behind s r (asked (mapping n)) h = at-once _ refl
   behind s r (asked (unmapping x)) h = at-once _ refl
+  behind s r (asked (renaming k p name)) h = at-once _ refl
   behind s r (reading k o p n i) h = page-first (S .isPage (contentAt c S s k) i r) _ _ (read-onward s k o p n i _) refl
   behind s r (fetching k o q i) h = page-first (S .isPage (contentAt c S s k) i r) _ _ refl refl
   behind s r (storing k o q i) h = at-once _ (pages-onward c S s k o q (suc i))

@@ -11,6 +11,7 @@ use Rattle.lists.specs.LittleEndian.{encode}
 use Rattle.filesystem.specs.Tables.{PAGE-BYTES, nodeAt}
 use Rattle.rules.specs.Pages.{pageOf, storesMore, cutsMore}
 use Rattle.rules.specs.Requests.{asked, Pending, idle, creating, opening, closing, removing, changing, listing, stating, mapping, unmapping, reading, fetching, storing, cutting}
+use Rattle.rules.specs.Requests.{renaming}
 use Rattle.rules.specs.Skeleton.{Config}
 use Rattle.rules.specs.Rules.{statBytes}
 use Rattle.rules.specs.RightReplies.{Full, RightId, RightDescriptor, RightListing, RightMap}
@@ -29,6 +30,7 @@ module _ (c : Config) (t : State (tree c)) (r : List ℕ) where
   RightFor (asked (stating k)) = r ≡ statBytes (c .width) (nodeAt (t .skeleton .tables .nodes) k)
   RightFor (asked (mapping n)) = RightMap (t .skeleton .maps) n r
   RightFor (asked (unmapping a)) = r ≡ encode 4 0
+  RightFor (asked (renaming k p name)) = r ≡ encode 4 0
   RightFor (reading k o p n i) = r ≡ pageOf (getD (t .contents) k []) i
   RightFor (fetching k o q i) = r ≡ pageOf (getD (t .contents) k []) i
   RightFor (storing k o q i) = (r ≡ encode 4 PAGE-BYTES) ⊎ ((storesMore q ≡ true) × Full 4 r)

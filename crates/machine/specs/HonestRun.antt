@@ -17,6 +17,7 @@ use Rattle.lists.specs.Checks.{Check, First, here, later, Passed}
 use Rattle.filesystem.specs.Image.{Image, saved, Version, current, layoutOf, parse}
 use Rattle.rules.specs.Pages.{pageOf, Change, first, last, fetches, cuts, storesMore, cutsMore}
 use Rattle.rules.specs.Requests.{asked, Pending, idle, creating, opening, closing, removing, changing, listing, stating, mapping, unmapping, reading, fetching, storing, cutting}
+use Rattle.rules.specs.Requests.{renaming}
 use Rattle.rules.specs.Skeleton.{Config, Event, reply, EventBytes}
 use Rattle.rules.specs.Rules.{Move, loading, judge, saysFull, tellsFull, replyChecks, mapReasons, reasons}
 use Rattle.machine.specs.Machine.{State, Result, readOn, finishChange, pagesStored, askStore, onPage, pagesFrom}
@@ -60,6 +61,8 @@ module _ (c : Config) (fit : Fit c) where
   right-passes t r v (asked (stating k)) h = inr (right-stat (c .width) (t .skeleton .tables) r k h)
   right-passes t r v (asked (mapping n)) h = inr (unfold replyChecks in both (ap not (eq-eqb _ _ (right-map (t .skeleton .maps) n r h .0))) all-none)
   right-passes t r v (asked (unmapping a)) h = inr (unfold replyChecks in right-status (c .width) (t .skeleton .tables) r 0 (omega arith) h)
+  right-passes t r v (asked (renaming k p name)) h =
+      inr (unfold replyChecks in right-status (c .width) (t .skeleton .tables) r 0 (omega arith) h)
   right-passes t r v (reading k o p n i) h = inr (unfold replyChecks in page-long t k i r h)
   right-passes t r v (fetching k o q i) h = inr (unfold replyChecks in page-long t k i r h)
   right-passes t r v (storing k o q i) (inl h) = inr (unfold replyChecks in right-status (c .width) (t .skeleton .tables) r 1024 (omega arith) h)
@@ -80,6 +83,7 @@ module _ (c : Config) (fit : Fit c) where
   maps-pass t r (asked (stating k)) h = all-none
   maps-pass t r (asked (mapping n)) h = right-map (t .skeleton .maps) n r h .1
   maps-pass t r (asked (unmapping a)) h = all-none
+  maps-pass t r (asked (renaming k p name)) h = all-none
   maps-pass t r (reading k o p n i) h = all-none
   maps-pass t r (fetching k o q i) h = all-none
   maps-pass t r (storing k o q i) h = all-none

@@ -17,7 +17,7 @@ use Rattle.lists.specs.Search.{select}
 use Rattle.filesystem.specs.Tables.{PAGE-BYTES, Node, Tables, noOpenFile, openAt, hasParent, children, setCursor}
 use Rattle.rules.specs.Pages.{bytesAt, splice, writing, cursorAfter, numberOf}
 use Rattle.rules.specs.PageLaws.{getD-splice, range, Where, low, mid, high}
-use Rattle.rules.specs.Requests.{asked, changing}
+use Rattle.rules.specs.Requests.{asked, changing, renaming}
 use Rattle.rules.specs.Skeleton.{Config, done}
 use Rattle.rules.specs.Rules.{readPage, replyAction}
 use Rattle.machine.specs.Machine.{Store, State, Result, contentAt, readOn, finishChange, apply}
@@ -77,6 +77,13 @@ module _ (c : Config) (S : Store) (s : State S) where
       → apply c S s (replyAction w t r (asked (changing k m))) .state .skeleton .tables .opens ≡ t .opens
   unfolding apply replyAction
   chmod-keeps-rights t w k m r = refl
+
+  -- an open file stays open through a renaming, and its bytes stay
+  pub rename-keeps-files : (t : Tables) (w k p : ℕ) (name r : List ℕ)
+      → (apply c S s (replyAction w t r (asked (renaming k p name))) .state .skeleton .tables .opens ≡ t .opens)
+      × (apply c S s (replyAction w t r (asked (renaming k p name))) .state .contents ≡ s .contents)
+  unfolding apply replyAction
+  rename-keeps-files t w k p name r = (refl, refl)
 
 -- A listing has the new child, behind the others.
 pub listing-grows : (ns : List Node) (n : Node) (p : ℕ) → n .parent ≡ p → children (ns ++ (n ∷ [])) p ≡ children ns p ++ (n ∷ [])

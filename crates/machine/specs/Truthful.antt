@@ -20,6 +20,7 @@ use Rattle.lists.specs.Rearranged.{Rearranged, rearranged-self, rearranged-sym,
 use Rattle.filesystem.specs.Tables.{Node, OpenFile, Tables, nodeAt, children}
 use Rattle.rules.specs.Pages.{pageOf, storesMore, cutsMore}
 use Rattle.rules.specs.Requests.{asked, Pending, idle, creating, opening, closing, removing, changing, listing, stating, mapping, unmapping, reading, fetching, storing, cutting}
+use Rattle.rules.specs.Requests.{renaming}
 use Rattle.rules.specs.FullLaws.{fullBytes, full-bytes, full-is}
 use Rattle.rules.specs.Skeleton.{Config, Event, EventBytes}
 use Rattle.rules.specs.Rules.{Entry, entryForm, entryOf, statBytes}
@@ -57,6 +58,7 @@ module _ (c : Config) (t : State (tree c)) where
   truthfulFor (asked (stating k)) = statBytes (c .width) (nodeAt (t .skeleton .tables .nodes) k)
   truthfulFor (asked (mapping n)) = encode 8 (freeAddress (t .skeleton .maps)) ++ replicate n 0
   truthfulFor (asked (unmapping a)) = encode 4 0
+  truthfulFor (asked (renaming k p name)) = encode 4 0
   truthfulFor (reading k o p n i) = pageOf (getD (t .contents) k []) i
   truthfulFor (fetching k o q i) = pageOf (getD (t .contents) k []) i
   truthfulFor (storing k o q i) = encode 4 1024
@@ -121,6 +123,7 @@ module _ (c : Config) (t : State (tree c)) (v : Valid (c .width) (t .skeleton)) 
   for-right (asked (stating k)) f = refl
   for-right (asked (mapping n)) f = free-right (t .skeleton .maps) n (m .valid) (f .1)
   for-right (asked (unmapping a)) f = refl
+  for-right (asked (renaming k p name)) f = refl
   for-right (reading k o p n i) f = refl
   for-right (fetching k o q i) f = refl
   for-right (storing k o q i) f = inl refl
@@ -152,6 +155,7 @@ module _ (c : Config) (t : State (tree c)) (r s : List ℕ) where
   -- each is one address, and zeros
   SameBut (asked (mapping n)) = (a : ℕ) × (b : ℕ) × (r ≡ encode 8 a ++ replicate n 0) × (s ≡ encode 8 b ++ replicate n 0)
   SameBut (asked (unmapping a)) = r ≡ s
+  SameBut (asked (renaming k p name)) = r ≡ s
   SameBut (reading k o p n i) = r ≡ s
   SameBut (fetching k o q i) = r ≡ s
   -- the same, or one says that the disk is full
@@ -182,6 +186,7 @@ module _ (c : Config) (t : State (tree c)) (r s : List ℕ) where
   same-for a b (asked (stating k)) x y = x ∙ sym y
   same-for a b (asked (mapping n)) x y = (x .address, y .address, x .bytes, y .bytes)
   same-for a b (asked (unmapping k)) x y = x ∙ sym y
+  same-for a b (asked (renaming k p name)) x y = x ∙ sym y
   same-for a b (reading k o p n i) x y = x ∙ sym y
   same-for a b (fetching k o q i) x y = x ∙ sym y
   same-for a b (storing k o q i) x y = same-status x y

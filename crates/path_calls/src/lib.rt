@@ -49,7 +49,7 @@ fn step_from(m: &[u8], n: usize, parent: usize, name: &[u8]) -> Way
 }
 
 // A walk that keeps the directory of its last step.
-fn walk_both(m: &[u8], n: usize, path: &[u8]) -> Way
+pub fn walk_both(m: &[u8], n: usize, path: &[u8]) -> Way
     requires { ⌜ (0 < n) × (n ≤ NODES) × IsMemory m ⌝ }
     ensures { λ r. ⌜ r ≡ walkedBoth (nodesOf n m) (componentsOf (now (path .entry))) ⌝ }
 {

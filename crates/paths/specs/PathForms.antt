@@ -26,6 +26,17 @@ pathForm (some p) = lengthForm (tooLong p)
 unfoldable pub formOf : List ℕ → PathForm
 formOf s = pathForm (readPath s)
 
+-- of two paths of one call: malformed before long, long before good
+unfoldable pub worse : PathForm → PathForm → PathForm
+worse Malformed g = Malformed
+worse Long Malformed = Malformed
+worse Long Long = Long
+worse Long Good = Long
+worse Good g = g
+
+abbrev pub formsOf : List ℕ → List ℕ → PathForm
+formsOf s t = worse (formOf s) (formOf t)
+
 -- over 32 bytes
 abbrev pub isLong : List ℕ → Bool
 isLong c = ltb NAME-BYTES (length c)

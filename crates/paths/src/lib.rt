@@ -12,7 +12,7 @@ ghost use Rattle.filesystem.specs.Tables.{NODES, NAME-BYTES, PATH-BYTES};
 ghost use Rattle.memory.specs.Memories.{IsMemory, nodesOf, was};
 ghost use Rattle.tables.specs.View.{FirstPlaces};
 ghost use Rattle.paths.specs.Parts.{isSlash, isEnd, componentsOf};
-ghost use Rattle.paths.specs.PathForms.{formOf, partsForm, isName};
+ghost use Rattle.paths.specs.PathForms.{formOf, formsOf, partsForm, isName};
 ghost use Rattle.paths.specs.Walks.{walked, placed, searchNumber, childStep};
 
 // What is wrong with a path's bytes: the form (22), else a length (36), else nothing.
@@ -200,6 +200,23 @@ pub fn form(path: &[u8]) -> PathForm
         return PathForm::Good;
     }
     parts_form(path)
+}
+
+// The form of two paths of one call: a fault of form of either comes before any length.
+pub fn forms(first: &[u8], second: &[u8]) -> PathForm
+    ensures { λ r. ⌜ r ≡ formsOf (now (first .entry)) (now (second .entry)) ⌝ }
+{
+    let f = form(first);
+    let g = form(second);
+    match f {
+        PathForm::Malformed => PathForm::Malformed,
+        PathForm::Long => match g {
+            PathForm::Malformed => PathForm::Malformed,
+            PathForm::Long => PathForm::Long,
+            PathForm::Good => PathForm::Long,
+        },
+        PathForm::Good => g,
+    }
 }
 
 // ---- the walk

@@ -12,7 +12,7 @@ use Rattle.lists.specs.Pick.{pick}
 use Rattle.lists.specs.Checks.{Check, decide}
 use Rattle.filesystem.specs.Paths.{tooLong}
 use Rattle.rules.specs.Calls.{Call, create, mkdir, openAs, close, seek, read, write, truncate, remove, rmdir, chmod}
-use Rattle.rules.specs.Calls.{readdir, stat, mapMemory, unmap, readCall}
+use Rattle.rules.specs.Calls.{readdir, stat, mapMemory, unmap, readCall, rename}
 use Rattle.rules.specs.Skeleton.{Config, Event, call, reply, save, load, refused, Outcome, plain, Skeleton}
 use Rattle.rules.specs.Rules.{callOr, isNone, stoppedCheck, busyCheck, shortCheck}
 use Rattle.machine.specs.Machine.{Store, State, Result, step}
@@ -34,6 +34,7 @@ takesCall (readdir p) = true
 takesCall (stat p) = true
 takesCall (mapMemory n) = false
 takesCall (unmap a) = false
+takesCall (rename p q) = false
 
 -- 36, of a call by path
 unfoldable pub lengthChecks : Call → List Check
@@ -52,6 +53,7 @@ lengthChecks (readdir p) = (36, tooLong p) ∷ []
 lengthChecks (stat p) = (36, tooLong p) ∷ []
 lengthChecks (mapMemory n) = []
 lengthChecks (unmap a) = []
+lengthChecks (rename p q) = (36, tooLong p) ∷ (36, tooLong q) ∷ []
 
 module _ (c : Config) where
   -- bytes that are no call are taken: they are refused 22, as by the guard

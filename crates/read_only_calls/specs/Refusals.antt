@@ -17,11 +17,10 @@ use Rattle.rules.specs.Calls.{Call, readCall}
 use Rattle.rules.specs.Rules.{callOr, isNone}
 use Rattle.call_reader.specs.declared.ParsedCall.{ParsedCall}
 use Rattle.call_reader.specs.declared.ParsedCall.the-variants.{ByPath, Close, Seek, Read, Write, Truncate}
-use Rattle.call_reader.specs.declared.ParsedCall.the-variants.{Map, Unmap, Malformed}
+use Rattle.call_reader.specs.declared.ParsedCall.the-variants.{Map, Unmap, Rename, Malformed}
 use Rattle.call_reader.specs.Meaning.{madeBy}
 use Rattle.paths.specs.declared.PathForm.{PathForm}
 use Rattle.paths.specs.declared.PathForm.the-variants.{Malformed as Wrong, Long, Good}
-use Rattle.paths.specs.PathForms.{formOf}
 use Rattle.read_only.specs.ReadOnly.{takesCall, lengthChecks}
 
 -- a kind with a path, whatever the path is
@@ -37,15 +36,13 @@ takesParsed (Write h start) = false
 takesParsed (Truncate h n) = false
 takesParsed (Map n) = false
 takesParsed (Unmap a) = false
+takesParsed (Rename second) = false
 takesParsed Malformed = true
 
 unfoldable pub numberOfForm : PathForm → ℕ
 numberOfForm Wrong = 22
 numberOfForm Long = 36
 numberOfForm Good = 30
-
-abbrev pub pathNumber : List ℕ → ℕ
-pathNumber s = numberOfForm (formOf s)
 
 unfoldable pub formNumber : Option Call → ℕ
 formNumber o =

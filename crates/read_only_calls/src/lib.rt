@@ -4,7 +4,7 @@ ghost use mathlib.Core.Path.{_≡_};
 ghost use Prim.Native.Nat.{_<_, _≤_};
 ghost use lib.ListN.{length, getD};
 ghost use Rattle.call_reader.specs.Meaning.{meant, NumberFits, Ranges};
-ghost use Rattle.read_only_calls.specs.Refusals.{takesByPath, takesParsed, pathNumber};
+ghost use Rattle.read_only_calls.specs.Refusals.{takesByPath, takesParsed, numberOfForm};
 ghost use Rattle.read_only_calls.specs.Refusals.{formNumber, Taken, Refuses};
 use call_reader::ParsedCall;
 use limits::kinds;
@@ -40,15 +40,15 @@ fn takes(p: ParsedCall, size: usize) -> bool
         ParsedCall::Truncate { handle, size } => false,
         ParsedCall::Map { size } => false,
         ParsedCall::Unmap { address } => false,
+        ParsedCall::Rename { second } => false,
         _ => true,
     }
 }
 
-// Of a path: 22, 36, else 30.
-fn path_number(path: &[u8]) -> u8
-    ensures { λ r. ⌜ r ≡ pathNumber (now (path .entry)) ⌝ }
+// 22, 36, else 30.
+fn number_of(f: paths::PathForm) -> u8
+    ensures { λ r. ⌜ r ≡ numberOfForm f ⌝ }
 {
-    let f = paths::form(path);
     match f {
         paths::PathForm::Malformed => 22,
         paths::PathForm::Long => 36,
@@ -56,20 +56,20 @@ fn path_number(path: &[u8]) -> u8
     }
 }
 
-// Of a call that is not taken: 22, 36, else 30.
+// Of a call that is not taken.
 fn form_number(p: ParsedCall, call: &[u8]) -> u8
     requires { ⌜ (takesParsed p ≡ false) × Ranges p (length (now call)) ⌝ }
     ensures { λ r. ⌜ (r ≡ formNumber (meant p (now (call .entry)))) × (0 < r) ⌝ }
 {
-    let ParsedCall::ByPath {
-        kind,
-        number,
-        start,
-    } = p
-    else {
-        return 30;
-    };
-    path_number(&call[start..])
+    match p {
+        ParsedCall::ByPath {
+            kind,
+            number,
+            start,
+        } => number_of(paths::form(&call[start..])),
+        ParsedCall::Rename { second } => number_of(paths::forms(&call[2..second], &call[second..])),
+        _ => 30,
+    }
 }
 
 // An open that asks for rights 1.

@@ -76,7 +76,8 @@ pub fn accept_reply(
         calls::STATING => attributes::accept_stat(m, reply, answer),
         calls::READING => reads::accept_page(m, reply, answer, request),
         calls::FETCHING..=calls::GROWING => accept_page_change(m, call, reply, request),
-        calls::MAPPING..=calls::LAST => accept_on_maps(m, call, reply),
+        calls::MAPPING..=calls::UNMAPPING => accept_on_maps(m, call, reply),
+        calls::LAST => renames::accept_rename(m, reply),
         _ => outcomes::Outcome::Refused(61),
     }
 }

@@ -10,7 +10,7 @@ ghost use Rattle.rules.specs.Pages.{writing, shrinking, resized, fill};
 ghost use Rattle.rules.specs.Requests.{closeRequest, fetchRequest, storeRequest, storeLength, cutRequest};
 ghost use Rattle.rules.specs.Skeleton.{atFront};
 ghost use Rattle.numbers.specs.Slices.{Overwritten};
-ghost use Rattle.requests.specs.PathRequests.{hasNumber, pathRequest};
+ghost use Rattle.requests.specs.PathRequests.{hasNumber, pathRequest, renameRequest};
 ghost use Rattle.requests.specs.Room.{HoldsRequest};
 ghost use Rattle.requests.specs.StoredPages.{zeros};
 use limits::kinds;
@@ -80,6 +80,17 @@ pub fn write_path(out: &mut [u8], kind: u8, number: u8, path: &[u8]) -> usize
         return put_numbered(out, kind, number, path);
     }
     put_plain(out, kind, path)
+}
+
+// rename: the first path's length, and both paths.
+pub fn write_rename(out: &mut [u8], first: &[u8], second: &[u8]) -> usize
+    requires { ⌜ (length (now first) ≤ PATH-BYTES) × (length (now second) ≤ PATH-BYTES) × HoldsRequest out ⌝ }
+    ensures { λ r. ⌜ (now (out .exit) ≡ atFront (renameRequest (now (first .entry)) (now (second .entry)))
+        (now (out .entry))) × (r ≡ length (renameRequest (now (first .entry)) (now (second .entry)))) ⌝ }
+{
+    let front = put_numbered(out, kinds::RENAME, first.len() as u8, first);
+    buffers::put(out, front, second);
+    front + second.len()
 }
 
 // close: the descriptor.

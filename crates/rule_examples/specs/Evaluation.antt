@@ -16,13 +16,15 @@ use Rattle.lists.specs.LittleEndian.{encode, decode}
 use Rattle.lists.specs.Form.{bind, front, get₂, get-fixed, get-as, put-all, get-all, ended, whole}
 use Rattle.lists.specs.Checks.{decide}
 use Rattle.filesystem.specs.Tables.{Node, OpenFile, pagesFor, pageTotal, nodeAt, openAt, findId, findChild, children, findHandle, findDescriptor, setMode, setSize, setCursor}
+use Rattle.filesystem.specs.Tables.{renamed}
 use Rattle.filesystem.specs.Rights.{coverTable, covers}
 use Rattle.filesystem.specs.Paths.{joined, pathBytes, componentForm, onto, split, afterSlash, readPath, tooLong, childAt, walk, walkChecks, parentChecks, parentOf, lastOf}
 use Rattle.filesystem.specs.Image.{layoutOf, makerBytes, nodeForm, imageForm, flatten, divide, climb, pathLength, lies}
-use Rattle.filesystem.specs.Image.{inLimits, parentsEarlier, soundNodes, sound, print, recordsLength, imageLength}
-use Rattle.filesystem.specs.Image.{parse}
+use Rattle.filesystem.specs.Image.{inLimits, soundNodes, sound, print, recordsLength, imageLength}
+use Rattle.filesystem.specs.Image.{parse, beneath, tooDeep}
 use Rattle.filesystem.specs.Digests.{replaced}
 use Rattle.rules.specs.Calls.{callBytes, byPath, byNumberAndPath, byHandle, byHandleAndNumber, byHandleAndBytes, readFields, readCall, byNumber}
+use Rattle.rules.specs.Calls.{byTwoPaths}
 use Rattle.rules.specs.Pages.{pageAt, pageOf, bytesAt, resized, splice, overlay, pagePart, truncating, first, last, fetches, fill, sizeSent, cuts, bytesAfter, sizeAfter, cursorAfter, numberOf, before}
 use Rattle.rules.specs.Requests.{storeLength, closeRequest, fetchRequest, storeRequest, cutRequest, idle}
 use Rattle.filesystem.specs.MemoryMaps.{Map}
@@ -162,10 +164,11 @@ module _ (S : Side) where
       walkChecks parentChecks parentOf lastOf coverTable covers pagesFor pageTotal nodeAt openAt findId findChild
       children findHandle findDescriptor setMode setSize setCursor bind front get₂ get-fixed get-as get-all ended
       whole encode decode every any place select without tab equal imageOr unique put-all layoutOf makerBytes nodeForm
-      imageForm flatten divide climb pathLength lies inLimits parentsEarlier soundNodes sound print recordsLength
+      imageForm flatten divide climb pathLength lies inLimits soundNodes sound print recordsLength
       imageLength parse pageOf bytesAt resized splice pagePart bytesAfter zeroDigest replaced digestsOf lookup goBack
       entryForm sameEntry isListing statBytes isRearranged mapChecks mapReasons reasons byNumber isMapSize mapFaults
-      findMap overlaps mapsAfter mapNumber takesCall lengthChecks formChecks readOnlyChecks readOnlyStep
+      findMap overlaps mapsAfter mapNumber takesCall lengthChecks formChecks readOnlyChecks readOnlyStep byTwoPaths
+      beneath tooDeep renamed
   runs s [] = true
   runs s ((e ⇒ x) ∷ ls) = let r = S .steps s e in meets x (r .outcome) && runs (r .state) ls
   runs s (holds is os ∷ ls) =

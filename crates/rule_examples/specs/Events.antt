@@ -1,4 +1,4 @@
--- Events: the fifteen calls, replies, loads of images of the current version.
+-- Events: the sixteen calls, replies, loads of images of the current version.
 use mathlib.Core.List.{List, _∷_, _++_}
 use Prim.Native.Nat.{ℕ, _-_, _^_}
 use Prim.Native.String.{String}
@@ -66,6 +66,10 @@ mapOf n = callOf (14 ∷ four n)
 
 abbrev pub unmap : (address : ℕ) → Event
 unmap a = callOf (15 ∷ eight a)
+
+-- the first path's length in one byte, that path, the second
+abbrev pub rename : (first second : String) → Event
+rename p q = callOf (16 ∷ length (bytesOf p) ∷ (bytesOf p ++ bytesOf q))
 
 -- replies: a map at an address with these bytes; a status; the status -n; an id or a descriptor; a page that begins so; a listing; a stat
 abbrev pub hands : (address : ℕ) → List ℕ → Event

@@ -32,6 +32,7 @@ rows =
     one "no byte" fresh (callOf []) (isRefused 22)
     ∷ one "kind 0" fresh (callOf (0 ∷ bytesOf "/a")) (isRefused 22)
     ∷ one "kind 14" fresh (callOf (14 ∷ bytesOf "/")) (isRefused 22)
+    ∷ one "kind 17" fresh (callOf (17 ∷ 1 ∷ bytesOf "//a")) (isRefused 22)
     ∷ one "kind 141: over 127, 13 below" fresh (callOf (141 ∷ bytesOf "/")) (isRefused 22)
     ∷ one "kind 255" fresh (callOf (255 ∷ bytesOf "/")) (isRefused 22)
     -- create, mkdir, chmod: mode 0 to 7, path

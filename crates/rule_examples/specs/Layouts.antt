@@ -14,7 +14,7 @@ use Rattle.lists.specs.Form.{bind, front, get₂, get-fixed, get-as, put-all, g
 use Rattle.filesystem.specs.Tables.{Node, nodeAt, findId, pagesFor, pageTotal}
 use Rattle.filesystem.specs.Paths.{componentForm}
 use Rattle.filesystem.specs.Image.{Layout, makerBytes, nodeForm, imageForm, climb, pathLength, lies, inLimits}
-use Rattle.filesystem.specs.Image.{parentsEarlier, soundNodes, sound, print, parse}
+use Rattle.filesystem.specs.Image.{soundNodes, sound, print, parse}
 
 abbrev layout : ℕ → Bool → Layout
 layout w m = record { idBytes = w; maker = m }
@@ -50,7 +50,7 @@ narrow-written = refl
 pub narrow-read : parse (layout 4 false) (narrow []) ≡ some (nodes, [])
 unfolding parse whole bind get₂ get-fixed get-as get-all front ended imageForm nodeForm encode decode makerBytes pick
     equal sound soundNodes inLimits every any unique place findId nodeAt pageTotal pagesFor climb pathLength lies
-    parentsEarlier componentForm
+    componentForm
 narrow-read = refl
 
 pub narrow-made-written : print (layout 4 true) (nodes, []) ≡ narrow (1 ∷ [])
@@ -60,7 +60,7 @@ narrow-made-written = refl
 pub narrow-made-read : parse (layout 4 true) (narrow (1 ∷ [])) ≡ some (nodes, [])
 unfolding parse whole bind get₂ get-fixed get-as get-all front ended imageForm nodeForm encode decode makerBytes pick
     equal sound soundNodes inLimits every any unique place findId nodeAt pageTotal pagesFor climb pathLength lies
-    parentsEarlier componentForm
+    componentForm
 narrow-made-read = refl
 
 pub broad-written : print (layout 8 false) (nodes, []) ≡ broad []
@@ -70,7 +70,7 @@ broad-written = refl
 pub broad-read : parse (layout 8 false) (broad []) ≡ some (nodes, [])
 unfolding parse whole bind get₂ get-fixed get-as get-all front ended imageForm nodeForm encode decode makerBytes pick
     equal sound soundNodes inLimits every any unique place findId nodeAt pageTotal pagesFor climb pathLength lies
-    parentsEarlier componentForm
+    componentForm
 broad-read = refl
 
 pub broad-made-written : print (layout 8 true) (nodes, []) ≡ broad (1 ∷ [])
@@ -80,43 +80,43 @@ broad-made-written = refl
 pub broad-made-read : parse (layout 8 true) (broad (1 ∷ [])) ≡ some (nodes, [])
 unfolding parse whole bind get₂ get-fixed get-as get-all front ended imageForm nodeForm encode decode makerBytes pick
     equal sound soundNodes inLimits every any unique place findId nodeAt pageTotal pagesFor climb pathLength lies
-    parentsEarlier componentForm
+    componentForm
 broad-made-read = refl
 
 -- a maker other than 1, and a layout with a maker and one without
 pub other-maker : parse (layout 4 true) (narrow (2 ∷ [])) ≡ none
 unfolding parse whole bind get₂ get-fixed get-as get-all front ended imageForm nodeForm encode decode makerBytes pick
     equal sound soundNodes inLimits every any unique place findId nodeAt pageTotal pagesFor climb pathLength lies
-    parentsEarlier componentForm
+    componentForm
 other-maker = refl
 
 pub maker-of-zero : parse (layout 8 true) (broad (0 ∷ [])) ≡ none
 unfolding parse whole bind get₂ get-fixed get-as get-all front ended imageForm nodeForm encode decode makerBytes pick
     equal sound soundNodes inLimits every any unique place findId nodeAt pageTotal pagesFor climb pathLength lies
-    parentsEarlier componentForm
+    componentForm
 maker-of-zero = refl
 
 pub unasked-maker : parse (layout 4 false) (narrow (1 ∷ [])) ≡ none
 unfolding parse whole bind get₂ get-fixed get-as get-all front ended imageForm nodeForm encode decode makerBytes pick
     equal sound soundNodes inLimits every any unique place findId nodeAt pageTotal pagesFor climb pathLength lies
-    parentsEarlier componentForm
+    componentForm
 unasked-maker = refl
 
 pub lacking-maker : parse (layout 8 true) (broad []) ≡ none
 unfolding parse whole bind get₂ get-fixed get-as get-all front ended imageForm nodeForm encode decode makerBytes pick
     equal sound soundNodes inLimits every any unique place findId nodeAt pageTotal pagesFor climb pathLength lies
-    parentsEarlier componentForm
+    componentForm
 lacking-maker = refl
 
 -- ids of another width
 pub too-narrow : parse (layout 8 false) (narrow []) ≡ none
 unfolding parse whole bind get₂ get-fixed get-as get-all front ended imageForm nodeForm encode decode makerBytes pick
     equal sound soundNodes inLimits every any unique place findId nodeAt pageTotal pagesFor climb pathLength lies
-    parentsEarlier componentForm
+    componentForm
 too-narrow = refl
 
 pub too-wide : parse (layout 4 false) (broad []) ≡ none
 unfolding parse whole bind get₂ get-fixed get-as get-all front ended imageForm nodeForm encode decode makerBytes pick
     equal sound soundNodes inLimits every any unique place findId nodeAt pageTotal pagesFor climb pathLength lies
-    parentsEarlier componentForm
+    componentForm
 too-wide = refl

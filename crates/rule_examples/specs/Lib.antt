@@ -11,6 +11,7 @@ pub mod Walk
 pub mod NewNodes
 pub mod Opening
 pub mod Removal
+pub mod Renames
 pub mod Looking
 pub mod Handles
 pub mod Reads

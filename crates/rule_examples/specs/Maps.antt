@@ -46,7 +46,7 @@ rows =
     ∷ one "22: a map's call a byte long" (mapped []) (callOf (14 ∷ (four 4096 ++ (0 ∷ [])))) (isRefused 22)
     ∷ one "22: an unmap's call a byte short" one-map (callOf (15 ∷ 0 ∷ 16 ∷ 0 ∷ 0 ∷ 0 ∷ 0 ∷ 0 ∷ [])) (isRefused 22)
     ∷ one "22: an unmap's call a byte long" one-map (callOf (15 ∷ (eight 4096 ++ (0 ∷ [])))) (isRefused 22)
-    ∷ one "22: kind 16" (mapped []) (callOf (16 ∷ four 4096)) (isRefused 22)
+    ∷ one "22: kind 17" (mapped []) (callOf (17 ∷ four 4096)) (isRefused 22)
     ∷ one "12: a seventeenth map" sixteen (mapOf 4096) (isRefused 12)
     ∷ one "22 before 12" sixteen (mapOf 4095) (isRefused 22)
     ∷ one "34 before 12" sixteen (lent 9689 1037 (mapOf 4096)) (isRefused 34)

@@ -10,7 +10,7 @@ use Rattle.rule_examples.specs.Bytes.{bytesOf, many, nothing, name}
 use Rattle.rule_examples.specs.Given.{Item, file, folder, root, opened, Given, given, imageOf}
 use Rattle.rule_examples.specs.Events.{callOf, replies, lent, create, mkdir, openFor, close, seek, read, write}
 use Rattle.rule_examples.specs.Events.{truncate, remove, rmdir, chmod, readdir, stat, mapOf, unmap, says, gives}
-use Rattle.rule_examples.specs.Events.{saysMinus, givesPage, entry, statOf, load, loads}
+use Rattle.rule_examples.specs.Events.{saysMinus, givesPage, entry, statOf, load, loads, rename}
 use Rattle.rule_examples.specs.Rows.{isDone, isSaved, isRefused, isStopped, closes, fetches, _⇒_, holds, lives}
 use Rattle.rule_examples.specs.Rows.{_then_, end, sendsItself, Row, row, one}
 use Rattle.rule_examples.specs.Evaluation.{readerSide, wrongOn, wrongReading}
@@ -97,6 +97,12 @@ rows =
     ∷ stays "30: mapOf 65536" (mapOf 65536) 30
     ∷ stays "30: unmap 0" (unmap 0) 30
     ∷ stays "30: unmap 4097" (unmap 4097) 30
+    ∷ stays "30: rename /n /new" (rename "/n" "/new") 30
+    ∷ stays "30: rename /n /n" (rename "/n" "/n") 30
+    ∷ stays "30: rename /n /d" (rename "/n" "/d") 30
+    ∷ stays "30: rename / /new" (rename "/" "/new") 30
+    ∷ stays "30: rename /none /new" (rename "/none" "/new") 30
+    ∷ stays "30: rename /d /d/new" (rename "/d" "/d/new") 30
     -- before the walk: a file on the way, a directory without bit 1, an absent one
     ∷ stays "30: create 7 /f/x" (create 7 "/f/x") 30
     ∷ stays "30: mkdir 7 /b/y" (mkdir 7 "/b/y") 30
@@ -106,6 +112,8 @@ rows =
     ∷ stays "30: rmdir /b/x" (rmdir "/b/x") 30
     ∷ stays "30: chmod 7 /b/x" (chmod 7 "/b/x") 30
     ∷ stays "30: chmod 7 /f/x/y" (chmod 7 "/f/x/y") 30
+    ∷ stays "30: rename /f/x /new" (rename "/f/x" "/new") 30
+    ∷ stays "30: rename /f /b/y" (rename "/f" "/b/y") 30
     -- the form first
     ∷ stays "22: create 8 /f" (create 8 "/f") 22
     ∷ stays "22: mkdir 8 /f" (mkdir 8 "/f") 22
@@ -135,6 +143,12 @@ rows =
     ∷ stays "22: callOf 14 many 3 0" (callOf (14 ∷ many 3 0)) 22
     ∷ stays "22: callOf 15 many 7 0" (callOf (15 ∷ many 7 0)) 22
     ∷ stays "22: callOf 15 many 9 0" (callOf (15 ∷ many 9 0)) 22
+    ∷ stays "22: callOf 16" (callOf (16 ∷ [])) 22
+    ∷ stays "22: callOf 16 0 bytesOf /f" (callOf (16 ∷ 0 ∷ bytesOf "/f")) 22
+    ∷ stays "22: callOf 16 2 bytesOf /f" (callOf (16 ∷ 2 ∷ bytesOf "/f")) 22
+    ∷ stays "22: callOf 17 2 bytesOf /f/x" (callOf (17 ∷ 2 ∷ bytesOf "/f/x")) 22
+    ∷ stays "22: rename /f/ /new" (rename "/f/" "/new") 22
+    ∷ stays "22: rename /f new" (rename "/f" "new") 22
     -- 36 of each kind by path; 22 before it
     ∷ long "36: create 7 at / 33" (create 7 (at "/" 33))
     ∷ long "36: mkdir 7 at / 33" (mkdir 7 (at "/" 33))
@@ -146,6 +160,11 @@ rows =
     ∷ long "36: openFor 1 at / 33" (openFor 1 (at "/" 33))
     ∷ long "36: readdir at / 33" (readdir (at "/" 33))
     ∷ long "36: stat at / 33" (stat (at "/" 33))
+    ∷ long "36: rename at / 33 /new" (rename (at "/" 33) "/new")
+    ∷ long "36: rename /none at / 33" (rename "/none" (at "/" 33))
+    ∷ stays "22: rename at / 33 new" (rename (at "/" 33) "new") 22
+    ∷ stays "22: rename f at / 33" (rename "f" (at "/" 33)) 22
+    ∷ stays "30: rename /f at / 32" (rename "/f" (at "/" 32)) 30
     ∷ stays "22: create 8 at / 33" (create 8 (at "/" 33)) 22
     ∷ stays "22: remove at / 33 /" (remove (S._++_ (at "/" 33) "/")) 22
     ∷ stays "30: create 7 at / 32" (create 7 (at "/" 32)) 30
@@ -156,18 +175,21 @@ rows =
     ∷ short "34: write 2 nothing" (write 2 nothing)
     ∷ short "34: unmap 0" (unmap 0)
     ∷ short "34: stat /f" (stat "/f")
+    ∷ short "34: rename /f /new" (rename "/f" "/new")
     ∷ waits "114: create 7 /f" (create 7 "/f")
     ∷ waits "114: create 8 /f" (create 8 "/f")
     ∷ waits "114: chmod 7 at / 33" (chmod 7 (at "/" 33))
     ∷ waits "114: write 2 nothing" (write 2 nothing)
     ∷ waits "114: unmap 0" (unmap 0)
     ∷ waits "114: stat /f" (stat "/f")
+    ∷ waits "114: rename /f /new" (rename "/f" "/new")
     ∷ halted "5: create 7 /f" (create 7 "/f")
     ∷ halted "5: create 8 /f" (create 8 "/f")
     ∷ halted "5: chmod 7 at / 33" (chmod 7 (at "/" 33))
     ∷ halted "5: write 2 nothing" (write 2 nothing)
     ∷ halted "5: unmap 0" (unmap 0)
     ∷ halted "5: stat /f" (stat "/f")
+    ∷ halted "5: rename /f /new" (rename "/f" "/new")
     ∷ one "30 with longer buffers" w (lent 9691 1038 (create 7 "/f")) (isRefused 30)
     -- taken: the guard's numbers
     ∷ stays "2: openFor 1 /none" (openFor 1 "/none") 2

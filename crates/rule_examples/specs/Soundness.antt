@@ -59,15 +59,19 @@ rows =
     ∷ sound "the root's low byte" (image (root ∷ file 257 1 7 "a" nothing ∷ []) 0)
     ∷ sound "the largest id" (image (root ∷ file 4294967295 1 7 "a" nothing ∷ []) 0)
     ∷ unsound "an id 0" (image (root ∷ file 0 1 7 "a" nothing ∷ []) 0)
-    -- each parent is a directory that stands before
+    -- each parent is a directory, wherever it stands, and leads to the root
     ∷ sound "an earlier folder" (image (root ∷ folder 2 1 7 "d" ∷ file 3 2 7 "a" nothing ∷ []) 0)
     ∷ sound "a parent over 255" (image (root ∷ folder 300 1 7 "d" ∷ file 3 300 7 "a" nothing ∷ []) 0)
     ∷ unsound "a parent's low byte alone" (image (root ∷ folder 300 1 7 "d" ∷ file 3 44 7 "a" nothing ∷ []) 0)
     ∷ sound "a folder three down" (image (root ∷ folder 2 1 7 "d" ∷ folder 3 2 7 "d" ∷ folder 4 3 7 "d" ∷ []) 0)
     ∷ unsound "parent 0" (image (root ∷ file 2 0 7 "a" nothing ∷ []) 0)
-    ∷ unsound "a later parent" (image (root ∷ file 3 2 7 "a" nothing ∷ folder 2 1 7 "d" ∷ []) 0)
+    ∷ sound "a later folder" (image (root ∷ file 3 2 7 "a" nothing ∷ folder 2 1 7 "d" ∷ []) 0)
+    ∷ sound "the deepest first" (image (root ∷ folder 4 3 7 "d" ∷ folder 3 2 7 "d" ∷ folder 2 1 7 "d" ∷ []) 0)
     ∷ unsound "a file for a parent" (image (root ∷ file 2 1 7 "d" nothing ∷ file 3 2 7 "a" nothing ∷ []) 0)
+    ∷ unsound "a later file for a parent" (image (root ∷ file 3 2 7 "a" nothing ∷ file 2 1 7 "d" nothing ∷ []) 0)
     ∷ unsound "a node's own parent" (image (root ∷ folder 2 2 7 "d" ∷ []) 0)
+    ∷ unsound "a ring of two" (image (root ∷ folder 2 3 7 "d" ∷ folder 3 2 7 "d" ∷ []) 0)
+    ∷ unsound "a ring of three" (image (root ∷ folder 2 3 7 "d" ∷ folder 3 4 7 "d" ∷ folder 4 2 7 "d" ∷ []) 0)
     ∷ unsound "no such parent" (image (root ∷ file 3 9 7 "a" nothing ∷ []) 0)
     -- children of one directory have different names
     ∷ unsound "two siblings of one name" (image (root ∷ file 2 1 7 "a" nothing ∷ folder 3 1 7 "a" ∷ []) 0)

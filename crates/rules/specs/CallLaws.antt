@@ -7,11 +7,12 @@ use mathlib.Core.Option.{Option, some}
 use Prim.Native.Nat.{ℕ, _^_, _≤_, _<_}
 use native.Mathlib.Omega.{arith}
 use lib.Dec.{eqb, leb}
-use lib.ListN.{length}
+use lib.ListN.{length, take, drop, length-append, take-append-drop}
+use lib.Seq.{take-at, drop-at, length-take-le}
 use borrow.Author.Tests.{eqb-true, leb-true, le-leb}
 use Rattle.lists.specs.Pick.{pick, pick-ind, pick-true}
 use Rattle.lists.specs.Equal.{and-fst, and-snd, and-both}
-use Rattle.lists.specs.All.{All, both, none as all-none, Bytes, all-tail, all-left, all-right}
+use Rattle.lists.specs.All.{All, both, none as all-none, Bytes, all-tail, all-left, all-right, all-take, all-drop}
 use Rattle.lists.specs.Search.{every}
 use Rattle.lists.specs.LittleEndian.{encode}
 use Rattle.lists.specs.Form.{bind}
@@ -21,6 +22,7 @@ use Rattle.filesystem.specs.Tables.{DATA-BYTES}
 use Rattle.filesystem.specs.Paths.{Path, joined, pathBytes, componentForm}
 use Rattle.filesystem.specs.PathLaws.{readPath-pathBytes, readPath-was-bytes}
 use Rattle.rules.specs.Calls.{Call, create, mkdir, openAs, close, seek, read, write, truncate, remove, rmdir, chmod, readdir, stat, mapMemory, unmap, callBytes, byPath, byNumberAndPath, byHandle, byHandleAndNumber, byHandleAndBytes, byNumber, readFields, readCall}
+use Rattle.rules.specs.Calls.{rename, byTwoPaths}
 use Rattle.rules.specs.MapRules.{isMapSize}
 
 pub record PathFits (p : Path) : Type 0 where
@@ -44,6 +46,7 @@ CallFits w (readdir p) = PathFits p
 CallFits w (stat p) = PathFits p
 CallFits w (mapMemory n) = isMapSize n ≡ true
 CallFits w (unmap a) = a < 256 ^ 8
+CallFits w (rename p q) = (length (pathBytes p) < 256) × (PathFits p × PathFits q)
 
 joined-bytes : (p : Path) → Bytes (joined p) → All Bytes p
 unfolding joined
@@ -75,6 +78,30 @@ module _ (w : ℕ) where
   number-path-written a m make (n ∷ s) c (both h b) e =
       pick-ind (λ o. o ≡ some c → (n′ : ℕ) × (p : Path) × (make n′ p ≡ c) × (n ∷ s ≡ n′ ∷ pathBytes p) × ((a ≤ n′) × (n′ ≤ m)) × PathFits p) (leb a n && leb n m)
       (λ t e₂. let (p, z, q, f) = path-written (make n) s c b e₂ in (n, p, z, ap (λ l. n ∷ l) q, (leb-true a n (and-fst _ _ t), leb-true n m (and-snd (leb a n) _ t)), f))
+      (λ t e₂. absurd (some≢none c (sym e₂))) e
+
+  two-paths-written : (make : Path → Path → Call) (s : List ℕ) (c : Call) → Bytes s → byTwoPaths make s ≡ some c
+      → (p : Path) × (q : Path) × (make p q ≡ c) × (s ≡ length (pathBytes p) ∷ (pathBytes p ++ pathBytes q))
+      × (length (pathBytes p) < 256) × (PathFits p × PathFits q)
+  unfolding byTwoPaths
+  two-paths-written make [] c b e = absurd (some≢none c (sym e))
+  two-paths-written make (n ∷ s) c (both h b) e =
+      pick-ind (λ o. o ≡ some c → (p : Path) × (q : Path) × (make p q ≡ c)
+      × (n ∷ s ≡ length (pathBytes p) ∷ (pathBytes p ++ pathBytes q)) × (length (pathBytes p) < 256)
+      × (PathFits p × PathFits q))
+      (leb n (length s))
+      (λ t e₂.
+      let (p, ep, e₃) = bind-some _ _ _ e₂ in
+      let (x, f) = readPath-was-bytes (take n s) p ep in
+      let (q, z, y, g) = path-written (make p) (drop n s) c (all-drop n b) e₃ in
+      let l : n ≡ length (pathBytes p) = sym (length-take-le n s (leb-true _ _ t)) ∙ ap length x in (
+        p,
+        q,
+        z,
+        (λ i. l i ∷ (sym (take-append-drop n s) ∙ (λ j. x j ++ y j)) i),
+        subst (λ m. m < 256) l h,
+        (record { form = f; bytes = path-bytes p (subst Bytes x (all-take n b)) }, g),
+      ))
       (λ t e₂. absurd (some≢none c (sym e₂))) e
 
   handle-written : (make : ℕ → Call) (s : List ℕ) (c : Call) → Bytes s → byHandle w make s ≡ some c → (h : ℕ) × (make h ≡ c) × (s ≡ encode w h) × (h < 256 ^ w)
@@ -156,7 +183,10 @@ module _ (w : ℕ) where
       (arm kind 13 s c _ _ (with-path 13 stat s c b (λ p. refl) (λ p f. f))
       (arm kind 14 s c _ _ (λ e. let (n, z, q, x, t) = number-written 4 isMapSize mapMemory s c b e in subst (λ c. Written (14 ∷ s) c) z (ap (λ l. 14 ∷ l) q, t))
       (arm kind 15 s c _ _ (λ e. let (a, z, q, x, t) = number-written 8 (λ a. true) unmap s c b e in subst (λ c. Written (15 ∷ s) c) z (ap (λ l. 15 ∷ l) q, x))
-      (λ e. absurd (some≢none c (sym e)))))))))))))))))
+      (arm kind 16 s c _ _ (λ e.
+      let (p, q, z, y, l, f) = two-paths-written rename s c b e in
+      subst (λ c. Written (16 ∷ s) c) z (ap (λ l. 16 ∷ l) y, (l, f)))
+      (λ e. absurd (some≢none c (sym e))))))))))))))))))
 
   pub call-was-written : (s : List ℕ) (c : Call) → Bytes s → readCall w s ≡ some c → (s ≡ callBytes w c) × CallFits w c
   unfolding readCall
@@ -172,6 +202,20 @@ module _ (w : ℕ) where
       → byNumberAndPath a m make (n ∷ pathBytes p) ≡ some (make n p)
   unfolding byNumberAndPath
   number-path-read a m make n p (l, h) f = pick-true _ _ _ (and-both _ _ (le-leb a n l) (le-leb n m h)) ∙ path-read (make n) p f
+
+  two-paths-read : (make : Path → Path → Call) (p q : Path) → PathFits p → PathFits q
+      → byTwoPaths make (length (pathBytes p) ∷ (pathBytes p ++ pathBytes q)) ≡ some (make p q)
+  unfolding byTwoPaths bind
+  two-paths-read make p q f g =
+      let l = length-append (pathBytes p) (pathBytes q) in
+      pick-true _ _ _ (le-leb (length (pathBytes p)) (length (pathBytes p ++ pathBytes q)) (omega arith))
+      ∙ rw (
+        take-at (pathBytes p) (pathBytes q) (length (pathBytes p)) refl,
+        drop-at (pathBytes p) (pathBytes q)
+            (length (pathBytes p)) refl,
+        readPath-pathBytes p (f .form),
+      )
+      (path-read (make p) q g)
 
   handle-read : (make : ℕ → Call) (h : ℕ) → h < 256 ^ w → byHandle w make (encode w h) ≡ some (make h)
   unfolding byHandle bind
@@ -212,3 +256,4 @@ module _ (w : ℕ) where
   call-read-back (stat p) f = path-read stat p f
   call-read-back (mapMemory n) f = number-read 4 isMapSize mapMemory n (map-size-fits n f) f
   call-read-back (unmap a) f = number-read 8 (λ a. true) unmap a f refl
+  call-read-back (rename p q) (l, (f, g)) = two-paths-read rename p q f g

@@ -1,11 +1,11 @@
--- The fifteen calls (SPECIFICATION 4.1, 4.2): their bytes, and how they are read from any bytes.
+-- The sixteen calls (SPECIFICATION 4.1, 4.2): their bytes, and how they are read from any bytes.
 -- Assumes nothing.
 use mathlib.Core.Bool.{Bool, _&&_}
 use mathlib.Core.List.{List, [], _∷_, _++_}
 use mathlib.Core.Option.{Option, some, none}
 use Prim.Native.Nat.{ℕ}
 use lib.Dec.{eqb, leb}
-use lib.ListN.{length}
+use lib.ListN.{length, take, drop}
 use Rattle.lists.specs.Pick.{pick}
 use Rattle.lists.specs.LittleEndian.{encode}
 use Rattle.lists.specs.Form.{bind, whole}
@@ -28,6 +28,7 @@ pub data Call : Type 0 where
   readdir stat : (path : Path) → Call
   mapMemory : (size : ℕ) → Call
   unmap : (address : ℕ) → Call
+  rename : (first second : Path) → Call
 
 -- one byte for the kind, then exactly the fields; ids and handles have w bytes
 unfoldable pub callBytes : ℕ → Call → List ℕ
@@ -46,6 +47,7 @@ callBytes w (readdir p) = 12 ∷ pathBytes p
 callBytes w (stat p) = 13 ∷ pathBytes p
 callBytes w (mapMemory n) = 14 ∷ encode 4 n
 callBytes w (unmap a) = 15 ∷ encode 8 a
+callBytes w (rename p q) = 16 ∷ length (pathBytes p) ∷ (pathBytes p ++ pathBytes q)
 
 -- the fields after the kind byte, by their shapes; nothing where the bytes are not exactly of the shape (22)
 unfoldable pub byPath : (Path → Call) → List ℕ → Option Call
@@ -67,6 +69,11 @@ byHandleAndBytes w make s = bind (num w .get s) (λ p. pick (leb (length (p .1))
 unfoldable pub byNumber : (v : ℕ) → (ℕ → Bool) → (ℕ → Call) → List ℕ → Option Call
 byNumber v allowed make s = bind (whole (num v) s) (λ n. pick (allowed n) (some (make n)) none)
 
+-- the length of the first path (1), and both
+unfoldable pub byTwoPaths : (Path → Path → Call) → List ℕ → Option Call
+byTwoPaths make [] = none
+byTwoPaths make (n ∷ s) = pick (leb n (length s)) (bind (readPath (take n s)) (λ p. byPath (make p) (drop n s))) none
+
 unfoldable pub readFields : ℕ → (kind : ℕ) → List ℕ → Option Call
 readFields w kind s =
     pick (eqb kind 1) (byNumberAndPath 0 7 create s)
@@ -84,7 +91,8 @@ readFields w kind s =
     (pick (eqb kind 13) (byPath stat s)
     (pick (eqb kind 14) (byNumber 4 isMapSize mapMemory s)
     (pick (eqb kind 15) (byNumber 8 (λ a. Bool.true) unmap s)
-    none))))))))))))))
+    (pick (eqb kind 16) (byTwoPaths rename s)
+    none)))))))))))))))
 
 unfoldable pub readCall : ℕ → List ℕ → Option Call
 readCall w [] = none

@@ -2,7 +2,7 @@
 -- Assumes nothing.
 use mathlib.Core.Path.{_≡_, refl, ap, sym, _∙_, subst}
 use mathlib.Core.Logic.{_⊎_, inl, inr}
-use mathlib.Core.Bool.{true, false, not, true≢false, false≢true}
+use mathlib.Core.Bool.{Bool, true, false, _&&_, not, true≢false, false≢true}
 use mathlib.Core.List.{List, [], _∷_, _++_}
 use mathlib.Core.Option.{Option, some, none}
 use Prim.Native.Nat.{ℕ, zero, suc, _+_, _-_, _*_, _^_, max, _≤_, _<_}
@@ -20,6 +20,7 @@ use Rattle.lists.specs.Signed.{signed}
 use Rattle.lists.specs.LittleEndian.{decode, decode-below}
 use Rattle.lists.specs.Checks.{Check, Passed, decide-ind}
 use Rattle.filesystem.specs.Tables.{OPEN-FILES, FILE-BYTES, NAME-BYTES, PATH-BYTES, Node, OpenFile, Tables, isFile, isDirectory, hasBit, hasHandle, noNode, noOpenFile, nodeAt, openAt, absent, present, findId, findHandle, children, setMode}
+use Rattle.filesystem.specs.Tables.{renamed}
 use Rattle.filesystem.specs.Rights.{covers}
 use Rattle.filesystem.specs.Paths.{Path, pathBytes, joined, componentForm, tooLong, childAt, walk, walkChecks, parentChecks, parentOf, lastOf}
 use Rattle.filesystem.specs.PathLaws.{walk-place, walk-last, parent-place}
@@ -27,14 +28,19 @@ use Rattle.filesystem.specs.Image.{Image, Version, layoutOf, parse}
 use Rattle.filesystem.specs.Sound.{gone, Sound, to-sound, limits-at, by-kind, findId-only}
 use Rattle.filesystem.specs.SoundLaws.{root-parent-length, file-children}
 use Rattle.rules.specs.Calls.{Call, create, mkdir, openAs, close, seek, read, write, truncate, remove, rmdir, chmod, readdir, stat, callBytes, readCall, mapMemory, unmap}
+use Rattle.rules.specs.Calls.{rename}
+use Rattle.filesystem.specs.Renaming.{Movable}
 use Rattle.rules.specs.CallLaws.{PathFits, CallFits, call-was-written}
 use Rattle.rules.specs.Pages.{pageAt, writing, truncating, first, sizeAfter}
 use Rattle.rules.specs.Requests.{asked, closeRequest, fetchRequest, isFetch, Pending, idle, creating, opening, closing, removing, changing, listing, stating, reading, fetching, storing, cutting, mapping, unmapping}
+use Rattle.rules.specs.Requests.{renaming}
 use Rattle.rules.specs.Skeleton.{Config, Event, call, reply, save, load, EventBytes, Skeleton}
 use Rattle.rules.specs.Rules.{Move, refuse, halt, giveUp, loading, target, holder, isOpen, openPlace, filePlace, opened, file, noRoom, newChecks, callChecks, readAction, callAction, signedOf, isDescriptor, replyChecks, replyAction, tellsFull, finished, fullAction, isIdle, callOr, imageOr, isNone, eventChecks, eventAction, givesUp, judge, mapReasons, reasons}
+use Rattle.rules.specs.Rules.{samePath, renameChecks}
 use Rattle.rules.specs.Valid.{ValidOpen, ValidTables, Valid, CreatingFits, OpeningFits, RemovingFits, Opened, ChangeFits, PendingFits, sizes, Plain, Fits, fRefuse, fHalt, fSend, fFinish, fAdd, fDelete, fReadPage, fBegin, fFillPage, fStored, fCutDone, fKeepPages, fGiveUp, fSaving, fLoading, fRemap}
 use Rattle.rules.specs.Positions.{seek-exactly}
 use Rattle.rules.specs.TableLaws.{cursor-valid, open-valid, close-valid, mode-valid, add-valid, delete-valid}
+use Rattle.rules.specs.TableLaws.{rename-valid}
 
 -- a place that is not absent
 there : {A : Type 0} (l : List A) (k : ℕ) → absent l k ≡ false → k < length l
@@ -50,6 +56,11 @@ last-all : {F : List ℕ → Type 0} (c : List ℕ) (cs : Path) → All F (c ∷
 unfolding lastOf
 last-all c [] (both f a) = f
 last-all c (d ∷ cs) (both f a) = last-all d cs a
+
+last-bytes : (p : Path) → All Bytes p → Bytes (lastOf p)
+unfolding lastOf
+last-bytes [] a = All.none
+last-bytes (c ∷ cs) a = last-all c cs a
 
 last-short : (c : List ℕ) (cs : Path) → any (λ c. ltb NAME-BYTES (length c)) (c ∷ cs) ≡ false → length (lastOf (c ∷ cs)) ≤ NAME-BYTES
 unfolding any lastOf
@@ -68,6 +79,15 @@ descriptor-low r = pick-ind (λ z. isDescriptor z ≡ true → decode r < 1024) 
 same-sizes : (ns : List Node) (k m : ℕ) → sizes (setMode ns k m) ≡ sizes ns
 unfolding setMode nodeAt
 same-sizes ns k m = map-set-same (λ n. n .size) ns k _ noNode refl
+
+renamed-sizes : (ns : List Node) (k p : ℕ) (name : List ℕ) → sizes (renamed ns k p name) ≡ sizes ns
+unfolding renamed nodeAt
+renamed-sizes ns k p name = map-set-same (λ n. n .size) ns k _ noNode refl
+
+-- a condition that is asked only of others
+of-other : (same b : Bool) → same ≡ false → (not same && b) ≡ false → b ≡ false
+of-other true b e h = absurd (true≢false e)
+of-other false b e h = h
 
 module _ (c : Config) (sk : Skeleton) (v : ValidTables (c .width) (sk .tables)) where
   abbrev w : ℕ
@@ -219,6 +239,27 @@ module _ (c : Config) (sk : Skeleton) (v : ValidTables (c .width) (sk .tables)) 
       → RemovingFits ns os (walk ns 0 p)
   remove-fits p x (both dir (both _ (both o _))) = removing-fits p x dir o
 
+  -- a renaming that is not refused, and not to the same path
+  pub rename-movable : (p q : Path) → PathFits q → tooLong q ≡ false → Passed (walkChecks ns 0 p)
+      → Passed (parentChecks ns 0 q) → Passed (renameChecks t p q)
+      → samePath t p q ≡ false → Movable ns (walk ns 0 p) (parentOf ns 0 q) (lastOf q)
+  unfolding walk tooLong childAt
+  rename-movable p [] f g x y (both root (both free _)) e = absurd
+      (let z = gone ns 0 (of-other _ _ e free) in let y = is-sound .has-root in omega arith)
+  rename-movable p (n ∷ q) f g x y (both root (both free (both within (both _ (both deep _))))) e =
+      let (l, d, b) = parent-place ns 0 n q y (is-sound .has-root) in
+      let z : walk ns 0 p ≡ 0 → ⊥ = eqb-false _ _ root in
+      record {
+        known = reached p x;
+        not-root = omega arith;
+        folder = d;
+        not-within = of-other _ _ e within;
+        new-name = subst (λ i. length ns ≤ i) (walk-last ns 0 n q) (gone ns (walk ns 0 (n ∷ q)) (of-other _ _ e free));
+        form = last-form n q (f .form);
+        short = last-short n q (or-fst _ _ g);
+        shallow = of-other _ _ e deep;
+      }
+
   call-fits : (e : Event) → Plain e → (q : Call) → CallFits w q → Passed (callChecks t q) → Fit e (callAction t w q)
   unfolding callChecks callAction callBytes isFetch closeRequest
   call-fits e pl (create m p) (h, f) a = fSend (new-fits p 1 m f (inl refl) h a) tt refl
@@ -242,6 +283,19 @@ module _ (c : Config) (sk : Skeleton) (v : ValidTables (c .width) (sk .tables)) 
   call-fits e pl (stat p) f (both _ a) = fSend (reached p a) tt refl
   call-fits e pl (mapMemory n) f a = fSend {p = asked (mapping n)} tt tt refl
   call-fits e pl (unmap x) f a = fSend {p = asked (unmapping x)} tt tt refl
+  call-fits e pl (rename p q) (_, (_, f)) (both _ (both g a)) =
+      let x = all-left (walkChecks ns 0 p) _ a in
+      let b = all-right (walkChecks ns 0 p) _ a in
+      let y = all-left (parentChecks ns 0 q) _ b in
+      pick-ind (Fit e) (samePath t p q) (λ _. fFinish pl v refl)
+      (λ n. fSend {p = asked (renaming (walk ns 0 p) (holder t q .id) (lastOf q))}
+      (record {
+        at = parentOf ns 0 q;
+        movable = rename-movable p q f g x y
+            (all-right (parentChecks ns 0 q) _ b) n;
+        is-parent = refl;
+        bytes = last-bytes q (f .bytes);
+      }) tt refl)
 
   -- Each reply.
   reply-fits : (r : List ℕ) (a b : ℕ) → Bytes r → (p : Pending) → sk .pending ≡ p → isIdle p ≡ false → PendingFits ns os p → Passed (replyChecks w t r p)
@@ -263,6 +317,8 @@ module _ (c : Config) (sk : Skeleton) (v : ValidTables (c .width) (sk .tables)) 
   reply-fits r a b bs (asked (stating k)) e i f c = fFinish tt v refl
   reply-fits r a b bs (asked (mapping n)) e i f c = fRemap tt
   reply-fits r a b bs (asked (unmapping x)) e i f c = fRemap tt
+  reply-fits r a b bs (asked (renaming k p name)) e i f c = fFinish tt (rename-valid w t k p name v f)
+      (renamed-sizes ns k p name)
   reply-fits r a b bs (reading k o p n j) e i f (both l _) = fReadPage refl e (eqb-true _ _ (not-false _ l)) f
   reply-fits r a b bs (fetching k o q j) e i f (both l _) = fFillPage refl e (eqb-true _ _ (not-false _ l)) f
   reply-fits r a b bs (storing k o q j) e i f c = fStored tt e f

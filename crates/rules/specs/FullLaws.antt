@@ -17,6 +17,7 @@ use Rattle.lists.specs.Signed.{signed, signed-high}
 use Rattle.filesystem.specs.Tables.{Node, nodeAt, pagesFor, pageTotal, setSize, OpenFile}
 use Rattle.rules.specs.Pages.{Change, writing, shrinking, growing, first, sizeAfter, storesMore, before}
 use Rattle.rules.specs.Requests.{asked, Pending, idle, creating, opening, closing, removing, changing, listing, stating, mapping, unmapping, reading, fetching, storing, cutting}
+use Rattle.rules.specs.Requests.{renaming}
 use Rattle.rules.specs.PageLaws.{before-fits, before-less}
 use Rattle.rules.specs.Rules.{isFull, saysFull, tellsFull}
 use Rattle.rules.specs.RightReplies.{Full}
@@ -39,6 +40,7 @@ told-where w r (asked (listing k)) e = absurd (false≢true e)
 told-where w r (asked (stating k)) e = absurd (false≢true e)
 told-where w r (asked (mapping n)) e = absurd (false≢true e)
 told-where w r (asked (unmapping a)) e = absurd (false≢true e)
+told-where w r (asked (renaming k p name)) e = absurd (false≢true e)
 told-where w r (reading k o p n i) e = absurd (false≢true e)
 told-where w r (fetching k o q i) e = absurd (false≢true e)
 told-where w r (storing k o (writing p d) i) e = writtenPage

@@ -25,9 +25,11 @@ use Rattle.filesystem.specs.Paths.{Path, pathBytes, tooLong}
 use Rattle.filesystem.specs.LongestImage.{leafName, leaf, full, full-sound, full-named}
 use Rattle.filesystem.specs.Sound.{Sound, to-sound, limits-at, root-parent, name-short}
 use Rattle.rules.specs.Calls.{Call, create, mkdir, openAs, close, seek, read, write, truncate, remove, rmdir, chmod, readdir, stat, callBytes, readCall, mapMemory, unmap}
+use Rattle.rules.specs.Calls.{rename}
 use Rattle.rules.specs.CallLaws.{CallFits, call-was-written}
 use Rattle.rules.specs.Pages.{pageAt, bytesAt, pagePart, overlay, Change, writing, shrinking, growing, first, fill}
 use Rattle.rules.specs.Requests.{storeLength, asked, closeRequest, fetchRequest, storeRequest, Pending, idle, creating, opening, closing, removing, changing, listing, stating, reading, fetching, storing, cutting, mapping, unmapping}
+use Rattle.rules.specs.Requests.{renaming}
 use Rattle.rules.specs.Skeleton.{Config, Event, call, reply, save, load, EventBytes, answerLength, requestLength, Skeleton}
 use Rattle.rules.specs.Rules.{Move, refuse, halt, send, finish, add, delete, readPage, begin, fillPage, stored, cutDone, keepPages, giveUp, saving, loading, openPlace, filePlace, opened, file, Entry, entryForm, entryOf, callChecks, readAction, callAction, replyChecks, replyAction, tellsFull, fullAction, callOr, isNone, eventChecks, eventAction, judge, remap, mapReasons, reasons}
 use Rattle.rules.specs.RightReplies.{RightListing}
@@ -159,6 +161,10 @@ module _ (c : Config) (t : Tables) where
   call-modest (stat p) f (both e _) = let z = path-short p e in (omega arith, tt)
   call-modest (mapMemory n) f a = (omega arith, tt)
   call-modest (unmap x) f a = (omega arith, tt)
+  call-modest (rename p q) f (both e (both g _)) =
+      let z = path-short p e in
+      let y = path-short q g in
+      pick-ind (Modest c) _ (λ _. no-bytes) (λ _. (rw (length-append (pathBytes p) (pathBytes q)) (omega arith), tt))
 
   reply-modest : (r : List ℕ) → Bytes r → ValidNodes (c .width) (t .nodes) → (p : Pending) → PendingFits (t .nodes) (t .opens) p
       → Passed (replyChecks (c .width) t r p)
@@ -174,6 +180,7 @@ module _ (c : Config) (t : Tables) where
   reply-modest r b v (asked (stating k)) f (both l _) = let z : length r ≡ c .width + 6 = eqb-true _ _ (not-false _ l) in omega arith
   reply-modest r b v (asked (mapping n)) f a = tt
   reply-modest r b v (asked (unmapping x)) f a = tt
+  reply-modest r b v (asked (renaming k p name)) f a = omega arith
   reply-modest r b v (reading k o p n i) f a = tt
   reply-modest r b v (fetching k o q i) f a = tt
   reply-modest r b v (storing k o q i) f a = tt

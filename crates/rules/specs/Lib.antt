@@ -17,3 +17,4 @@ pub mod MapLaws
 pub mod MapMoves
 pub mod Outcomes
 pub mod Lengths
+pub mod RenameLaws

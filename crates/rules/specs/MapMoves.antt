@@ -18,10 +18,13 @@ use Rattle.rules.specs.MapRules.{isMapSize, findMap, mapsAfter, mapFault
 use Rattle.rules.specs.RightReplies.{RightMap}
 use Rattle.rules.specs.MapLaws.{ValidMaps, begins-valid, ends-valid, map-right, right-map}
 use Rattle.rules.specs.Calls.{Call, create, mkdir, openAs, close, seek, read, write, truncate, remove, rmdir, chmod, readdir, stat, mapMemory, unmap, readCall}
+use Rattle.rules.specs.Calls.{rename}
 use Rattle.rules.specs.CallLaws.{CallFits, call-was-written}
 use Rattle.rules.specs.Requests.{asked, Pending, idle, creating, opening, closing, removing, changing, listing, stating, mapping, unmapping, reading, fetching, storing, cutting}
+use Rattle.rules.specs.Requests.{renaming}
 use Rattle.rules.specs.Skeleton.{Config, Event, call, reply, save, load, EventBytes, Skeleton}
 use Rattle.rules.specs.Rules.{Move, refuse, halt, send, finish, add, delete, remap, readPage, begin, fillPage, stored, cutDone, keepPages, giveUp, saving, loading, callChecks, readAction, callAction, replyChecks, replyAction, mapChecks, mapReasons, reasons, tellsFull, fullAction, callOr, isNone, eventChecks, eventAction, judge}
+use Rattle.rules.specs.Rules.{samePath}
 
 -- of the pending call: a map that is asked for has its room, one that is to end lives
 abbrev pub MapFits : List Map → Pending → Type 0
@@ -35,6 +38,7 @@ MapFits ms (asked (listing k)) = Unit {0}
 MapFits ms (asked (stating k)) = Unit {0}
 MapFits ms (asked (mapping n)) = (length ms < 16) × (isMapSize n ≡ true)
 MapFits ms (asked (unmapping a)) = findMap ms a < length ms
+MapFits ms (asked (renaming k p name)) = Unit {0}
 MapFits ms (reading k o p n i) = Unit {0}
 MapFits ms (fetching k o q i) = Unit {0}
 MapFits ms (storing k o q i) = Unit {0}
@@ -80,6 +84,7 @@ call-maps ms t w (readdir p) f a = tt
 call-maps ms t w (stat p) f a = tt
 call-maps ms t w (mapMemory n) f (both x _) = (leb-false _ _ x, f)
 call-maps ms t w (unmap b) f (both x _) = leb-false _ _ x
+call-maps ms t w (rename p q) f a = pick-ind (MapMove ms) (samePath t p q) (λ _. tt) (λ _. tt)
 
 reply-maps : (ms : List Map) (w : ℕ) (t : Tables) (r : List ℕ) (p : Pending) → ValidMaps ms → MapFits ms p → Passed (mapReasons ms r p)
     → MapMove ms (replyAction w t r p)
@@ -94,6 +99,7 @@ reply-maps ms w t r (asked (listing k)) v f a = tt
 reply-maps ms w t r (asked (stating k)) v f a = tt
 reply-maps ms w t r (asked (mapping n)) v (room, size) a = begins-valid ms n r v room size a
 reply-maps ms w t r (asked (unmapping b)) v f a = ends-valid ms b v f
+reply-maps ms w t r (asked (renaming k p name)) v f a = tt
 reply-maps ms w t r (reading k o p n i) v f a = tt
 reply-maps ms w t r (fetching k o q i) v f a = tt
 reply-maps ms w t r (storing k o q i) v f a = tt

@@ -17,13 +17,16 @@ use Rattle.lists.specs.Checks.{Check, Passed, First, here, decide, decide-passe
 use Rattle.filesystem.specs.Tables.{NODES, OPEN-FILES, NAME-BYTES, PATH-BYTES, Node, Tables, freshTables, nodeAt, findChild}
 use Rattle.filesystem.specs.Paths.{Path, joined, pathBytes, tooLong, childAt, walk, walkChecks, parentChecks, parentOf}
 use Rattle.rules.specs.Calls.{Call, create, mkdir, openAs, close, seek, read, write, truncate, remove, rmdir, chmod, readdir, stat, mapMemory, unmap, callBytes, readCall}
+use Rattle.rules.specs.Calls.{rename}
 use Rattle.rules.specs.CallLaws.{CallFits, call-read-back}
 use Rattle.filesystem.specs.MemoryMaps.{Map}
 use Rattle.rules.specs.MapRules.{mapFaults}
 use Rattle.rules.specs.Requests.{asked, Pending, idle, creating, opening, closing, removing, changing, listing, stating, mapping, unmapping, reading, fetching, storing, cutting}
+use Rattle.rules.specs.Requests.{renaming}
 use Rattle.rules.specs.Pages.{first}
 use Rattle.rules.specs.Skeleton.{Config, Event, call, reply, save, load, answerLength, requestLength, Skeleton}
 use Rattle.rules.specs.Rules.{Move, refuse, halt, send, finish, add, delete, remap, readPage, begin, fillPage, stored, cutDone, keepPages, giveUp, saving, loading, callChecks, readAction, callAction, replyChecks, replyAction, tellsFull, finished, fullAction, givesUp, mapChecks, mapReasons, reasons, isIdle, callOr, isNone, eventChecks, eventAction, judge}
+use Rattle.rules.specs.Rules.{samePath}
 
 -- SPECIFICATION 7.1
 abbrev pub numbers : List ℕ
@@ -87,6 +90,9 @@ module _ (t : Tables) where
   call-known (stat p) = both refl (walk-known p)
   call-known (mapMemory n) = all-none
   call-known (unmap a) = all-none
+  call-known (rename p q) =
+      both refl (both refl (all-append (walk-known p)
+      (all-append (parent-known q) (both refl (both refl (both refl (both refl (both refl all-none))))))))
 
 map-known : (ms : List Map) (q : Call) → All Known (mapChecks ms q)
 unfolding mapChecks known any
@@ -105,6 +111,7 @@ map-known ms (readdir p) = all-none
 map-known ms (stat p) = all-none
 map-known ms (mapMemory n) = both refl all-none
 map-known ms (unmap a) = both refl all-none
+map-known ms (rename p q) = all-none
 
 pub checks-known : (c : Config) (sk : Skeleton) (e : Event) → All (λ (ch : Check). known (ch .0) ≡ true) (eventChecks c sk e)
 unfolding eventChecks known any
@@ -152,6 +159,7 @@ call-acts u t w (readdir p) = refl
 call-acts u t w (stat p) = refl
 call-acts u t w (mapMemory n) = refl
 call-acts u t w (unmap a) = refl
+call-acts u t w (rename p q) = pick-ind (Acts u) (samePath t p q) (λ _. tt) (λ _. refl)
 
 module _ (w : ℕ) (t : Tables) (r : List ℕ) where
   reply-reasons : (p : Pending) → All Reason (replyChecks w t r p)
@@ -166,6 +174,7 @@ module _ (w : ℕ) (t : Tables) (r : List ℕ) where
   reply-reasons (asked (stating k)) = both refl (both refl all-none)
   reply-reasons (asked (mapping n)) = both refl all-none
   reply-reasons (asked (unmapping a)) = both refl (both refl all-none)
+  reply-reasons (asked (renaming k p name)) = both refl (both refl all-none)
   reply-reasons (reading k o p n i) = both refl all-none
   reply-reasons (fetching k o q i) = both refl all-none
   reply-reasons (storing k o q i) = both refl (both refl all-none)
@@ -183,6 +192,7 @@ module _ (w : ℕ) (t : Tables) (r : List ℕ) where
   map-reasons ms (asked (stating k)) = all-none
   map-reasons ms (asked (mapping n)) = both refl (both refl (both refl (both refl (both refl all-none))))
   map-reasons ms (asked (unmapping a)) = all-none
+  map-reasons ms (asked (renaming k p name)) = all-none
   map-reasons ms (reading k o p n i) = all-none
   map-reasons ms (fetching k o q i) = all-none
   map-reasons ms (storing k o q i) = all-none
@@ -200,6 +210,7 @@ module _ (w : ℕ) (t : Tables) (r : List ℕ) where
   reply-acts u (asked (stating k)) e = tt
   reply-acts u (asked (mapping n)) e = tt
   reply-acts u (asked (unmapping a)) e = tt
+  reply-acts u (asked (renaming k p name)) e = tt
   reply-acts u (reading k o p n i) e = tt
   reply-acts u (fetching k o q i) e = tt
   reply-acts u (storing k o q i) e = tt

@@ -40,6 +40,7 @@ pub data Question : Type 0 where
   stating : (k : ℕ) → Question
   mapping : (size : ℕ) → Question
   unmapping : (address : ℕ) → Question
+  renaming : (k parent : ℕ) (name : List ℕ) → Question
 
 -- the pending call and how far it has come: i is the page that was asked last
 pub data Pending : Type 0 where

@@ -21,14 +21,17 @@ use Rattle.lists.specs.Form.{Form, whole}
 use Rattle.lists.specs.Formats.{num, then, text, times}
 use Rattle.lists.specs.Checks.{Check, decide}
 use Rattle.filesystem.specs.Tables.{NODES, OPEN-FILES, PAGES, PAGE-BYTES, FILE-BYTES, DESCRIPTORS, Node, OpenFile, Tables, isDirectory, hasBit, pageTotal, nodeAt, openAt, absent, present, findId, findHandle, findDescriptor, children, newNode, newOpenFile, setMode, setSize, setCursor}
+use Rattle.filesystem.specs.Tables.{renamed}
 use Rattle.filesystem.specs.Rights.{covers}
 use Rattle.filesystem.specs.Paths.{Path, tooLong, walk, walkChecks, parentChecks, parentOf, lastOf}
-use Rattle.filesystem.specs.Image.{Image, saved, layoutOf, imageLength, parse}
+use Rattle.filesystem.specs.Image.{Image, saved, layoutOf, imageLength, parse, beneath, tooDeep}
 use Rattle.filesystem.specs.MemoryMaps.{Map, MAPS}
 use Rattle.rules.specs.MapRules.{MapChange, begins, ends, mapIn, findMap, mapFaults}
 use Rattle.rules.specs.Calls.{Call, create, mkdir, openAs, close, seek, read, write, truncate, remove, rmdir, chmod, readdir, stat, callBytes, readCall, mapMemory, unmap}
+use Rattle.rules.specs.Calls.{rename}
 use Rattle.rules.specs.Pages.{pageAt, Change, writing, truncating, first, storesMore, cutsMore}
 use Rattle.rules.specs.Requests.{asked, closeRequest, fetchRequest, Pending, idle, creating, opening, closing, removing, changing, listing, stating, reading, fetching, storing, cutting, mapping, unmapping}
+use Rattle.rules.specs.Requests.{renaming}
 use Rattle.rules.specs.Skeleton.{Config, Event, call, reply, save, load, answerLength, requestLength, Skeleton}
 
 -- What an event leads to.
@@ -110,6 +113,21 @@ module _ (t : Tables) where
       reachParent p
       ++ ((17, present (t .nodes) (walk (t .nodes) 0 p)) ∷ (13, not (hasBit 2 (holder p))) ∷ (28, leb NODES (length (t .nodes))) ∷ [])
 
+  -- the first path leads where the second does: nothing else is asked then
+  abbrev pub samePath : Path → Path → Bool
+  samePath p q = eqb (walk (t .nodes) 0 q) (walk (t .nodes) 0 p)
+
+  abbrev pub unlessSame : Path → Path → Bool → Bool
+  unlessSame p q b = not (samePath p q) && b
+
+  -- of a renaming, after both walks
+  abbrev pub renameChecks : Path → Path → List Check
+  renameChecks p q =
+      (16, eqb (walk (t .nodes) 0 p) 0) ∷ (17, unlessSame p q (present (t .nodes) (walk (t .nodes) 0 q)))
+      ∷ (22, unlessSame p q (beneath (t .nodes) (walk (t .nodes) 0 p) (parentOf (t .nodes) 0 q)))
+      ∷ (13, unlessSame p q (not (hasBit 2 (holder p)) || not (hasBit 2 (holder q))))
+      ∷ (36, unlessSame p q (tooDeep (t .nodes) (walk (t .nodes) 0 p) (parentOf (t .nodes) 0 q) (lastOf q))) ∷ []
+
   unfoldable pub callChecks : Call → List Check
   callChecks (create m p) = newChecks p
   callChecks (mkdir m p) = newChecks p
@@ -135,6 +153,8 @@ module _ (t : Tables) where
   -- no table of the files is read: `mapChecks`
   callChecks (mapMemory n) = []
   callChecks (unmap a) = []
+  callChecks (rename p q) =
+      longCheck p ∷ longCheck q ∷ (walkChecks (t .nodes) 0 p ++ (parentChecks (t .nodes) 0 q ++ renameChecks p q))
 
   -- and what it does where none of them holds (SPECIFICATION 5.2); w is the width of ids
   module _ (w : ℕ) where
@@ -161,6 +181,9 @@ module _ (t : Tables) where
     callAction (stat p) = send (asked (stating (walk (t .nodes) 0 p))) (callBytes w (stat p))
     callAction (mapMemory n) = send (asked (mapping n)) (callBytes w (mapMemory n))
     callAction (unmap a) = send (asked (unmapping a)) (callBytes w (unmap a))
+    callAction (rename p q) =
+        pick (samePath p q) (finish t 0 [])
+        (send (asked (renaming (walk (t .nodes) 0 p) (holder q .id) (lastOf q))) (callBytes w (rename p q)))
 
 -- Maps: a list of their own, behind the others (SPECIFICATION 7.8)
 unfoldable pub mapChecks : List Map → Call → List Check
@@ -179,6 +202,7 @@ mapChecks ms (readdir p) = []
 mapChecks ms (stat p) = []
 mapChecks ms (mapMemory n) = (12, leb MAPS (length ms)) ∷ []
 mapChecks ms (unmap a) = (22, absent ms (findMap ms a)) ∷ []
+mapChecks ms (rename p q) = []
 
 -- Replies.
 
@@ -245,6 +269,7 @@ module _ (w : ℕ) (t : Tables) (r : List ℕ) where
   replyChecks (asked (stating k)) = lengthCheck (w + 6) ∷ (6, not (equal r (statBytes w (nodeAt (t .nodes) k)))) ∷ []
   replyChecks (asked (mapping n)) = lengthCheck (8 + n) ∷ []
   replyChecks (asked (unmapping a)) = statusChecks 0
+  replyChecks (asked (renaming k p name)) = statusChecks 0
   replyChecks (reading k o p n i) = lengthCheck PAGE-BYTES ∷ []
   replyChecks (fetching k o q i) = lengthCheck PAGE-BYTES ∷ []
   replyChecks (storing k o q i) = statusChecks PAGE-BYTES
@@ -263,6 +288,8 @@ module _ (w : ℕ) (t : Tables) (r : List ℕ) where
   replyAction (asked (stating k)) = finish t (nodeAt (t .nodes) k .size) r
   replyAction (asked (mapping n)) = remap (begins (mapIn n r))
   replyAction (asked (unmapping a)) = remap (ends a)
+  replyAction (asked (renaming k p name)) = finish
+      (record { nodes = renamed (t .nodes) k p name; opens = t .opens }) 0 []
   replyAction (reading k o p n i) = readPage k o p n i r
   replyAction (fetching k o q i) = fillPage k o q i r
   replyAction (storing k o q i) = stored k o q i
@@ -280,6 +307,7 @@ mapReasons ms r (asked (listing k)) = []
 mapReasons ms r (asked (stating k)) = []
 mapReasons ms r (asked (mapping n)) = mapFaults ms n r
 mapReasons ms r (asked (unmapping a)) = []
+mapReasons ms r (asked (renaming k p name)) = []
 mapReasons ms r (reading k o p n i) = []
 mapReasons ms r (fetching k o q i) = []
 mapReasons ms r (storing k o q i) = []
@@ -301,6 +329,7 @@ tellsFull w r (asked (listing k)) = false
 tellsFull w r (asked (stating k)) = false
 tellsFull w r (asked (mapping n)) = false
 tellsFull w r (asked (unmapping a)) = false
+tellsFull w r (asked (renaming k p name)) = false
 tellsFull w r (reading k o p n i) = false
 tellsFull w r (fetching k o q i) = false
 tellsFull w r (storing k o q i) = storesMore q && saysFull 4 r

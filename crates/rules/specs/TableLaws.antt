@@ -13,12 +13,15 @@ use Rattle.lists.specs.All.{All, both, none, all-append, all-set}
 use Rattle.lists.specs.Search.{unique, without}
 use Rattle.lists.specs.Places.{none-place, all-place, all-put, at-all, unique-same, unskip, length-without, getD-without, all-without, unique-without, unique-snoc, unique-set}
 use Rattle.filesystem.specs.Tables.{Node, noNode, OpenFile, noOpenFile, Tables, isFile, hasHandle, hasDescriptor, nodeAt, openAt, findId, findChild, findHandle, findDescriptor, newNode, newOpenFile, withMode, withSize, withCursor, setMode, setSize, setCursor, root}
+use Rattle.filesystem.specs.Tables.{withPlace, renamed}
 use Rattle.filesystem.specs.Image.{soundNodes}
 use Rattle.filesystem.specs.Sound.{to-sound, findId-only, findId-has, nodeAt-append}
 use Rattle.filesystem.specs.SoundLaws.{sound-root, sound-setMode, sound-setSize, sound-without, empty-childless, Addable, sound-add}
 use Rattle.rules.specs.Pages.{Change, writing, shrinking, growing, sizeAfter, cursorAfter, FitsSize}
+use Rattle.filesystem.specs.Renaming.{sound-renamed}
 use Rattle.rules.specs.Skeleton.{freshSkeleton}
 use Rattle.rules.specs.Valid.{ValidOpen, sameHandle, sameDescriptor, ValidNodes, ValidTables, CreatingFits, OpeningFits, RemovingFits, ChangingFits, Opened, ChangeFits, Valid}
+use Rattle.rules.specs.Valid.{RenamingFits}
 
 -- the open file is the file in place j
 record OpenAt (ns : List Node) (o : OpenFile) (j : ℕ) : Type 0 where
@@ -194,7 +197,35 @@ mode-valid w t k m v x = nodes-changed w t v ms valid (λ i h. same (openAt (t .
     same o p =
         let j = findId (t .nodes) (o .handle) in
         of-place w ms (valid .sound) o j
-        (place-set (t .nodes) k n refl refl o (o .cursor) j (to-place (t .nodes) o p) (rw (field-set (λ n. n .size) (t .nodes) k n j refl) (p .cursor-inside)))
+        (place-set (t .nodes) k n refl refl o (o .cursor) j (to-place (t .nodes) o p)
+        (rw (field-set (λ n. n .size) (t .nodes) k n j refl) (p .cursor-inside)))
+
+-- a renamed file stays open
+pub rename-valid : (w : ℕ) (t : Tables) (k p : ℕ) (name : List ℕ) → ValidTables w t
+    → RenamingFits (t .nodes) (t .opens) k p name
+    → ValidTables w (record { nodes = renamed (t .nodes) k p name; opens = t .opens })
+unfolding renamed nodeAt
+rename-valid w t k p name v x = nodes-changed w t v ms valid (λ i h. same (openAt (t .opens) i) (valid-at w t v i h))
+  where
+    n : Node
+    n = withPlace p name (nodeAt (t .nodes) k)
+
+    ms : List Node
+    ms = set (t .nodes) k n
+
+    valid : ValidNodes w ms
+    valid = record {
+      sound = subst (λ p. soundNodes w (renamed (t .nodes) k p name) ≡ true) (x .is-parent)
+          (sound-renamed w (t .nodes) k (x .at) name (v .nodes-valid .sound) (x .movable));
+      named = all-set k n (x .bytes) (v .nodes-valid .named);
+    }
+
+    same : (o : OpenFile) → ValidOpen (t .nodes) o → ValidOpen ms o
+    same o p =
+        let j = findId (t .nodes) (o .handle) in
+        of-place w ms (valid .sound) o j
+        (place-set (t .nodes) k n refl refl o (o .cursor) j (to-place (t .nodes) o p)
+        (rw (field-set (λ n. n .size) (t .nodes) k n j refl) (p .cursor-inside)))
 
 -- a file that is open keeps its place, or has another
 place-moved : (ns ms : List Node) (o : OpenFile) (j i : ℕ) → i < length ms → nodeAt ms i ≡ nodeAt ns j → OpenAt ns o j → OpenAt ms o i

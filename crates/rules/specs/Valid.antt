@@ -17,7 +17,9 @@ use Rattle.filesystem.specs.Paths.{componentForm}
 use Rattle.filesystem.specs.Image.{Image, Version, layoutOf, soundNodes, pathLength, parse}
 use Rattle.rules.specs.Pages.{pageAt, Change, first, last, sizeAfter, FitsSize, storesMore}
 use Rattle.rules.specs.Requests.{isFetch, asked, Pending, idle, creating, opening, closing, removing, changing, listing, stating, mapping, unmapping, reading, fetching, storing, cutting}
+use Rattle.rules.specs.Requests.{renaming}
 use Rattle.rules.specs.MapRules.{MapChange}
+use Rattle.filesystem.specs.Renaming.{Movable}
 use Rattle.rules.specs.Skeleton.{Config, Event, call, reply, save, load, Skeleton}
 use Rattle.rules.specs.Rules.{Move, refuse, halt, send, finish, add, delete, remap, readPage, begin, fillPage, stored, cutDone, keepPages, giveUp, saving, loading, tellsFull, eventChecks, givesUp, reasons}
 
@@ -81,6 +83,13 @@ module _ (ns : List Node) (os : List OpenFile) where
     pub known : k < length ns
     pub modes : mode ≤ 7
 
+  -- the node in place k is to become `name` in the directory in place `at`
+  pub record RenamingFits (k parent : ℕ) (name : List ℕ) : Type 0 where
+    pub at : ℕ
+    pub movable : Movable ns k at name
+    pub is-parent : nodeAt ns at .id ≡ parent
+    pub bytes : Bytes name
+
   -- the open file in place o is the file in place k
   pub record Opened (k o : ℕ) : Type 0 where
     pub known : k < length ns
@@ -121,6 +130,7 @@ module _ (ns : List Node) (os : List OpenFile) where
   PendingFits (asked (stating k)) = k < length ns
   PendingFits (asked (mapping n)) = Unit {0}
   PendingFits (asked (unmapping a)) = Unit {0}
+  PendingFits (asked (renaming k p name)) = RenamingFits k p name
   PendingFits (reading k o p n i) = ReadingFits k o p n i
   PendingFits (fetching k o q i) = FetchFits k o q i
   PendingFits (storing k o q i) = PageFits k o q i

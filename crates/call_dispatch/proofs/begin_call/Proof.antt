@@ -8,6 +8,7 @@ use Rattle.rules.specs.Rules.{mapChecks}
 use Rattle.call_reader.specs.declared.ParsedCall.{ParsedCall}
 use Rattle.call_reader.specs.Meaning.{meant, Ranges}
 use Rattle.call_dispatch.specs.laws.CalledLaws.{call-as, path-as, none-as, rest-length, write-as, map-as, unmap-as}
+use Rattle.call_dispatch.specs.laws.CalledLaws.{rename-as}
 use borrow.Author.Needs.{needs}
 use Rattle.call_dispatch.proofs.begin_call.Statement.{statement}
 use Rattle.call_dispatch.proofs.begin_call.Tie as tie
@@ -200,9 +201,67 @@ returns-8 c =
       omega arith,
     )
 
--- no call
+-- rename
+sub-begin-rename : tie.Need-sub-begin-rename
+sub-begin-rename c =
+    let v = c .before .before in
+    let k = v .before .before in
+    let a = k .before .before .before .before .args in
+    let r = subst (λ (z : ParsedCall). Ranges z (length (a .call .now))) (v .p9 .given .1) (k .read-call .ensures .1) in
+    r .0
+
+part-begin-rename-start : tie.Need-part-begin-rename-start
+part-begin-rename-start c =
+    let v = c .before .before in
+    let k = v .before .before in
+    let a = k .before .before .before .before .args in
+    let r = subst (λ (z : ParsedCall). Ranges z (length (a .call .now))) (v .p9 .given .1) (k .read-call .ensures .1) in
+    search needs
+
+part-begin-rename-end : tie.Need-part-begin-rename-end
+part-begin-rename-end c =
+    let v = c .before .before in
+    let k = v .before .before in
+    let a = k .before .before .before .before .args in
+    let r = subst (λ (z : ParsedCall). Ranges z (length (a .call .now))) (v .p9 .given .1) (k .read-call .ensures .1) in
+    omega (arith, r .0, r .1)
+
+sub-begin-rename-2 : tie.Need-sub-begin-rename-2
+sub-begin-rename-2 c =
+    let v = c .before .before .before in
+    let k = v .before .before in
+    let a = k .before .before .before .before .args in
+    let r = subst (λ (z : ParsedCall). Ranges z (length (a .call .now))) (v .p9 .given .1) (k .read-call .ensures .1) in
+    r .1
+
+part-begin-rename-start-2 : tie.Need-part-begin-rename-start-2
+part-begin-rename-start-2 c =
+    let v = c .before .before .before in
+    let k = v .before .before in
+    let a = k .before .before .before .before .args in
+    let r = subst (λ (z : ParsedCall). Ranges z (length (a .call .now))) (v .p9 .given .1) (k .read-call .ensures .1) in
+    r .1
+
+begin-rename-requires : tie.Need-begin-rename-requires
+begin-rename-requires c κs =
+    let v = c .before .before .before .before .before in
+    (omega arith, omega (arith, v .before .before .before .before .before .before .pre .1))
+
 returns-9 : tie.Need-returns-9
+unfolding meant
 returns-9 c =
+    let s = c .before .before .before .before in
+    let v = s .before .before .before .before .before .before in
+    let k = v .before .before in
+    let a = k .before .before .before .before .args in (
+      λ q d w h. rename-as q w (stateOf q (a .m .now)) (a .call .now) (k .read-call .result) (k .read-call .ensures .0)
+          _ (v .p9 .given .1) _ _ (a .request .now) _ (s .begin-rename .ensures .0 q d w h),
+      omega arith,
+    )
+
+-- no call
+returns-10 : tie.Need-returns-10
+returns-10 c =
     let k = c .before .before in
     let a = k .before .before .before .before .args in (
       λ q d w h. none-as q w (stateOf q (a .m .now)) (a .call .now) (k .read-call .result) (k .read-call .ensures .0)
@@ -219,9 +278,11 @@ begin-call-spec =
     (λ c. search needs) begin-read-requires
     (λ c. search needs) sub-begin-write part-begin-write-start (λ c. search needs) begin-write-requires
     (λ c. search needs) begin-truncate-requires (λ c. search needs) begin-map-requires (λ c. search needs)
-    begin-unmap-requires (λ c. search needs)
+    begin-unmap-requires (λ c. search needs) sub-begin-rename part-begin-rename-start part-begin-rename-end
+    sub-begin-rename-2 part-begin-rename-start-2 (λ c. search needs) begin-rename-requires (λ c. search needs)
     (λ c. search needs) (λ c. search needs) returns (λ c. search needs) (λ c. search needs) returns-2
     (λ c. search needs) returns-3
     (λ c. search needs) (λ c. search needs) returns-4 (λ c. search needs) (λ c. search needs) returns-5
     (λ c. search needs) (λ c. search needs) returns-6 (λ c. search needs) (λ c. search needs) returns-7
-    (λ c. search needs) (λ c. search needs) returns-8 returns-9)
+    (λ c. search needs) (λ c. search needs) returns-8 (λ c. search needs) (λ c. search needs) returns-9
+    returns-10)

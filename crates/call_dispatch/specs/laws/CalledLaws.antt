@@ -11,16 +11,18 @@ use Rattle.filesystem.specs.Tables.{ID-BYTES}
 use Rattle.filesystem.specs.Sound.{to-sound}
 use Rattle.filesystem.specs.MemoryMaps.{Map}
 use Rattle.rules.specs.Calls.{Call, openAs, remove, rmdir, chmod, readdir, stat, write, mapMemory, unmap, readCall}
-use Rattle.rules.specs.Calls.{byPath}
+use Rattle.rules.specs.Calls.{rename, byPath}
 use Rattle.rules.specs.Skeleton.{Config}
 use Rattle.rules.specs.Rules.{refuse, callChecks, mapChecks, callAction, callOr, isNone}
 use Rattle.machine.specs.Machine.{State, Result, guard as digestStore, apply}
 use Rattle.machine.specs.Consistent.{Consistent}
 use Rattle.call_reader.specs.declared.ParsedCall.{ParsedCall}
-use Rattle.call_reader.specs.declared.ParsedCall.the-variants.{ByPath, Write, Malformed}
+use Rattle.call_reader.specs.declared.ParsedCall.the-variants.{ByPath, Write, Rename, Malformed}
 use Rattle.call_reader.specs.laws.RestLaws.{rest}
 use Rattle.call_reader.specs.Meaning.{madeBy, meant}
 use Rattle.path_calls.specs.Begun.{begun}
+use Rattle.renames.specs.Judged.{judgedBoth}
+use Rattle.renames.specs.Begun.{renameBegun}
 use Rattle.guard_state.specs.State.{stateOf}
 use Rattle.outcomes.specs.declared.Outcome.{Outcome}
 use Rattle.outcomes.specs.declared.Outcome.the-variants.{Refused}
@@ -81,6 +83,21 @@ module _ (c : Config) (s : State (digestStore c)) where
       go none = refl
       go (some x) = ap (apply c (digestStore c) s) (file-move (make x) (f x))
 
+  pub called-rename : (first second : List ℕ)
+      → called c s (bind (readPath first) (λ p. byPath (rename p) second)) ≡ renameBegun c s first second
+  unfolding renameBegun judgedBoth begun
+  called-rename first second = go (readPath first)
+    where
+      go : (o : Option Path) → called c s (bind o (λ p. byPath (rename p) second))
+          ≡ apply c (digestStore c) s
+          (elim o [
+            | none ↦ refuse 22
+            | some p ↦ judged refuse (λ q. callChecks (s .skeleton .tables) (rename p q))
+                (λ q. callAction (s .skeleton .tables) (c .width) (rename p q)) second
+          ])
+      go none = unfold bind in called-none
+      go (some p) = unfold bind in called-path (rename p) (λ q. unfold mapChecks in refl) second
+
 -- no call by path asks anything of the maps
 made-on-files : (ms : List Map) (k n : ℕ) (p : Path) → mapChecks ms (madeBy k n p) ≡ []
 unfolding madeBy mapChecks
@@ -137,6 +154,16 @@ module _ (c : Config) (wide : c .width ≡ ID-BYTES) (s : State (digestStore c))
   write-as h start e r m x x′ f =
       call-as (write h (drop start b)) refl (ap (λ (z : ParsedCall). meant z b) e) r m x x′
       (subst (λ (l : List ℕ). Sends c (startedBy c s (write h l)) r m x x′) (rest b start) f)
+
+  pub rename-as : (k : ℕ) → p ≡ Rename k → (r : Outcome) (m x x′ : List ℕ)
+      → Sends c (renameBegun c s (take (k - 2) (drop 2 b)) (take (length b - k) (drop k b))) r m x x′
+      → Sends c (calledWith c s b) r m x x′
+  unfolding meant
+  rename-as k e r m x x′ =
+      subst (λ (y : Result (digestStore c)). Sends c y r m x x′)
+      (ap (renameBegun c s (take (k - 2) (drop 2 b))) (rest b k)
+      ∙ sym (read-as ∙ ap (λ (z : ParsedCall). called c s (meant z b)) e
+      ∙ called-rename c s (take (k - 2) (drop 2 b)) (drop k b)))
 
   pub none-as : p ≡ Malformed → (m x : List ℕ) → stateOf c m ≡ s → Sends c (calledWith c s b) (Refused 22) m x x
   unfolding meant

@@ -56,30 +56,39 @@ returns-3 c =
     )
 
 returns-4 : tie.Need-returns-4
+unfolding readFields pick
 returns-4 c =
-    let s = c .before .before .before .before .before .before .before .args .s .now in
-    (c .read-opening .ensures .0 ∙ kind-read ID-BYTES s (omega arith), c .read-opening .ensures .1)
+    let s = c .before .before .before .before .before .args .s .now in (
+      of-kind ID-BYTES 16 (getD s 0 0) (drop 1 s) _ (omega arith) (c .read-rename .ensures .0)
+          ∙ kind-read ID-BYTES s (omega arith),
+      c .read-rename .ensures .1,
+    )
 
 returns-5 : tie.Need-returns-5
 returns-5 c =
-    let s = c .before .before .before .before .before .before .before .before .before .args .s .now in
-    (c .read-by-path .ensures .0 ∙ kind-read ID-BYTES s (omega arith), c .read-by-path .ensures .1)
+    let s = c .before .before .before .before .before .before .before .args .s .now in
+    (c .read-opening .ensures .0 ∙ kind-read ID-BYTES s (omega arith), c .read-opening .ensures .1)
 
 returns-6 : tie.Need-returns-6
 returns-6 c =
+    let s = c .before .before .before .before .before .before .before .before .before .args .s .now in
+    (c .read-by-path .ensures .0 ∙ kind-read ID-BYTES s (omega arith), c .read-by-path .ensures .1)
+
+returns-7 : tie.Need-returns-7
+returns-7 c =
     let s = c .before .before .before .before .before .before .before .before .before .before .args .s .now in
     (c .read-on-maps .ensures .0 ∙ kind-read ID-BYTES s (omega arith), c .read-on-maps .ensures .1)
 
 -- what is left has no such kind
-returns-7 : tie.Need-returns-7
-unfolding meant
-returns-7 c =
-    let s = c .before .before .before .before .before .args .s .now in
-    (kind-none ID-BYTES (getD s 0 0) (drop 1 s) (λ h. omega arith) ∙ kind-read ID-BYTES s (omega arith), tt)
-
 returns-8 : tie.Need-returns-8
 unfolding meant
 returns-8 c =
+    let s = c .before .before .before .before .before .args .s .now in
+    (kind-none ID-BYTES (getD s 0 0) (drop 1 s) (λ h. omega arith) ∙ kind-read ID-BYTES s (omega arith), tt)
+
+returns-9 : tie.Need-returns-9
+unfolding meant
+returns-9 c =
     let b = c .before .before .before .before .before .before .before in
     let s = b .args .s .now in
     let r = c .before .before .before .match .rest in
@@ -87,9 +96,9 @@ returns-8 c =
     let n = kind-none ID-BYTES (getD s 0 0) (drop 1 s) (λ h. omega (arith, l, r .0 .1, r .1)) in
     (n ∙ kind-read ID-BYTES s (omega arith), tt)
 
-returns-9 : tie.Need-returns-9
+returns-10 : tie.Need-returns-10
 unfolding meant
-returns-9 c =
+returns-10 c =
     let s = c .before .before .before .before .before .before .before .before .before .args .s .now in
     (kind-none ID-BYTES (getD s 0 0) (drop 1 s) (λ h. omega arith) ∙ kind-read ID-BYTES s (omega arith), tt)
 
@@ -97,5 +106,5 @@ pub read-other-spec : {M : Type 1} → statement M
 read-other-spec =
     tie.close
     (tie.spec returns (λ c. search needs) read-write-requires read-truncate-requires (λ c κs. search needs)
-    (λ c κs. search needs) read-on-maps-requires returns-2 returns-3 returns-4 returns-5 returns-6 returns-7 returns-8
-    returns-9)
+    (λ c κs. search needs) (λ c κs. search needs) read-on-maps-requires returns-2 returns-3 returns-4 returns-5
+    returns-6 returns-7 returns-8 returns-9 returns-10)

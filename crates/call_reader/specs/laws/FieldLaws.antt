@@ -7,7 +7,7 @@ use mathlib.Core.Option.{Option, some, none}
 use Prim.Native.Nat.{ℕ, _+_, _-_, _^_, _<_, _≤_}
 use native.Mathlib.Omega.{arith}
 use lib.Dec.{eqb, leb}
-use lib.ListN.{length, getD, drop, length-drop, length-append, drop-of-length-le}
+use lib.ListN.{length, getD, take, drop, length-drop, length-append, drop-of-length-le}
 use lib.Seq.{drop-drop, drop-cons}
 use borrow.Author.Tests.{le-leb, lt-leb, ne-eqb}
 use Rattle.lists.specs.Pick.{pick, pick-true, pick-false}
@@ -20,9 +20,9 @@ use Rattle.lists.specs.Form.{Form, bind, front, get₂, whole, ended}
 use Rattle.lists.specs.FormLaws.{whole-was-written}
 use Rattle.lists.specs.Formats.{num, then}
 use Rattle.filesystem.specs.Tables.{DATA-BYTES}
-use Rattle.filesystem.specs.Paths.{Path}
+use Rattle.filesystem.specs.Paths.{Path, readPath}
 use Rattle.rules.specs.Calls.{Call, byPath, byNumberAndPath, byHandle, byHandleAndNumber, byHandleAndBytes, readFields}
-use Rattle.rules.specs.Calls.{byNumber, readCall}
+use Rattle.rules.specs.Calls.{byNumber, byTwoPaths, readCall}
 
 -- a number of w bytes from `at` on, and what is after it
 module _ (w at : ℕ) (s : List ℕ) where
@@ -165,6 +165,32 @@ module _ (least most : ℕ) (make : ℕ → Path → Call) (s : List ℕ) where
     number-within l h = sym (number-got
         ∙ pick-true _ _ _ (and-both _ _ (le-leb least (getD s 1 0) l) (le-leb (getD s 1 0) most h)))
 
+-- two paths
+module _ (make : Path → Path → Call) (s : List ℕ) where
+  pub two-missing : length s ≡ 1 → none ≡ byTwoPaths make (drop 1 s)
+  unfolding byTwoPaths
+  two-missing l = sym (rw (drop-of-length-le s {i = 1} (omega arith)))
+
+  module _ (there : 1 < length s) where
+    abbrev first : ℕ
+    first = getD s 1 0
+
+    two-got : byTwoPaths make (drop 1 s) ≡ pick (leb first (length (drop 2 s)))
+        (bind (readPath (take first (drop 2 s))) (λ p. byPath (make p) (drop (2 + first) s))) none
+    unfolding byTwoPaths
+    two-got = rw (drop-cons s 1 0 there, drop-drop first 2 s)
+
+    pub two-short : length s < 2 + first → none ≡ byTwoPaths make (drop 1 s)
+    two-short l = sym (two-got ∙ pick-false _ _ _ (lt-leb first (length (drop 2 s)) (rw length-drop (omega arith))))
+
+    pub two-within : (second : ℕ) → second ≡ 2 + first → second ≤ length s
+        → bind (readPath (take (second - 2) (drop 2 s))) (λ p. byPath (make p) (drop second s))
+        ≡ byTwoPaths make (drop 1 s)
+    two-within second e l =
+        let n : second - 2 ≡ first = omega arith in
+        sym (rw (n, e) (two-got
+        ∙ pick-true _ _ _ (le-leb first (length (drop 2 s)) (rw length-drop (omega arith)))))
+
 -- by the kind
 module _ (w : ℕ) where
   pub kind-missing : (s : List ℕ) → length s ≡ 0 → none ≡ readCall w s
@@ -180,10 +206,10 @@ module _ (w : ℕ) where
   pub of-kind : (k kind : ℕ) (t : List ℕ) (c : Option Call) → kind ≡ k → c ≡ readFields w k t → c ≡ readFields w kind t
   of-kind k kind t c e q = q ∙ ap (λ (j : ℕ). readFields w j t) (sym e)
 
-  pub kind-none : (kind : ℕ) (t : List ℕ) → (1 ≤ kind → 15 < kind) → none ≡ readFields w kind t
+  pub kind-none : (kind : ℕ) (t : List ℕ) → (1 ≤ kind → 16 < kind) → none ≡ readFields w kind t
   unfolding readFields pick
   kind-none kind t past =
-      let other : (k : ℕ) → 1 ≤ k → k ≤ 15 → eqb kind k ≡ false = λ k a b. ne-eqb kind k
+      let other : (k : ℕ) → 1 ≤ k → k ≤ 16 → eqb kind k ≡ false = λ k a b. ne-eqb kind k
       (λ e. omega (arith, past (omega arith))) in
       sym (simp (
         other 1 (omega arith) (omega arith),
@@ -201,4 +227,5 @@ module _ (w : ℕ) where
         other 13 (omega arith) (omega arith),
         other 14 (omega arith) (omega arith),
         other 15 (omega arith) (omega arith),
+        other 16 (omega arith) (omega arith),
       ))

@@ -6,13 +6,11 @@ use mathlib.Core.List.{List, [], _∷_}
 use mathlib.Core.Option.{some}
 use Prim.Native.Nat.{ℕ, zero, suc, _-_, _<_, _≤_}
 use native.Mathlib.Omega.{arith}
-use lib.Dec.{ltb}
 use lib.ListN.{length, drop}
-use borrow.Author.Tests.{ltb-false, lt-leb}
+use borrow.Author.Tests.{lt-leb}
 use Rattle.lists.specs.Pick.{pick}
-use Rattle.lists.specs.Equal.{or-fst, or-snd}
+use Rattle.lists.specs.Equal.{or-fst}
 use Rattle.lists.specs.All.{both, all-left, all-right, all-tail}
-use Rattle.lists.specs.Search.{any}
 use Rattle.lists.specs.Checks.{Check, Passed}
 use Rattle.filesystem.specs.Tables.{NAME-BYTES, PATH-BYTES, Tables, nodeAt}
 use Rattle.filesystem.specs.Paths.{Path, readPath, pathBytes, tooLong, walk, parentOf, lastOf}
@@ -38,6 +36,7 @@ use Rattle.outcomes.specs.Sent.{Sends}
 use Rattle.outcomes.specs.laws.SentLaws.{refusal-sends, request-sends}
 use Rattle.path_calls.specs.Begun.{begun}
 use Rattle.path_calls.specs.laws.BegunLaws.{both-judged}
+use Rattle.path_calls.specs.laws.ReachedLaws.{last-short}
 
 -- the kinds of a new node: 1 a file, 2 a directory
 pub data NewKind : ℕ → Type 0 where
@@ -71,12 +70,6 @@ place-made t s n isMkdir = refl
 
 head-false : {ch : Check} {cs : List Check} → Passed (ch ∷ cs) → ch .1 ≡ false
 head-false (both e _) = e
-
-last-short : (p : Path) → any (λ c. ltb NAME-BYTES (length c)) p ≡ false → length (lastOf p) ≤ NAME-BYTES
-unfolding any lastOf
-last-short [] e = omega arith
-last-short (c ∷ []) e = ltb-false _ _ (or-fst _ _ e)
-last-short (c ∷ x ∷ cs) e = last-short (x ∷ cs) (or-snd (ltb NAME-BYTES (length c)) _ e)
 
 module _ (path : List ℕ) (kind number : ℕ) (new : NewKind kind) where
   -- the path that was read, where the call passes

@@ -66,7 +66,9 @@ module _ (c : Config) (m : List ℕ) where
           (both refl (both refl
           (both refl (both refl
           (both refl (both refl
-          (both refl (both refl (both refl (both refl (both refl (both refl (both refl (both refl none)))))))))))))))) k
+          (both refl (both refl
+          (both refl (both refl (both refl (both refl (both refl (both refl (both refl none)))))))))))))))))
+          k
           (omega arith)
 
   pub idle-number : waits (g .call) ≡ false → isIdle (stateOf c m .skeleton .pending) ≡ true

@@ -19,7 +19,7 @@ use Rattle.memory.specs.Layout.{Mem, memOf, headNumbers, openRows, newDigests, 
 use Rattle.memory.specs.Layout.{withHead, withStaged}
 use Rattle.memory.specs.laws.MemLaws.{length-head, length-staged}
 use Rattle.rules.specs.Requests.{asked, Pending, idle, creating, opening, closing, removing, changing, listing, stating}
-use Rattle.rules.specs.Requests.{reading, fetching, storing, cutting, mapping, unmapping}
+use Rattle.rules.specs.Requests.{reading, fetching, storing, cutting, mapping, unmapping, renaming}
 use Rattle.rules.specs.Pages.{writing, shrinking, growing}
 use Rattle.rules.specs.Skeleton.{Config}
 use Rattle.machine.specs.Machine.{Gathered}
@@ -146,6 +146,7 @@ pending-kept g s t e =
     ∷ cutting (g .node) (g .opened) (growing (g .size))
     ∷ asked (mapping (g .size))
     ∷ asked (unmapping (g .parent))
+    ∷ asked (renaming (g .node) (g .parent) b)
     ∷ [])
     (g .call) idle)
     e

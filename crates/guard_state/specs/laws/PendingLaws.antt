@@ -6,12 +6,12 @@ use Prim.Native.Nat.{ℕ}
 use lib.ListN.{take}
 use Rattle.rules.specs.Pages.{writing, shrinking, growing}
 use Rattle.rules.specs.Requests.{asked, creating, opening, closing, removing, changing, listing, stating, reading}
-use Rattle.rules.specs.Requests.{fetching, storing, cutting, mapping, unmapping}
+use Rattle.rules.specs.Requests.{fetching, storing, cutting, mapping, unmapping, renaming}
 use Rattle.rules.specs.Skeleton.{Config}
 use Rattle.memory.specs.Layout.{memOf}
 use Rattle.guard_state.specs.Calls.{CREATING, OPENING, CLOSING, REMOVING, CHANGING, LISTING, STATING, READING}
 use Rattle.guard_state.specs.Calls.{FETCHING, STORING, SHRINK-FETCHING, SHRINK-STORING, CUTTING, GROWING}
-use Rattle.guard_state.specs.Calls.{MAPPING, UNMAPPING}
+use Rattle.guard_state.specs.Calls.{MAPPING, UNMAPPING, RENAMING}
 use Rattle.guard_state.specs.declared.Guard.{Guard}
 use Rattle.guard_state.specs.State.{numbersOf, stagedBytes, pendings, stateOf}
 use Rattle.guard_state.specs.laws.WaitLaws.{pending-at}
@@ -93,3 +93,8 @@ module _ (c : Config) (m : List ℕ) where
   pub unmap-pending : g .call ≡ UNMAPPING → stateOf c m .skeleton .pending ≡ asked (unmapping (g .parent))
   unfolding pendings
   unmap-pending e = pending-at c m 16 e
+
+  pub rename-pending : g .call ≡ RENAMING → stateOf c m .skeleton .pending ≡ asked (renaming (g .node) (g .parent)
+      (stagedBytes g (memOf m .staged)))
+  unfolding pendings
+  rename-pending e = pending-at c m 17 e

@@ -2,7 +2,8 @@
 use mathlib.Core.Bool.{false≢true}
 use mathlib.Core.Path.{refl}
 use borrow.Author.Tests.{not-true, not-false}
-use Rattle.image_reader.specs.laws.RootedLaws.{placed-linked, reach-rooted}
+use Rattle.links.specs.laws.ParentLaws.{placed-linked}
+use Rattle.image_reader.specs.laws.RootedLaws.{reach-rooted}
 use borrow.Author.Needs.{needs}
 use Rattle.image_reader.proofs.are_rooted.Statement.{statement}
 use Rattle.image_reader.proofs.are_rooted.Tie as tie
@@ -29,7 +30,7 @@ returns-2 c =
     let p = c .before .before .before .before .before .before .before .before .before .before .before .before .before
     .before .pre in
     reach-rooted (p .2) (c .before .before .before .before .before .before .before .before .place-parents .ensures .0
-    (not-false _ (c .before .before .before .before .before .if1 .left))) (p .4)
+    (not-false _ (c .before .before .before .before .before .if1 .left)))
     (c .before .before .all-climb .result) (c .before .before .all-climb .ensures)
 
 pub are-rooted-spec : {M : Type 1} → statement M

@@ -7,9 +7,11 @@ use Prim.Native.Nat.{_+_, _-_, _<_}
 use lib.ListN.{length}
 use Rattle.filesystem.specs.Layouts.{layout}
 use Rattle.image_records.specs.Records.{recordAt}
-use Rattle.image_reader.specs.Judged.{nodeOn, Placed}
+use Rattle.links.specs.Parents.{Placed}
+use Rattle.links.specs.laws.ParentLaws.{placed-none, placed-next, placed-less}
+use Rattle.image_reader.specs.Judged.{nodeOn}
 use Rattle.image_reader.specs.laws.PlaceLaws.{located-end, located-front, standing}
-use Rattle.image_reader.specs.laws.RootedLaws.{placed-none, placed-next, placed-less, not-placed, short-name}
+use Rattle.image_reader.specs.laws.RootedLaws.{not-placed, short-name}
 use borrow.Author.Needs.{needs}
 use Rattle.image_reader.proofs.place_parents.Statement.{statement}
 use Rattle.image_reader.proofs.place_parents.Tie as tie
@@ -64,8 +66,7 @@ returns c =
     let q = c .before .before .record-parent .ensures in (
       λ e. absurd (false≢true e),
       λ e t. not-placed (c .before .before .before .before .before .before .before .before .before .before .before .pre
-          .2) t (l .k) (l .inv .0) (omega arith) (c .before .find-directory .result) (omega arith)
-          (λ h. f .0 h .0 ∙ q) (λ h j b u. f .1 h j b (u ∙ sym q)),
+          .2) t (l .k) (l .inv .0) (omega arith) (λ j b u. f .1 (omega arith) j b (u ∙ sym q)),
     )
 
 record-name-requires : tie.Need-record-name-requires Inv-loop μ-loop
@@ -122,8 +123,7 @@ loop-again c =
       omega arith,
       placed-next node (l .to) (l .far) (a .n) (l .k) (f .result) (1 + length (c .record-name .result .now)) (l .inv .1)
           (omega (arith, p .2 .few)) h (f .ensures .0 h .0 ∙ c .before .before .before .record-parent .ensures)
-          (f .ensures .0 h .1) (omega arith)
-          (omega (arith, e)),
+          (f .ensures .0 h .1) (omega (arith, e)),
     )
 
 same-length-3 : tie.Need-same-length-3 Inv-loop μ-loop

@@ -12,6 +12,18 @@ use Rattle.lists.specs.Equal.{Is, isT, isF, is}
 use Rattle.filesystem.specs.Tables.{PATH-BYTES}
 use Rattle.links.specs.Climbs.{Leads, root, up, Linked, Alike, Reached}
 
+-- what holds of the value that is put into place k, and of each other value in its place
+pub set-ind : (P : ℕ → ℕ → Type 0) (xs : List ℕ) (k x : ℕ) → k < length xs → P k x → (j : ℕ)
+    → ((j ≡ k → ⊥) → P j (getD xs j 0))
+    → P j (getD (set xs k x) j 0)
+set-ind P xs k x h f j g = go (is (eqb j k))
+  where
+    go : Is (eqb j k) → P j (getD (set xs k x) j 0)
+    go (isT e) =
+        subst (λ i. P i (getD (set xs k x) i 0)) (sym (eqb-true j k e))
+        (subst (P k) (sym (getD-set-same xs k x 0 h)) f)
+    go (isF e) = let n = eqb-false j k e in subst (P j) (sym (getD-set-other xs k j x 0 n)) (g n)
+
 module _ {to far : List ℕ} where
   -- one step of a way
   pub step : {k b : ℕ} → Leads to far k b → 0 < k → (c : ℕ) × Leads to far (getD to k 0) c × (b ≡ getD far k 0 + c)
@@ -124,16 +136,9 @@ module _ (to far : List ℕ) (a l : ℕ) (v : Leads to far a l) (some : 0 < a) (
       few = d .few;
       to-size = length-set to a 0 ∙ d .to-size;
       far-size = length-set far a l ∙ d .far-size;
-      inside = λ k p b. inner k p b (is (eqb k a));
-      some = λ k p b. long k p b (is (eqb k a));
+      inside = λ k p b. set-ind (λ k x. x < n) to a 0 ht (omega arith) k (λ e. d .inside k p b);
+      some = λ k p b. set-ind (λ k x. 0 < x) far a l hf long k (λ e. d .some k p b);
     }
       where
-        inner : (k : ℕ) → 0 < k → k < n → Is (eqb k a) → getD to′ k 0 < n
-        inner k p b (isT e) = omega (arith, ap (λ x. getD to′ x 0) (eqb-true k a e), getD-set-same to a 0 0 ht)
-        inner k p b (isF e) = omega (arith, other-to k (eqb-false k a e), d .inside k p b)
-
-        long : (k : ℕ) → 0 < k → k < n → Is (eqb k a) → 0 < getD far′ k 0
-        long k p b (isT e) =
-            let (c, _, q) = step v some in
-            omega (arith, ap (λ x. getD far′ x 0) (eqb-true k a e), getD-set-same far a l 0 hf, d .some a some h, q)
-        long k p b (isF e) = omega (arith, other-far k (eqb-false k a e), d .some k p b)
+        long : 0 < l
+        long = let (c, _, q) = step v some in omega (arith, d .some a some h, q)

@@ -3,15 +3,20 @@
 use mathlib.Core.Path.{_≡_, refl, ap, sym, subst, _∙_}
 use mathlib.Core.List.{List, [], _∷_, _++_}
 use mathlib.Core.Option.{Option, some, none}
-use Prim.Native.Nat.{ℕ, _<_}
+use mathlib.Core.Bool.{false}
+use Prim.Native.Nat.{ℕ, _<_, _≤_}
 use native.Mathlib.Omega.{arith}
+use lib.Dec.{ltb}
 use lib.ListN.{length, drop}
+use borrow.Author.Tests.{ltb-false}
 use Rattle.lists.specs.Pick.{pick}
+use Rattle.lists.specs.Equal.{or-fst, or-snd}
 use Rattle.lists.specs.All.{all-tail, all-left}
+use Rattle.lists.specs.Search.{any}
 use Rattle.lists.specs.Checks.{Check, decide, Passed, First, decide-ind, decide-passed, decide-first, decide-append}
 use Rattle.lists.specs.Checks.{decide-map, check-passes, check-stops}
-use Rattle.filesystem.specs.Tables.{Node, Tables}
-use Rattle.filesystem.specs.Paths.{Path, readPath, tooLong, walk, walkChecks, parentChecks, parentOf}
+use Rattle.filesystem.specs.Tables.{NAME-BYTES, Node, Tables}
+use Rattle.filesystem.specs.Paths.{Path, readPath, tooLong, walk, walkChecks, parentChecks, parentOf, lastOf}
 use Rattle.filesystem.specs.PathLaws.{walk-place, walkChecks-parent, parent-place}
 use Rattle.rules.specs.Calls.{stat}
 use Rattle.rules.specs.Rules.{callChecks, isNone, reach}
@@ -87,7 +92,7 @@ unfolding wayOf
 way-at d (node j) k e q = (cc, cc)
 way-at d (refusedNode b) k e q = let z : _≡_ {A = ℕ} 0 1 = cc in absurd (omega arith)
 
-way-refused : (d : ℕ) (w : Walked) (b : ℕ) → wayOf d w ≡ refusedWay b → w ≡ refusedNode b
+pub way-refused : (d : ℕ) (w : Walked) (b : ℕ) → wayOf d w ≡ refusedWay b → w ≡ refusedNode b
 unfolding wayOf
 way-refused d (node j) b q = let z : _≡_ {A = ℕ} 0 1 = cc in absurd (omega arith)
 way-refused d (refusedNode c) b q = cc
@@ -142,11 +147,19 @@ pub record Reached (t : Tables) (s : List ℕ) (k : ℕ) : Type 0 where
   pub parent-within : parentOf (t .nodes) 0 (componentsOf s) < length (t .nodes)
 
 -- the directory that holds the end of a walk is there
-holder-place : (ns : List Node) (p : Path) → Passed (walkChecks ns 0 p) → 0 < length ns → parentOf ns 0 p < length ns
+pub holder-place : (ns : List Node) (p : Path) → Passed (walkChecks ns 0 p) → 0 < length ns
+    → parentOf ns 0 p < length ns
 holder-place ns [] a h = unfold parentOf in h
 holder-place ns (c ∷ cs) a h =
     parent-place ns 0 c cs (all-left (parentChecks ns 0 (c ∷ cs)) _ (subst (λ (l : List Check). Passed l)
     (walkChecks-parent ns 0 c cs) a)) h .0
+
+-- the last name of a path that is not too long is not either
+pub last-short : (p : Path) → any (λ c. ltb NAME-BYTES (length c)) p ≡ false → length (lastOf p) ≤ NAME-BYTES
+unfolding any lastOf
+last-short [] e = omega arith
+last-short (c ∷ []) e = ltb-false _ _ (or-fst _ _ e)
+last-short (c ∷ x ∷ cs) e = last-short (x ∷ cs) (or-snd (ltb NAME-BYTES (length c)) _ e)
 
 module _ (t : Tables) (s : List ℕ) where
   stat-first : (b : ℕ) → nodeFor t s stat ≡ refusedNode b → First b (formCheck s ∷ reach t (componentsOf s))

@@ -15,9 +15,9 @@ use Rattle.lists.specs.Checks.{decide-ind}
 use Rattle.filesystem.specs.Tables.{PAGE-BYTES, OpenFile, Tables, openAt, setCursor}
 use Rattle.filesystem.specs.Image.{Version}
 use Rattle.rules.specs.Calls.{Call, create, mkdir, openAs, close, seek, read, write, truncate, remove, rmdir, chmod}
-use Rattle.rules.specs.Calls.{readdir, stat, mapMemory, unmap, readCall}
+use Rattle.rules.specs.Calls.{readdir, stat, mapMemory, unmap, readCall, rename}
 use Rattle.rules.specs.Requests.{asked, Pending, idle, creating, opening, closing, removing, changing, listing, stating}
-use Rattle.rules.specs.Requests.{mapping, unmapping, reading, fetching, storing, cutting}
+use Rattle.rules.specs.Requests.{mapping, unmapping, reading, fetching, storing, cutting, renaming}
 use Rattle.rules.specs.Skeleton.{Config, Event, call, reply, save, load}
 use Rattle.rules.specs.Rules.{Move, refuse, halt, send, finish, add, delete, remap, readPage, begin, fillPage, stored}
 use Rattle.rules.specs.Rules.{cutDone, keepPages, giveUp, saving, loading, readAction, callAction, reasons, replyAction}
@@ -38,6 +38,7 @@ reads (asked (listing k)) = true
 reads (asked (stating k)) = true
 reads (asked (mapping n)) = false
 reads (asked (unmapping a)) = false
+reads (asked (renaming k p name)) = false
 reads (reading k o p n i) = true
 reads (fetching k o q i) = false
 reads (storing k o q i) = false
@@ -93,6 +94,7 @@ call-quiet t w (readdir p) h a = refl
 call-quiet t w (stat p) h a = refl
 call-quiet t w (mapMemory n) h a = absurd (false≢true h)
 call-quiet t w (unmap x) h a = absurd (false≢true h)
+call-quiet t w (rename p q) h a = absurd (false≢true h)
 
 reply-quiet : (w : ℕ) (t : Tables) (r : List ℕ) (p : Pending) → reads p ≡ true → All ReadsOnly (t .opens)
     → Quiet t (replyAction w t r p)
@@ -107,6 +109,7 @@ reply-quiet w t r (asked (listing k)) h a = (refl, a)
 reply-quiet w t r (asked (stating k)) h a = (refl, a)
 reply-quiet w t r (asked (mapping n)) h a = absurd (false≢true h)
 reply-quiet w t r (asked (unmapping x)) h a = absurd (false≢true h)
+reply-quiet w t r (asked (renaming k p name)) h a = absurd (false≢true h)
 reply-quiet w t r (reading k o p n i) h a = tt
 reply-quiet w t r (fetching k o q i) h a = absurd (false≢true h)
 reply-quiet w t r (storing k o q i) h a = absurd (false≢true h)
@@ -125,6 +128,7 @@ never-full w r (asked (listing k)) h = refl
 never-full w r (asked (stating k)) h = refl
 never-full w r (asked (mapping n)) h = refl
 never-full w r (asked (unmapping x)) h = refl
+never-full w r (asked (renaming k p name)) h = refl
 never-full w r (reading k o p n i) h = refl
 never-full w r (fetching k o q i) h = refl
 never-full w r (storing k o q i) h = absurd (false≢true h)

@@ -11,7 +11,7 @@ use Rattle.lists.specs.Checks.{Check, decide, decide-append, decide-map, check-
 use Rattle.filesystem.specs.Tables.{Tables}
 use Rattle.filesystem.specs.MemoryMaps.{Map}
 use Rattle.rules.specs.Calls.{Call, create, mkdir, openAs, close, seek, read, write, truncate, remove, rmdir, chmod}
-use Rattle.rules.specs.Calls.{readdir, stat, mapMemory, unmap, readCall}
+use Rattle.rules.specs.Calls.{readdir, stat, mapMemory, unmap, readCall, rename}
 use Rattle.rules.specs.Skeleton.{Config, Event, call, reply, save, load, Outcome}
 use Rattle.rules.specs.Rules.{refuse, callChecks, mapChecks, callOr, isNone, stoppedCheck, busyCheck, shortCheck}
 use Rattle.rules.specs.Rules.{eventChecks, eventAction, judge}
@@ -49,6 +49,7 @@ behind t ms (readdir p) = record { more = _; are = refl }
 behind t ms (stat p) = record { more = _; are = refl }
 behind t ms (mapMemory n) = record { more = _; are = refl }
 behind t ms (unmap a) = record { more = _; are = refl }
+behind t ms (rename p q) = record { more = _; are = refl }
 
 module _ (c : Config) where
   -- what the events that are taken come to, of what all come to

@@ -16,20 +16,20 @@ use Rattle.lists.specs.Checks.{decide}
 use Rattle.filesystem.specs.Paths.{Path, readPath, tooLong}
 use Rattle.filesystem.specs.Tables.{ID-BYTES, DATA-BYTES}
 use Rattle.rules.specs.Calls.{Call, create, mkdir, openAs, remove, rmdir, chmod, readdir, stat, byPath}
-use Rattle.rules.specs.Calls.{read, byNumberAndPath, byHandle, byHandleAndNumber, readFields, readCall}
+use Rattle.rules.specs.Calls.{rename, read, byNumberAndPath, byHandle, byHandleAndNumber, readFields, readCall}
 use Rattle.rules.specs.Rules.{callOr, isNone}
 use Rattle.call_reader.specs.declared.ParsedCall.{ParsedCall}
 use Rattle.call_reader.specs.declared.ParsedCall.the-variants.{ByPath, Close, Seek, Read, Write, Truncate}
-use Rattle.call_reader.specs.declared.ParsedCall.the-variants.{Map, Unmap, Malformed}
+use Rattle.call_reader.specs.declared.ParsedCall.the-variants.{Map, Unmap, Rename, Malformed}
 use Rattle.call_reader.specs.Meaning.{madeBy, meant, NumberFits}
 use Rattle.call_reader.specs.laws.FieldLaws.{kind-read}
 use Rattle.call_reader.specs.laws.KindLaws.{last-kind}
 use Rattle.call_reader.specs.laws.RestLaws.{rest}
 use Rattle.paths.specs.declared.PathForm.{PathForm}
 use Rattle.paths.specs.declared.PathForm.the-variants.{Malformed as Wrong, Long, Good}
-use Rattle.paths.specs.PathForms.{lengthForm, pathForm, formOf}
+use Rattle.paths.specs.PathForms.{lengthForm, pathForm, formOf, worse, formsOf}
 use Rattle.read_only.specs.ReadOnly.{takesCall, lengthChecks}
-use Rattle.read_only_calls.specs.Refusals.{takesByPath, takesParsed, numberOfForm, pathNumber, formNumber, Taken}
+use Rattle.read_only_calls.specs.Refusals.{takesByPath, takesParsed, numberOfForm, formNumber, Taken}
 
 -- what holds of each call by path holds of the one that is made
 made-ind : (F : Call → Type 0) (k n : ℕ) (p : Path) → F (create n p) → F (mkdir n p) → F (openAs n p) → F (remove p)
@@ -97,9 +97,36 @@ module _ (k n : ℕ) (no : takesByPath k n ≡ false) where
       ap₂′ x y = λ i. decide (λ m. m) (x i ++ ((30, y i) ∷ [])) 0
 
   pub path-refused : (start : ℕ) (s : List ℕ)
-      → pathNumber (take (length s - start) (drop start s)) ≡ formNumber (meant (ByPath k n start) s)
+      → numberOfForm (formOf (take (length s - start) (drop start s))) ≡ formNumber (meant (ByPath k n start) s)
   unfolding meant byPath formOf
-  path-refused start s = ap pathNumber (rest s start) ∙ at-path (readPath (drop start s))
+  path-refused start s = ap (λ t. numberOfForm (formOf t)) (rest s start) ∙ at-path (readPath (drop start s))
+
+-- both paths of a rename tell its number
+at-paths : (o r : Option Path) → numberOfForm (worse (pathForm o) (pathForm r))
+    ≡ formNumber (bind o (λ p. bind r (λ q. some (rename p q))))
+unfolding pathForm lengthForm worse numberOfForm formNumber isNone callOr lengthChecks takesCall bind decide pick
+at-paths none r = refl
+at-paths (some p) none = go (tooLong p)
+  where
+    go : (b : Bool) → numberOfForm (worse (lengthForm b) Wrong) ≡ 22
+    go true = refl
+    go false = refl
+at-paths (some p) (some q) = go (tooLong p) (tooLong q)
+  where
+    go : (a b : Bool) → numberOfForm (worse (lengthForm a) (lengthForm b))
+        ≡ decide (λ m. m) ((36, a) ∷ (36, b) ∷ (30, true) ∷ []) 0
+    go true true = refl
+    go true false = refl
+    go false true = refl
+    go false false = refl
+
+pub rename-refused : (second : ℕ) (s : List ℕ)
+    → numberOfForm (formsOf (take (second - 2) (drop 2 s)) (take (length s - second) (drop second s)))
+    ≡ formNumber (meant (Rename second) s)
+unfolding meant byPath formOf
+rename-refused second s =
+    ap (λ t. numberOfForm (formsOf (take (second - 2) (drop 2 s)) t)) (rest s second)
+    ∙ at-paths (readPath (take (second - 2) (drop 2 s))) (readPath (drop second s))
 
 -- a call that goes the guard's way is taken, or no call
 pub parsed-taken : (p : ParsedCall) (s : List ℕ) → takesParsed p ≡ true → takesCall (callOr (meant p s)) ≡ true
@@ -116,6 +143,7 @@ parsed-taken (Write x start) s h = absurd (false≢true h)
 parsed-taken (Truncate x n) s h = absurd (false≢true h)
 parsed-taken (Map n) s h = absurd (false≢true h)
 parsed-taken (Unmap a) s h = absurd (false≢true h)
+parsed-taken (Rename second) s h = absurd (false≢true h)
 parsed-taken Malformed s h = refl
 
 -- any other that has no path is refused 30
@@ -128,6 +156,7 @@ NoPath (Write x start) = Unit {0}
 NoPath (Truncate x n) = Unit {0}
 NoPath (Map n) = Unit {0}
 NoPath (Unmap a) = Unit {0}
+NoPath (Rename second) = ⊥
 NoPath Malformed = Unit {0}
 
 pub other-refused : (p : ParsedCall) (s : List ℕ) → takesParsed p ≡ false → NoPath p → 30 ≡ formNumber (meant p s)
@@ -140,6 +169,7 @@ other-refused (Write a start) s h x = refl
 other-refused (Truncate a n) s h x = refl
 other-refused (Map n) s h x = refl
 other-refused (Unmap a) s h x = refl
+other-refused (Rename second) s h x = absurd x
 other-refused Malformed s h x = absurd (true≢false h)
 
 -- no number is 0

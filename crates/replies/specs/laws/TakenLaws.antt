@@ -15,7 +15,7 @@ use Rattle.lists.specs.Search.{without}
 use Rattle.lists.specs.Checks.{Check, Passed, decide, decide-append}
 use Rattle.filesystem.specs.Tables.{ID-BYTES, Node, Tables, freshTables}
 use Rattle.rules.specs.Requests.{asked, Pending, idle, creating, opening, closing, removing, changing, listing, stating}
-use Rattle.rules.specs.Requests.{reading, fetching, storing, cutting, mapping, unmapping}
+use Rattle.rules.specs.Requests.{reading, fetching, storing, cutting, mapping, unmapping, renaming}
 use Rattle.rules.specs.Skeleton.{Config, done, answerBytes, answerLength, atFront}
 use Rattle.rules.specs.Rules.{Move, refuse, halt, send, finish, add, delete, remap, readPage, begin, fillPage, stored}
 use Rattle.rules.specs.Rules.{cutDone, keepPages, giveUp, saving, loading, lengthCheck, replyChecks, replyAction}
@@ -65,6 +65,7 @@ positive t r (asked (listing k)) = both refl none
 positive t r (asked (stating k)) = both refl (both refl none)
 positive t r (asked (mapping n)) = both refl none
 positive t r (asked (unmapping a)) = both refl (both refl none)
+positive t r (asked (renaming k p name)) = both refl (both refl none)
 positive t r (reading k o p n i) = both refl none
 positive t r (fetching k o q i) = both refl none
 positive t r (storing k o q i) = both refl (both refl none)
@@ -102,6 +103,7 @@ no-map-reason w t ms r (asked (listing k)) h = refl
 no-map-reason w t ms r (asked (stating k)) h = refl
 no-map-reason w t ms r (asked (mapping n)) h = absurd (true≢false h)
 no-map-reason w t ms r (asked (unmapping a)) h = refl
+no-map-reason w t ms r (asked (renaming k p name)) h = refl
 no-map-reason w t ms r (reading k o p n i) h = refl
 no-map-reason w t ms r (fetching k o q i) h = refl
 no-map-reason w t ms r (storing k o q i) h = refl

@@ -28,6 +28,11 @@ accept-page-requires c κs =
           arith,
     )
 
+accept-rename-requires : tie.Need-accept-rename-requires
+accept-rename-requires c κs =
+    let k = c .before in
+    (sym (ap (λ (x : Guard). x .call) (k .before .load .ensures)) ∙ k .match .keys4, omega arith)
+
 accept-change-requires : tie.Need-accept-change-requires
 accept-change-requires c κs =
     let i = c .before in (
@@ -43,7 +48,7 @@ accept-page-change-requires c κs =
     let i = c .before .before in
     let k = i .before .before .before in
     let r = k .match .rest in
-    let from = above-three 6 _ (i .before .if2 .left) (r .0 .0 .1) (r .0 .1) (r .1) in (
+    let from = above-three 6 _ (i .before .if2 .left) (r .0 .0 .0 .1) (r .0 .0 .1) (r .0 .1) in (
       ap (λ (x : Guard). x .call) (k .before .load .ensures),
       from,
       omega (arith, i .if3 .taken),
@@ -91,6 +96,14 @@ returns-3 c =
 
 returns-4 : tie.Need-returns-4
 returns-4 c =
+    let a = c .before .before .before .before .before .before .before .before .before .before .before .args in (
+      λ d h w held low high wide. sends-leaves d _ _ _ _ _ (c .before .before .accept-rename .ensures .0 d h w held
+          (a .request .now)) (a .answer .now),
+      omega arith,
+    )
+
+returns-5 : tie.Need-returns-5
+returns-5 c =
     let p = c .before .before in
     let l = p .before .before .before .before .before in
     let a = l .before .before .before .before .before .before .args in (
@@ -99,8 +112,8 @@ returns-4 c =
       omega arith,
     )
 
-returns-5 : tie.Need-returns-5
-returns-5 c =
+returns-6 : tie.Need-returns-6
+returns-6 c =
     let p = c .before .before .before .before in
     let l = p .before .before .before .before .before .before .before in
     let a = l .before .before .before .before .before .before .args in (
@@ -109,8 +122,8 @@ returns-5 c =
       omega arith,
     )
 
-returns-6 : tie.Need-returns-6
-returns-6 c =
+returns-7 : tie.Need-returns-7
+returns-7 c =
     let p = c .before .before in
     let l = p .before .before .before .before .before .before .before in
     let a = l .before .before .before .before .before .before .args in (
@@ -119,14 +132,14 @@ returns-6 c =
       omega arith,
     )
 
-returns-7 : tie.Need-returns-7
-returns-7 c =
+returns-8 : tie.Need-returns-8
+returns-8 c =
     let l = c .before .before in
     let e = ap (λ (x : Guard). x .call) (l .load .ensures) in
     (λ d h w held low high wide. absurd (omega (arith, e, low, c .if1 .taken)), refl)
 
-returns-8 : tie.Need-returns-8
-returns-8 c =
+returns-9 : tie.Need-returns-9
+returns-9 c =
     let l = c .before .before .before .before .before in
     let e = ap (λ (x : Guard). x .call) (l .load .ensures) in
     (λ d h w held low high wide. absurd (omega (arith, e, high, c .if4 .left)), refl)
@@ -134,9 +147,9 @@ returns-8 c =
 pub accept-reply-spec : {M : Type 1} → statement M
 accept-reply-spec =
     tie.close (tie.spec (λ c κs. search needs) accept-listing-requires accept-stat-requires accept-page-requires
-    accept-change-requires accept-page-change-requires accept-on-maps-requires
+    accept-rename-requires accept-change-requires accept-page-change-requires accept-on-maps-requires
     (λ c. search needs) (λ c. search needs) returns (λ c. search needs) (λ c. search needs) returns-2
     (λ c. search needs) (λ c. search needs)
-    (λ c. search needs) returns-3 (λ c. search needs) returns-4 (λ c. search needs) (λ c. search needs) returns-5
-    (λ c. search needs) returns-6
-    (λ c. search needs) returns-7 (λ c. search needs) returns-8)
+    (λ c. search needs) returns-3 (λ c. search needs) returns-4 (λ c. search needs) returns-5 (λ c. search needs)
+    (λ c. search needs) returns-6 (λ c. search needs) returns-7 (λ c. search needs) returns-8 (λ c. search needs)
+    returns-9)

@@ -72,22 +72,30 @@ module _ (m : Mem) (n o : ℕ) where
       ∙ divide-without ns k (omega arith) (m .digests) (s .first) (s .end) (p .begins ∙ ap pageTotal (sym c)) (p .ends
       ∙ ap (λ (x : Node). s .first + pagesFor (x .size)) (sym d)) (rw (p .all) at t))
 
-  -- what is staged, the mode of a node, the cursor of an open file
+  -- what is staged, a node, the cursor of an open file
   pub view-stage : (s : List ℕ) → viewOf n o (withStaged s m) ≡ withStaging s (viewOf n o m)
   unfolding viewOf
   view-stage s = refl
 
-  pub view-mode : (k x : ℕ) → k < n → viewOf n o (withNodes (setMode (m .nodes) k x) m) ≡ modeAt k x (viewOf n o m)
-  unfolding viewOf setMode nodeAt
-  view-mode k x h =
+  -- a node that keeps its size
+  pub view-node : (k : ℕ) (f : Node → Node) → ((z : Node) → f z .size ≡ z .size) → k < n
+      → viewOf n o (withNodes (set (m .nodes) k (f (nodeAt (m .nodes) k))) m)
+      ≡ withFiles (set (viewOf n o m .nodes) k (f (nodeAt (viewOf n o m .nodes) k))) (viewOf n o m .contents)
+      (viewOf n o m)
+  unfolding viewOf nodeAt
+  view-node k f q h =
       let ns = take n (m .nodes) in
-      let y = withMode x (getD ns k noNode) in
-      let e : take n (set (m .nodes) k (withMode x (getD (m .nodes) k noNode))) ≡ set ns k y =
-      take-set-lt n (m .nodes) k (withMode x (getD (m .nodes) k noNode)) h ∙ ap (λ (z : Node). set ns k (withMode x z))
+      let y = f (getD ns k noNode) in
+      let e : take n (set (m .nodes) k (f (getD (m .nodes) k noNode))) ≡ set ns k y =
+      take-set-lt n (m .nodes) k (f (getD (m .nodes) k noNode)) h ∙ ap (λ (z : Node). set ns k (f z))
       (sym (getD-take n (m .nodes) k noNode h)) in
       ap₂ (λ a b. withFiles a b (viewOf n o m)) e
       (ap (λ a. divide a (m .digests)) e ∙ divide-sizes (set ns k y) ns (m .digests)
-      (map-set-same (λ (z : Node). z .size) ns k y noNode refl))
+      (map-set-same (λ (z : Node). z .size) ns k y noNode (q (getD ns k noNode))))
+
+  pub view-mode : (k x : ℕ) → k < n → viewOf n o (withNodes (setMode (m .nodes) k x) m) ≡ modeAt k x (viewOf n o m)
+  unfolding setMode
+  view-mode k x h = view-node k (withMode x) (λ z. refl) h
 
   pub view-cursor : (k x : ℕ) → k < o → viewOf n o (withOpens (setCursor (m .opens) k x) m) ≡ cursorAt k x
       (viewOf n o m)

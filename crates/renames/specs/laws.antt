@@ -1,0 +1,4 @@
+pub mod NameLaws
+pub mod WalkLaws
+pub mod BegunLaws
+pub mod RenamedLaws
