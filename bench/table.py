@@ -30,6 +30,15 @@ EXPLAINED = {
         "1.36 to 1.47 in eight runs of five builds, 1.14 in one of a build before, at 1.03 to 1.06 of the instructions;"
         " the cause was not found"
     ),
+    "rename a directory of 253": (
+        "15,878 of 16,685 instructions are in the call's entry, into which the climbs are compiled: some 9,300 of them"
+        " for the place of every node's parent, as where 22 ends it, the rest for the climb of all; plain C's were not"
+        " taken apart"
+    ),
+    "refused 22, under itself": (
+        "1.31 in one run, at 1.24 of the instructions: 9,339 of 15,697 are the parents of all nodes and one climb; plain"
+        " C's were not taken apart"
+    ),
     "save, 23 bytes": (
         "not in every run: 1.15, 1.04 and 1.10 in three of one build, at 1.01 of the instructions; the cause"
         " was not found"
