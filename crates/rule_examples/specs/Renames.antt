@@ -50,8 +50,8 @@ abbrev own : String → String → Row
 own t p = row t w (rename p p ⇒ isDone 0 nothing then holds items opens then says 0 ⇒ isRefused 61 then end)
 
 -- a call of these bytes behind the kind
-abbrev slip : String → List ℕ → ℕ → Row
-slip t b n = one t w (callOf (16 ∷ b)) (isRefused n)
+abbrev refusedBytes : String → List ℕ → ℕ → Row
+refusedBytes t b n = one t w (callOf (16 ∷ b)) (isRefused n)
 
 -- 255 bytes of path, and 256: no component is over 32
 abbrev seven : String
@@ -96,19 +96,19 @@ turned = root ∷ folder 2 3 7 "n" ∷ folder 3 1 7 "e" ∷ file 4 2 7 "f" (7 �
 abbrev pub rows : List Row
 rows =
     -- the length of the first path (1), that path, the second (SPECIFICATION 4.1, 4.2)
-    slip "22: no byte" [] 22
-    ∷ slip "22: a length alone" (2 ∷ []) 22
-    ∷ slip "22: a first path of no byte" (0 ∷ bytesOf "/a") 22
-    ∷ slip "22: a length of 0 alone" (0 ∷ []) 22
-    ∷ slip "22: a first path past the end" (3 ∷ bytesOf "/a") 22
-    ∷ slip "22: a length of 255, past the end" (255 ∷ bytesOf "/a/n") 22
-    ∷ slip "22: a first path to the end" (2 ∷ bytesOf "/a") 22
-    ∷ slip "22: a first path of two to the end" (4 ∷ bytesOf "/a/n") 22
-    ∷ slip "22: the second begins in a name" (1 ∷ bytesOf "/a/n") 22
-    ∷ slip "22: the first ends in /" (3 ∷ bytesOf "/a/n") 22
+    refusedBytes "22: no byte" [] 22
+    ∷ refusedBytes "22: a length alone" (2 ∷ []) 22
+    ∷ refusedBytes "22: a first path of no byte" (0 ∷ bytesOf "/a") 22
+    ∷ refusedBytes "22: a length of 0 alone" (0 ∷ []) 22
+    ∷ refusedBytes "22: a first path past the end" (3 ∷ bytesOf "/a") 22
+    ∷ refusedBytes "22: a length of 255, past the end" (255 ∷ bytesOf "/a/n") 22
+    ∷ refusedBytes "22: a first path to the end" (2 ∷ bytesOf "/a") 22
+    ∷ refusedBytes "22: a first path of two to the end" (4 ∷ bytesOf "/a/n") 22
+    ∷ refusedBytes "22: the second begins in a name" (1 ∷ bytesOf "/a/n") 22
+    ∷ refusedBytes "22: the first ends in /" (3 ∷ bytesOf "/a/n") 22
     ∷ passes "the length parts them" w (callOf (16 ∷ 2 ∷ bytesOf "/b/n"))
     ∷ passes "the length parts them: later" w (callOf (16 ∷ 4 ∷ bytesOf "/a/f/n"))
-    ∷ slip "the length parts them: earlier" (2 ∷ bytesOf "/a/f/n") 2
+    ∷ refusedBytes "the length parts them: earlier" (2 ∷ bytesOf "/a/f/n") 2
     -- the form of both paths
     ∷ no "22: a first path without its first /" "a" "/n" 22
     ∷ no "22: a second path without its first /" "/b" "n" 22

@@ -2,17 +2,15 @@
 
 use native.Mathlib.Omega.{arith}
 use mathlib.Core.Path.{_≡_, refl, ap, _∙_}
-use lib.ListN.{length, set, take}
-use Rattle.lists.specs.PartLaws.{take-overwrite}
+use lib.ListN.{length, set}
 use Rattle.lists.specs.Parts.{overwrite}
 use mathlib.Core.List.{List}
-use Prim.Native.Nat.{ℕ, _+_, _%_}
-use Rattle.filesystem.specs.Tables.{DATA-BYTES}
+use Prim.Native.Nat.{ℕ}
 use Rattle.memory.specs.Layout.{memOf, withHead, withStaged}
 use Rattle.rules.specs.Requests.{asked, creating}
 use Rattle.guard_state.specs.State.{numbersOf, clearedHead, pendings, pendingIn, gatheredIn, gatheredNone}
 use Rattle.guard_state.specs.State.{stagedBytes}
-use Rattle.guard_state.specs.laws.WaitLaws.{kept, staged-waits}
+use Rattle.guard_state.specs.laws.WaitLaws.{staged-name, staged-waits}
 use borrow.Author.Needs.{needs}
 use Rattle.guard_state.proofs.wait_create.Statement.{statement}
 use Rattle.guard_state.proofs.wait_create.Tie as tie
@@ -39,12 +37,8 @@ returns c =
       k .clear .ensures .0,
       s .stage .ensures .0,
     ) in
-    let t : take (length (a .name .now)) (overwrite (z .staged) 0 (a .name .now)) ≡ a .name .now = take-overwrite
-    (z .staged) 0 (a .name .now) (length (a .name .now)) (omega arith) (omega arith) in
-    let n : length (a .name .now) % (DATA-BYTES + 1) ≡ length (a .name .now) = kept _ (DATA-BYTES + 1)
-    (omega (arith, s .before .before .before .before .pre .0)) in
     let f = ap (λ (x : List ℕ). asked (creating (a .parent) (a .kind) (a .mode) x))
-    (ap (λ (i : ℕ). take i (overwrite (z .staged) 0 (a .name .now))) n ∙ t) in (
+    (staged-name (z .staged) (a .name .now) (s .before .before .before .before .pre .0)) in (
       λ q. staged-waits q (a .m .now) _ _ (overwrite (z .staged) 0 (a .name .now)) e refl refl refl
           (asked (creating (a .parent) (a .kind) (a .mode) (a .name .now))) gatheredNone refl f refl,
       omega arith,

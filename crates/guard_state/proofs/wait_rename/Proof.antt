@@ -1,18 +1,17 @@
 -- `guard_state::wait_rename` meets its contract. Assumes nothing.
 
 use native.Mathlib.Omega.{arith}
-use mathlib.Core.Path.{_≡_, refl, ap, ap₂, _∙_}
-use lib.ListN.{length, set, take}
-use Rattle.lists.specs.PartLaws.{take-overwrite}
+use mathlib.Core.Path.{_≡_, refl, ap₂, _∙_}
+use lib.ListN.{length, set}
 use Rattle.lists.specs.Parts.{overwrite}
 use mathlib.Core.List.{List}
-use Prim.Native.Nat.{ℕ, _+_, _%_}
-use Rattle.filesystem.specs.Tables.{NODES, DATA-BYTES}
+use Prim.Native.Nat.{ℕ, _%_}
+use Rattle.filesystem.specs.Tables.{NODES}
 use Rattle.memory.specs.Layout.{memOf, withHead, withStaged}
 use Rattle.rules.specs.Requests.{asked, renaming}
 use Rattle.guard_state.specs.State.{numbersOf, clearedHead, pendings, pendingIn, gatheredIn, gatheredNone}
 use Rattle.guard_state.specs.State.{stagedBytes}
-use Rattle.guard_state.specs.laws.WaitLaws.{kept, staged-waits}
+use Rattle.guard_state.specs.laws.WaitLaws.{kept, staged-name, staged-waits}
 use borrow.Author.Needs.{needs}
 use Rattle.guard_state.proofs.wait_rename.Statement.{statement}
 use Rattle.guard_state.proofs.wait_rename.Tie as tie
@@ -37,13 +36,9 @@ returns c =
       k .clear .ensures .0,
       s .stage .ensures .0,
     ) in
-    let t : take (length (a .name .now)) (overwrite (z .staged) 0 (a .name .now)) ≡ a .name .now = take-overwrite
-    (z .staged) 0 (a .name .now) (length (a .name .now)) (omega arith) (omega arith) in
-    let n : length (a .name .now) % (DATA-BYTES + 1) ≡ length (a .name .now) = kept _ (DATA-BYTES + 1)
-    (omega (arith, s .before .before .before .before .pre .1)) in
     let k : a .node % NODES ≡ a .node = kept _ NODES (s .before .before .before .before .pre .0) in
     let f = ap₂ (λ (j : ℕ) (x : List ℕ). asked (renaming j (a .parent) x)) k
-    (ap (λ (i : ℕ). take i (overwrite (z .staged) 0 (a .name .now))) n ∙ t) in (
+    (staged-name (z .staged) (a .name .now) (s .before .before .before .before .pre .1)) in (
       λ q. staged-waits q (a .m .now) _ _ (overwrite (z .staged) 0 (a .name .now)) e refl refl refl
           (asked (renaming (a .node) (a .parent) (a .name .now))) gatheredNone refl f refl,
       omega arith,

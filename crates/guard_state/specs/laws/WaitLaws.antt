@@ -8,7 +8,9 @@ use native.Mathlib.Omega.{arith}
 use lib.Dec.{eqb}
 use lib.ListN.{length, getD, take, drop, set}
 use Rattle.lists.specs.Cells.{tab}
-use Rattle.filesystem.specs.Tables.{NODES, root, pagesFor}
+use Rattle.lists.specs.Parts.{overwrite}
+use Rattle.lists.specs.PartLaws.{take-overwrite}
+use Rattle.filesystem.specs.Tables.{NODES, NAME-BYTES, DATA-BYTES, root, pagesFor}
 use Rattle.filesystem.specs.MemoryMaps.{MAPS}
 use Rattle.filesystem.specs.Image.{divide}
 use Rattle.memory.specs.Layout.{Mem, memOf, headNumbers, openRows, withHead, withNodes, withStaged}
@@ -25,6 +27,12 @@ use Rattle.guard_state.specs.Waits.{waits, ends, stops, remaps, restingS
 -- a number within its limit is read as it is
 pub kept : (x n : ℕ) → x < n → x % n ≡ x
 kept x n h = mod-eq-of-lt h
+
+-- a name that was staged, by the length under `bytes`
+pub staged-name : (s x : List ℕ) → length x ≤ NAME-BYTES → take (length x % (DATA-BYTES + 1)) (overwrite s 0 x) ≡ x
+staged-name s x h =
+    ap (λ (n : ℕ). take n (overwrite s 0 x)) (kept (length x) (DATA-BYTES + 1) (omega arith))
+    ∙ take-overwrite s 0 x (length x) (omega arith) (omega arith)
 
 -- the first n numbers, one by one
 pub head-cells : (n : ℕ) (h : List ℕ) → n ≤ length h → h ≡ tab n (λ i. getD h i 0) ++ drop n h
