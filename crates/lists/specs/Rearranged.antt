@@ -56,7 +56,7 @@ module _ {A : Type 0} where
 module _ {A : Type 0} where
   put_back : {x : A} {xs ys zs : List A} → Inserted x ys zs → Rearranged ys xs → Rearranged zs (x ∷ xs)
   put_back front r = cons r front
-  put_back (behind i) (cons r j) = cons (put_back i r) (behind j)
+  put_back {x = x} {xs = xs} (behind {y = y} {xs = xs'} {ys = ys} i) (cons {ys = ys'} r j) = cons (put_back {xs = ys'} i r) (behind j)
 
   pub rearranged_sym : {xs ys : List A} → Rearranged xs ys → Rearranged ys xs
   rearranged_sym nil = nil
@@ -66,7 +66,7 @@ module _ {A : Type 0} where
   swapped : {x y : A} {ks ls ms : List A} → Inserted x ks ls → Inserted y ls ms → (ns : List A) × Inserted y ks ns × Inserted x ns ms
   swapped i front = (_, front, behind i)
   swapped front (behind j) = (_, j, front)
-  swapped (behind i) (behind j) = let (ns, a, b) = swapped i j in (_, behind a, behind b)
+  swapped {x = x} {y = y} (behind {y = y'} {xs = xs} i) (behind {xs = xs'} {ys = ys} j) = let (ns, a, b) = swapped {ks = xs} i j in (_, behind a, behind b)
 
   taken_out : {x : A} {xs ys zs : List A} → Inserted x xs ys → Rearranged ys zs → (ws : List A) × Inserted x ws zs × Rearranged xs ws
   taken_out front (cons r i) = (_, i, r)

@@ -93,6 +93,7 @@ module _ (c : Config) (fit : Fit c) where
       go : {cs : List Check} → Passed cs → First n cs → ⊥
       go (both e p) here = true≢false e
       go (both e p) (later f) = go p f
+      go all_none f = elim f [ ]
 
   abbrev Calm : Result (tree c) → Type 0
   Calm r = NoStop r.outcome

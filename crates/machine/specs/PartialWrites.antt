@@ -197,7 +197,7 @@ module _ (c : Config) (S : Store) (s : State S) (k o : ℕ) where
     past_run : {n : ℕ} {x : State S} → Past n x → (es : List Event) → AllAsk (outcomes c S x es) → Past n (final c S x es)
     unfolding outcomes final
     past_run h [] a = h
-    past_run h (e ∷ es) (both a b) = past_run (past_step h e a) es b
+    past_run {n = n} {x = x} h (e ∷ es) (both a b) = past_run {x = (step c S x e).state} (past_step h e a) es b
 
     past_storing : {n : ℕ} {x : State S} → Past n x → (m : ℕ) → x.skeleton.pending ≡ storing k o whole m → n ≤ m
     past_storing (past_fetch a j l) m e = absurd (let z : ◌≡◌ {A = ℕ} 0 1 = cc in omega arith)
@@ -284,7 +284,7 @@ module _ (c : Config) (S : Store) (s : State S) (k o : ℕ) where
         comes : {u v : State S} → Together u v → (ws : List Event) → Comes u v ws
         unfolding outcomes final
         comes t [] q e f = last_page t q e f
-        comes t (g ∷ ws) (both q z) e f = beside_comes ws (λ u v t. comes t ws) (step-beside t g q) z e f
+        comes {u = u'} {v = v'} t (g ∷ ws) (both q z) e f = beside_comes ws (λ u v t'. comes {u = u} {v = v} t' ws) (step-beside t g q) z e f
 
         -- from the moment on at which the two writes begin
         pub begun_comes : (ws : List Event)

@@ -44,19 +44,20 @@ Reason ch = is_reason ch.0 ≡ true
 pub first-has : {F : Check → Type 0} {n : ℕ} {cs : List Check} → All F cs → First n cs → F (n, true)
 first-has (both f a) here = f
 first-has (both f a) (First.later h) = first-has a h
+first-has {F = F} {n = n} all_none h = elim h [ ]
 
 -- a walk has the numbers 20, 13 and 2
 module _ (F : Check → Type 0) (folder : (b : Bool) → F (20, b)) (bit : (b : Bool) → F (13, b)) (there : (b : Bool) → F (2, b)) where
   all_walk : (ns : List Node) (d : ℕ) (p : Path) → All F (walk_checks ns d p)
   unfolding walk_checks
   all_walk ns d [] = all_none
-  all_walk ns d (c ∷ cs) = both (folder _) (both (bit _) (both (there _) (all_walk ns _ cs)))
+  all_walk ns d (c ∷ cs) = both (folder _) (both (bit _) (both (there _) (all_walk ns (child_at ns d c) cs)))
 
   all_parent : (ns : List Node) (d : ℕ) (p : Path) → All F (parent_checks ns d p)
   unfolding parent_checks
   all_parent ns d [] = all_none
   all_parent ns d (c ∷ []) = both (folder _) (both (bit _) all_none)
-  all_parent ns d (c ∷ x ∷ cs) = both (folder _) (both (bit _) (both (there _) (all_parent ns _ (x ∷ cs))))
+  all_parent ns d (c ∷ x ∷ cs) = both (folder _) (both (bit _) (both (there _) (all_parent ns (child_at ns d c) (x ∷ cs))))
 
 -- Every number of the rules is in the table.
 abbrev Known : Check → Type 0

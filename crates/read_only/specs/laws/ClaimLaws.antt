@@ -87,7 +87,7 @@ module _ (c : Config) where
       let o = (read_only_step c G g e).outcome in (
         q,
         subst (λ y. Gives c y e o) q (save_gives g e),
-        as_loaded _ (read_only_step c G g e).state (read_only-reads c G g l e)
+        as_loaded (last_loaded x e (read_only_step c G g e).outcome) (read_only_step c G g e).state (read_only-reads c G g l e)
             (image_follows g l e b ∙ ap (λ y. last_loaded y e o) q) es bs,
       )
 

@@ -56,7 +56,7 @@ module _ (c : Config) where
       let here : x.outcome ≡ r.outcome = cc in
       let rest : answers xs ≡ read_only_outcomes c (guard c) r.state (events xs) = cc in
       subst (λ o. Gives c image x.event o × SavesAsLoaded c (last_loaded image x.event o) xs) (sym here)
-      (gives, seen_as-loaded _ r.state xs more rest)
+      (gives, seen_as-loaded (last_loaded image x.event (read_only_step c (guard c) g x.event).outcome) r.state xs more rest)
 
   pub saves_as_loaded : (xs : List Seen) → BytesSeen xs
       → answers xs ≡ read_only_outcomes c (guard c) (fresh c (guard c)) (events xs)
