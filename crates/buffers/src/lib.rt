@@ -1,4 +1,6 @@
 // Strings of bytes in buffers: compared, written over a part, moved within one.
+#![tactic(auto)]
+
 ghost use Rattle.std.specs.Prelude.{◌≡◌, ◌+◌, ◌≤◌, length};
 ghost use Rattle.lists.specs.Equal.{equal};
 ghost use Rattle.lists.specs.Parts.{part};
@@ -114,7 +116,7 @@ pub fn put_bytes(m: &mut [u8], at: usize, x: &[u8])
     ensures { Overwritten m at x.now }
 {
     let end = at + x.len();
-    bytes::copy(x, &mut m[at..end]);
+    m[at..end].copy_from_slice(x);
 }
 
 // The same for eight to sixteen bytes: the first eight and the last eight.

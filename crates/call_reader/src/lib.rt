@@ -12,7 +12,7 @@ ghost use Rattle.call_reader.specs.Meaning.{made_by, meant, NumberFits, Ranges};
 use limits::kinds;
 
 // What a call's bytes say; `Malformed` where the kind, a length or a number is wrong (22).
-#[derive(Drop)]
+#[derive(Clone, Copy)]
 pub enum ParsedCall {
     // create, mkdir, open, remove, rmdir, chmod, readdir, stat: the kind byte, the mode or the rights (0 where there
     // are none), and where the path begins.

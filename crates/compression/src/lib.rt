@@ -1,5 +1,7 @@
 // SHA-256's compression function: one block of 64 bytes into the hash value. Each contract cites the standard's own
 // definition, specs/Compression.antt.
+#![tactic(auto)]
+
 ghost use Rattle.std.specs.Prelude.{◌≡◌, ◌+◌, ◌≤◌, length};
 ghost use Rattle.compression.specs.Compression.{block, round, sum, compress};
 ghost use Rattle.compression.specs.Windows.{sixteen, Rolling};
@@ -13,7 +15,7 @@ mod schedule;
 mod words;
 
 // The eight working variables, or the eight words of a hash value.
-#[derive(Drop)]
+#[derive(Clone, Copy)]
 pub struct State {
     pub a: u32,
     pub b: u32,
@@ -26,7 +28,7 @@ pub struct State {
 }
 
 // Sixteen words of the message schedule, one after the other.
-#[derive(Drop)]
+#[derive(Clone, Copy)]
 pub struct Window {
     pub w0: u32,
     pub w1: u32,
@@ -47,7 +49,7 @@ pub struct Window {
 }
 
 // A state, and the sixteen words of the schedule that come next.
-#[derive(Drop)]
+#[derive(Clone, Copy)]
 pub struct Rolled {
     pub state: State,
     pub words: Window,

@@ -47,7 +47,7 @@ pub fn answer_line(memory: &mut [u8], line: &[u8], out: &mut [u8]) -> usize
 // ---- lines one after another
 
 // How far the lines that were answered reach in the text, and how much of out their answers fill.
-#[derive(Drop)]
+#[derive(Clone, Copy)]
 pub struct Answered {
     pub at: usize,
     pub filled: usize,

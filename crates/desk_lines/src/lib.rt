@@ -19,7 +19,7 @@ pub const LINE_READ: usize = 2 + 2 * EVENT_BYTES;
 pub const LINE_WRITTEN: usize = 29 + 2 * EVENT_BYTES;
 
 // A line, and how many bytes it has put to the front of the buffer.
-#[derive(Drop)]
+#[derive(Clone, Copy)]
 pub enum Line {
     Call(usize),
     Reply(usize),

@@ -11,7 +11,7 @@ const TOO_LONG: usize = desk_lines::LINE_READ + 1;
 const TEXT: usize = 65536;
 
 // How many bytes at the front of the text are a line's that has not ended; whether there may be more input.
-#[derive(Drop)]
+#[derive(Clone, Copy)]
 struct Rest {
     kept: usize,
     open: bool,

@@ -6,7 +6,7 @@ use compression::State;
 use libc::{STDIN_FILENO, STDOUT_FILENO};
 
 // How the reading stands: more to come, all read and the last `count` bytes in the buffer, or a failed read.
-#[derive(Drop)]
+#[derive(Clone, Copy)]
 enum Filled {
     More,
     End(usize),
@@ -56,7 +56,7 @@ fn print(d: [u8; 32]) {
 }
 
 // The state after one buffer more.
-#[derive(Drop)]
+#[derive(Clone, Copy)]
 struct Stream {
     state: State,
     total: usize,

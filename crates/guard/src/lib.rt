@@ -27,7 +27,7 @@ pub const REQUEST_LENGTH: usize = requests::STORE_LENGTH;
 // of
 // the answer or the request buffer.
 #[repr(C)]
-#[derive(Drop)]
+#[derive(Clone, Copy)]
 pub struct GuardOutcome {
     pub kind: i32,
     pub number: u64,

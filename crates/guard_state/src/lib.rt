@@ -23,7 +23,7 @@ pub mod calls;
 pub mod header;
 
 // The header's numbers.
-#[derive(Drop)]
+#[derive(Clone, Copy)]
 pub struct Guard {
     // how many nodes and open files there are; whether the guard has stopped
     pub nodes: usize,

@@ -11,7 +11,7 @@ ghost use Rattle.handle_calls.specs.Judged.{lacks_right, end_checked};
 ghost use Rattle.handle_calls.specs.declared.Handled.TheVariants.{Open};
 
 // The places of an open file and of its node, or the number that stops the call.
-#[derive(Drop)]
+#[derive(Clone, Copy)]
 pub enum Handled {
     Open { opened: usize, node: usize },
     Refused(u8),

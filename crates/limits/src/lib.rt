@@ -37,7 +37,7 @@ pub const MAP_UNIT: usize = 4096;
 
 pub const MAP_BYTES: usize = 65536;
 
-#[derive(Drop)]
+#[derive(Clone, Copy)]
 pub struct Limits {
     pub nodes: usize,
     pub opens: usize,

@@ -9,7 +9,7 @@ use guard_state::Guard;
 // The least length of the answer buffer: the longest listing. No event that is right is longer.
 pub const ANSWER_LENGTH: usize = (Guard::NODES - 1) * (Guard::ID_BYTES + 2 + Guard::NAME_BYTES);
 
-#[derive(Drop)]
+#[derive(Clone, Copy)]
 pub enum Outcome {
     // a number, and how many bytes stand at the front of the answer buffer
     Done { number: u64, length: usize },

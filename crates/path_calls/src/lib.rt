@@ -16,7 +16,7 @@ ghost use Rattle.path_calls.specs.Judged.{node_for, way_for};
 ghost use Rattle.path_calls.specs.Ways.{way_of, walked_both};
 
 // Where a path leads: the places of its node and of the directory that holds it, or the number that stops the call.
-#[derive(Drop)]
+#[derive(Clone, Copy)]
 pub enum Way {
     At { node: usize, parent: usize },
     Refused(u8),

@@ -12,7 +12,7 @@ ghost use Rattle.paths.specs.PathForms.{form_of, forms_of, parts_form, is_name};
 ghost use Rattle.paths.specs.Walks.{walked, placed, search_number, child_step};
 
 // What is wrong with a path's bytes: the form (22), else a length (36), else nothing.
-#[derive(Drop)]
+#[derive(Clone, Copy)]
 pub enum PathForm {
     Malformed,
     Long,
@@ -20,14 +20,14 @@ pub enum PathForm {
 }
 
 // A walk's answer: the place of the node, or the number that stopped it (SPECIFICATION 7.6: 20, 13, 2).
-#[derive(Drop)]
+#[derive(Clone, Copy)]
 pub enum Walked {
     Node(usize),
     Refused(u8),
 }
 
 // Where the last component stands: in the directory in place `parent`, and from `start` on in the path's bytes.
-#[derive(Drop)]
+#[derive(Clone, Copy)]
 pub enum Placed {
     Root,
     In { parent: usize, start: usize },

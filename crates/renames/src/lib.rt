@@ -21,7 +21,7 @@ use guard_state::Guard;
 
 // What a rename is judged to be: the node becomes what the second path has from `start` on, in the directory in place
 // `parent`; or both paths lead to it; or a number.
-#[derive(Drop)]
+#[derive(Clone, Copy)]
 pub enum Renaming {
     Move {
         node: usize,

@@ -312,7 +312,7 @@ pub fn first_page(m: &[u8], k: usize) -> usize
 }
 
 // Where the pages of a node begin and end, and how many all nodes have.
-#[derive(Drop)]
+#[derive(Clone, Copy)]
 struct Span {
     first: usize,
     end: usize,
@@ -410,7 +410,7 @@ fn rows_moved(m: &[u8], n: usize, k: usize, end: usize, old: usize, new: usize) 
 
 // The rows of a file whose size changes: where they begin, how many they are before and after, and how many behind them
 // move.
-#[derive(Drop)]
+#[derive(Clone, Copy)]
 struct Resize {
     first: usize,
     old: usize,

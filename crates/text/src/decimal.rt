@@ -4,7 +4,7 @@ ghost use Rattle.text.specs.Decimal.{read_decimal};
 ghost use Rattle.text.specs.Digits.{decimal_of};
 
 // A number below a thousand millions, or bad text.
-#[derive(Drop)]
+#[derive(Clone, Copy)]
 pub enum Decimal {
     Value(usize),
     Bad,

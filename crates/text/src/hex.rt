@@ -5,7 +5,7 @@ ghost use Rattle.lists.specs.Search.{place};
 ghost use Rattle.text.specs.Hex.{digit_of, value_of, half_of, hex_of, pair_of, bytes_of, is_bad, decode_of, decoded_in};
 
 // What reading digits into a buffer answers: how many bytes, or why none.
-#[derive(Drop)]
+#[derive(Clone, Copy)]
 pub enum Decoded {
     Bytes(usize),
     BadDigit(usize),

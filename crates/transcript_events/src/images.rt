@@ -9,7 +9,7 @@ use transcript_lines::Load;
 const IMAGE_BUFFER: usize = 60000;
 
 // What a save gives beside the image.
-#[derive(Drop)]
+#[derive(Clone, Copy)]
 struct Saved {
     outcome: Outcome,
     digest: [u8; 32],

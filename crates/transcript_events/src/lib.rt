@@ -7,14 +7,14 @@ pub mod images;
 const EVENT_BYTES: usize = 65552;
 
 // The lengths of both buffers that are lent.
-#[derive(Drop)]
+#[derive(Clone, Copy)]
 pub struct Lengths {
     pub answer: usize,
     pub request: usize,
 }
 
 // The entry that bytes are handed to.
-#[derive(Drop)]
+#[derive(Clone, Copy)]
 pub enum Entry {
     Call,
     ReaderCall,

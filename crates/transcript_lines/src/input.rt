@@ -5,7 +5,7 @@ ghost use Rattle.std.specs.Prelude.{◌≤◌, length};
 const LINE: usize = 131200;
 
 // Where a line stands in the buffer, where the next one begins, and how far the buffer is filled.
-#[derive(Drop)]
+#[derive(Clone, Copy)]
 pub struct Place {
     pub from: usize,
     pub to: usize,

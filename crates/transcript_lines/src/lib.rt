@@ -77,7 +77,7 @@ pub fn number(text: &[u8], most: usize) -> usize
 }
 
 // How many bytes of an image and of its digest were read.
-#[derive(Drop)]
+#[derive(Clone, Copy)]
 pub enum Load {
     Bytes { image: usize, digest: usize },
     Bad,

@@ -8,7 +8,7 @@ use transcript_lines::counts::Counts;
 // More than the longest line, of which 131,200 bytes are kept.
 const TEXT: usize = 262144;
 
-#[derive(Drop)]
+#[derive(Clone, Copy)]
 struct Progress {
     settings: super::Settings,
     counts: Counts,

@@ -19,7 +19,7 @@ pub mod file;
 
 // Whether calls are a read-only guard's, the lengths of both buffers, and that of the last answer's line, with its line
 // feed.
-#[derive(Drop)]
+#[derive(Clone, Copy)]
 struct Settings {
     read_only: bool,
     lengths: Lengths,

@@ -8,7 +8,7 @@ use text::decimal::Decimal;
 mod monte;
 
 // Where the next line starts, the length of the next message, the digest computed last, and how many were right.
-#[derive(Drop)]
+#[derive(Clone, Copy)]
 struct Progress {
     at: usize,
     bytes: usize,

@@ -1,0 +1,13 @@
+-- `buffers::shift_down` meets its contract. Assumes nothing.
+use mathlib.Core.Path.{◌≡◌}
+use Prim.Native.Nat.{◌*◌, ◌≤◌, ◌-◌}
+use lib.ListN.{length}
+use Rattle.lists.specs.Parts.{part, overwrite}
+use Rattle.buffers.proofs.shift_down.Given as goal
+
+abbrev pub invariant-loop-i : goal.invariant-loop-i
+invariant-loop-i l = (128 * l.blocks ≤ l.n) × (l.i ≤ l.blocks) × (length l.m ≡ length l.initial.m)
+    × (l.m ≡ overwrite l.initial.m l.to (part l.from (128 * l.i) l.initial.m))
+
+abbrev pub decreases-loop-i : goal.decreases-loop-i
+decreases-loop-i l = l.blocks - l.i

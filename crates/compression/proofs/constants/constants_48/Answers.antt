@@ -1,0 +1,10 @@
+-- `compression::constants::constants_48` meets its contract. Sixteen entries of the table.
+-- Assumes nothing.
+use Rattle.std.proofs.Common.{refl}
+use Rattle.compression.specs.Compression.{K}
+use Rattle.compression.specs.Windows.{window}
+use Rattle.compression.proofs.constants.constants_48.Goals as goal
+
+pub returns : goal.returns
+unfolding K window
+returns c = refl

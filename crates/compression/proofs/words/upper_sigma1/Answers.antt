@@ -1,0 +1,8 @@
+-- `compression::words::upper_sigma1` meets its contract: the nested form is the standard's.
+-- Assumes nothing.
+use Rattle.std.proofs.Common.{arith}
+use Rattle.compression.proofs.Rotations.{nested}
+use Rattle.compression.proofs.words.upper_sigma1.Goals as goal
+
+pub returns : goal.returns
+returns c = nested 32 6 5 14 c.args.x (omega arith) (omega arith)
