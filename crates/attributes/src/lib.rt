@@ -18,8 +18,8 @@ use limits::kinds;
 
 // chmod: it waits for the status.
 pub fn begin_chmod(m: &mut [u8], mode: u8, path: &[u8], request: &mut [u8]) -> outcomes::Outcome
-    requires { HasRoot m × IsMemory m × HoldsRequest request }
-    ensures { BeginsPath m request path (chmod mode) result }
+    requires { HasRoot m.old × IsMemory m.old × HoldsRequest request.old }
+    ensures { BeginsPath m request path.now (chmod mode) result }
 {
     let g = Guard::load(m);
     let w = path_calls::judge_reach(m, g.nodes, path);
@@ -36,8 +36,8 @@ pub fn begin_chmod(m: &mut [u8], mode: u8, path: &[u8], request: &mut [u8]) -> o
 
 // chmod: the node has the new mode.
 pub fn accept_chmod(m: &mut [u8], reply: &[u8]) -> outcomes::Outcome
-    requires { ((numbers_in m).call ≡ CHANGING) × IsMemory m }
-    ensures { Accepts m reply result }
+    requires { ((numbers_in m.old).call ≡ CHANGING) × IsMemory m.old }
+    ensures { Accepts m reply.now result }
 {
     let b = replies::judge_status(reply, 0);
     if b != 0 {
@@ -54,8 +54,8 @@ pub fn accept_chmod(m: &mut [u8], reply: &[u8]) -> outcomes::Outcome
 
 // stat: it waits for the host's own.
 pub fn begin_stat(m: &mut [u8], path: &[u8], request: &mut [u8]) -> outcomes::Outcome
-    requires { HasRoot m × IsMemory m × HoldsRequest request }
-    ensures { BeginsPath m request path stat result }
+    requires { HasRoot m.old × IsMemory m.old × HoldsRequest request.old }
+    ensures { BeginsPath m request path.now stat result }
 {
     let g = Guard::load(m);
     let w = path_calls::judge_reach(m, g.nodes, path);
@@ -86,8 +86,8 @@ fn stat_row(id: u64, kind: u8, mode: u8, size: u32) -> [u8; STAT_BYTES]
 
 // The stat of node k: 1 of another length, 6 where a field differs.
 fn judge_stat(m: &[u8], n: usize, k: usize, reply: &[u8]) -> u8
-    requires { (k < n) × (n ≤ NODES) × IsMemory m }
-    ensures { (o : ℕ) → result ≡ reason_for (tables_in n o (was m)) reply.now (asked (stating k)) }
+    requires { (k < n) × (n ≤ NODES) × IsMemory m.now }
+    ensures { (o : ℕ) → result ≡ reason_for (tables_in n o (was m.now)) reply.now (asked (stating k)) }
 {
     if reply.len() != STAT_BYTES {
         return 1;
@@ -106,8 +106,8 @@ fn judge_stat(m: &[u8], n: usize, k: usize, reply: &[u8]) -> u8
 
 // stat: done with the size, and the reply's bytes.
 pub fn accept_stat(m: &mut [u8], reply: &[u8], answer: &mut [u8]) -> outcomes::Outcome
-    requires { ((numbers_in m).call ≡ STATING) × IsMemory m }
-    ensures { AcceptsInto m reply answer result }
+    requires { ((numbers_in m.old).call ≡ STATING) × IsMemory m.old }
+    ensures { AcceptsInto m reply.now answer result }
 {
     let g = Guard::load(m);
     let n = g.nodes;

@@ -27,7 +27,7 @@ module _ (c : Config) (s : State (digest_store c)) where
   called_with b = called (read_call c.width b)
 
 -- memory, request buffer and outcome are those of the machine
-abbrev pub Calls : (m q b : Lent) → Outcome → Type 0
+abbrev pub Calls : (m q : Lent) → (b : List ℕ) → Outcome → Type 0
 Calls m q b r =
-    Rightly m (λ c s. Sends c (called_with c s b.entry.now) r m.exit.now q.entry.now q.exit.now)
+    Rightly m (λ c s. Sends c (called_with c s b) r m.exit.now q.entry.now q.exit.now)
     × KeepsLength m

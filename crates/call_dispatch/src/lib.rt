@@ -17,8 +17,8 @@ fn begin_by_path(
     path: &[u8],
     request: &mut [u8],
 ) -> outcomes::Outcome
-    requires { NumberFits kind number × IsMemory m × HoldsRequest request }
-    ensures { BeginsPath m request path (made_by kind number) result }
+    requires { NumberFits kind number × IsMemory m.old × HoldsRequest request.old }
+    ensures { BeginsPath m request path.now (made_by kind number) result }
 {
     if guard_state::node_count(m) == 0 {
         return outcomes::Outcome::Refused(34);
@@ -36,8 +36,8 @@ fn begin_by_path(
 }
 
 pub fn begin_call(m: &mut [u8], call: &[u8], request: &mut [u8]) -> outcomes::Outcome
-    requires { IsMemory m × HoldsRequest request }
-    ensures { Calls m request call result }
+    requires { IsMemory m.old × HoldsRequest request.old }
+    ensures { Calls m request call.now result }
 {
     let p = call_reader::read_call(call);
     match p {

@@ -1,1 +1,3 @@
 // The configuration that is delivered: definitions only (specs/Delivered.antt).
+
+#![tactic(auto)]

@@ -21,8 +21,8 @@ use guard_state::Guard;
 
 // A new name in directory d, from `at` on in the path's bytes: 17, 13 (the directory's bit 2), 28.
 fn name_own(m: &[u8], n: usize, d: usize, at: usize, name: &[u8]) -> paths::Placed
-    requires { (d < n) × (n ≤ NODES) × IsMemory m }
-    ensures { result ≡ name_own (nodes_of n m) d at name.now }
+    requires { (d < n) × (n ≤ NODES) × IsMemory m.now }
+    ensures { result ≡ name_own (nodes_of n m.now) d at name.now }
 {
     if tables::find_child(m, n, memory::node_id(m, d), name) < n {
         return paths::Placed::Refused(17);
@@ -41,8 +41,8 @@ fn name_own(m: &[u8], n: usize, d: usize, at: usize, name: &[u8]) -> paths::Plac
 
 // The same from the way to that directory on; the root is there already.
 fn new_own(m: &[u8], n: usize, path: &[u8]) -> paths::Placed
-    requires { (0 < n) × (n ≤ NODES) × IsMemory m }
-    ensures { result ≡ new_own (nodes_of n m) path.now }
+    requires { (0 < n) × (n ≤ NODES) × IsMemory m.now }
+    ensures { result ≡ new_own (nodes_of n m.now) path.now }
 {
     let w = paths::walk_parent(m, n, path);
     match w {
@@ -54,8 +54,8 @@ fn new_own(m: &[u8], n: usize, path: &[u8]) -> paths::Placed
 
 // create and mkdir: 22, 36, the way's 20, 13, 2, then their own.
 fn judge_new(m: &[u8], n: usize, path: &[u8]) -> paths::Placed
-    requires { (0 < n) × (n ≤ NODES) × IsMemory m }
-    ensures { (o mode : ℕ) → result ≡ place_for (tables_in n o (was m)) path.now (create mode) }
+    requires { (0 < n) × (n ≤ NODES) × IsMemory m.now }
+    ensures { (o mode : ℕ) → result ≡ place_for (tables_in n o (was m.now)) path.now (create mode) }
 {
     let f = paths::form(path);
     match f {
@@ -76,9 +76,9 @@ fn send_new(
     request: &mut [u8],
 ) -> outcomes::Outcome
     requires { (parent < NODES) × (start ≤ length path.now) × (length (drop start path.now) ≤ NAME_BYTES)
-        × (length path.now ≤ PATH_BYTES) × IsMemory m × HoldsRequest request }
+        × (length path.now ≤ PATH_BYTES) × IsMemory m.old × HoldsRequest request.old }
     ensures { Asks m request
-        (asked (creating (node_at (was m).nodes parent).id kind number (drop start path.now)))
+        (asked (creating (node_at (was m.old).nodes parent).id kind number (drop start path.now)))
         (path_request kind number path.now) result }
 {
     let id = memory::node_id(m, parent);
@@ -95,8 +95,8 @@ pub fn begin_new(
     path: &[u8],
     request: &mut [u8],
 ) -> outcomes::Outcome
-    requires { (1 ≤ kind) × (kind ≤ 2) × HasRoot m × IsMemory m × HoldsRequest request }
-    ensures { BeginsPath m request path (made_by kind mode) result }
+    requires { (1 ≤ kind) × (kind ≤ 2) × HasRoot m.old × IsMemory m.old × HoldsRequest request.old }
+    ensures { BeginsPath m request path.now (made_by kind mode) result }
 {
     let g = Guard::load(m);
     let w = judge_new(m, g.nodes, path);
@@ -111,9 +111,9 @@ pub fn begin_new(
 
 // A new node's id: 1 of another length, 3 where it is 0 or a node has it.
 fn judge_id(m: &[u8], n: usize, reply: &[u8]) -> u8
-    requires { (n ≤ NODES) × IsMemory m }
+    requires { (n ≤ NODES) × IsMemory m.now }
     ensures { (parent kind mode : ℕ) (name : List ℕ) (o : ℕ)
-        → result ≡ reason_for (tables_in n o (was m)) reply.now (asked (creating parent kind mode name)) }
+        → result ≡ reason_for (tables_in n o (was m.now)) reply.now (asked (creating parent kind mode name)) }
 {
     if reply.len() != Guard::ID_BYTES {
         return 1;
@@ -131,8 +131,8 @@ fn judge_id(m: &[u8], n: usize, reply: &[u8]) -> u8
 // create and mkdir: one more node, behind the others, with the staged name; done with its id. Or the disk is full: -28
 // is no id.
 pub fn accept_create(m: &mut [u8], reply: &[u8]) -> outcomes::Outcome
-    requires { ((numbers_in m).call ≡ CREATING) × IsMemory m }
-    ensures { Accepts m reply result }
+    requires { ((numbers_in m.old).call ≡ CREATING) × IsMemory m.old }
+    ensures { Accepts m reply.now result }
 {
     if replies::is_full(reply) {
         return replies::give_up(m);

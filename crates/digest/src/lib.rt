@@ -1,4 +1,6 @@
 // SHA-256 (FIPS 180-4). Each contract cites the standard's own definition, specs/Sha256.antt.
+#![tactic(auto)]
+
 ghost use Rattle.std.specs.Prelude.{◌≡◌};
 ghost use Rattle.digest.specs.Sha256.{H0, sha256};
 ghost use Rattle.digest.specs.Streaming.{absorbed, finished};

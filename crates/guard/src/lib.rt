@@ -50,7 +50,7 @@ fn is_pending(number: u64) -> bool
 // where
 // none is. 0: it goes on.
 fn first_number(m: &[u8], busy: u8, quiet: u8) -> u8
-    requires { IsMemory m }
+    requires { IsMemory m.now }
     ensures { result ≡ first_of busy quiet (held m.now).skeleton }
 {
     let g = Guard::load(m);
@@ -75,7 +75,7 @@ fn is_short(answer: usize, request: usize) -> bool
 
 // The one place where the guard stops: whichever branch found a reason, it is for good.
 fn settle(m: &mut [u8], o: outcomes::Outcome) -> outcomes::Outcome
-    requires { IsMemory m }
+    requires { IsMemory m.old }
     ensures value { (result ≡ o) × (held m.new ≡ settled delivered o (held m.old)) }
     ensures keeps_length { KeepsLength m }
 {
@@ -88,8 +88,8 @@ fn settle(m: &mut [u8], o: outcomes::Outcome) -> outcomes::Outcome
 
 // A call: 5, 114, 34, then what its bytes say.
 fn take_call(m: &mut [u8], bytes: &[u8], answer: &mut [u8], request: &mut [u8]) -> outcomes::Outcome
-    requires { IsMemory m }
-    ensures takes { Takes call m bytes answer request result }
+    requires { IsMemory m.old }
+    ensures takes { Takes call m bytes.now answer request result }
     ensures keeps_length { KeepsLength m }
 {
     let b = first_number(m, 114, 0);
@@ -110,8 +110,8 @@ fn take_reply(
     answer: &mut [u8],
     request: &mut [u8],
 ) -> outcomes::Outcome
-    requires { IsMemory m }
-    ensures takes { Takes reply m bytes answer request result }
+    requires { IsMemory m.old }
+    ensures takes { Takes reply m bytes.now answer request result }
     ensures keeps_length { KeepsLength m }
 {
     let b = first_number(m, 0, 61);
@@ -127,7 +127,7 @@ fn take_reply(
 
 // A save: 5, 114, then 16, 34, or the image and its digest.
 fn take_save(m: &mut [u8], image: &mut [u8], digest: &mut [u8]) -> outcomes::Outcome
-    requires { (length digest.old ≡ DIGEST_BYTES) × IsMemory m }
+    requires { (length digest.old ≡ DIGEST_BYTES) × IsMemory m.old }
     ensures saving { Ready (held m.old) (save (length image.old))
         → Saving (held m.old) result (held m.new) image.old image.new
         digest.old digest.new }
@@ -142,7 +142,7 @@ fn take_save(m: &mut [u8], image: &mut [u8], digest: &mut [u8]) -> outcomes::Out
 
 // A load: 5, 114, then 16, 74, 84, or the image's tables.
 fn take_load(m: &mut [u8], image: &[u8], digest: &[u8]) -> outcomes::Outcome
-    requires { IsMemory m }
+    requires { IsMemory m.old }
     ensures steps { Steps (held m.old) (load current image.now digest.now) result
         (held m.new) [] [] }
     ensures keeps_length { KeepsLength m }
@@ -162,7 +162,7 @@ pub fn on_call(
     answer: &mut [u8],
     request: &mut [u8],
 ) -> outcomes::Outcome
-    ensures { Called memory bytes answer request result }
+    ensures { Called memory bytes.now answer request result }
 {
     if memory.len() < memory::SIZE {
         return outcomes::Outcome::Refused(34);
@@ -176,7 +176,7 @@ pub fn on_reply(
     answer: &mut [u8],
     request: &mut [u8],
 ) -> outcomes::Outcome
-    ensures { Replied memory bytes answer request result }
+    ensures { Replied memory bytes.now answer request result }
 {
     if memory.len() < memory::SIZE {
         return outcomes::Outcome::Refused(34);
@@ -206,7 +206,7 @@ pub fn on_save(
 }
 
 pub fn on_load(memory: &mut [u8], image: &[u8], digest: &[u8]) -> outcomes::Outcome
-    ensures { Loaded memory image digest result }
+    ensures { Loaded memory image.now digest.now result }
 {
     if memory.len() < memory::SIZE {
         return outcomes::Outcome::Refused(34);
@@ -216,7 +216,7 @@ pub fn on_load(memory: &mut [u8], image: &[u8], digest: &[u8]) -> outcomes::Outc
 
 // A fresh guard: the root alone, idle.
 fn make_fresh(m: &mut [u8])
-    requires { IsMemory m }
+    requires { IsMemory m.old }
     ensures m_after { held m.new ≡ fresh delivered (digest_store delivered) }
     ensures keeps_length { KeepsLength m }
 {
@@ -299,7 +299,7 @@ pub extern "C" fn guard_entry_call(
     answer: &mut [u8],
     request: &mut [u8],
 ) -> GuardOutcome
-    ensures { Shown (Called memory bytes answer request) result }
+    ensures { Shown (Called memory bytes.now answer request) result }
 {
     let o = on_call(memory, bytes, answer, request);
     shown(o)
@@ -312,7 +312,7 @@ pub extern "C" fn guard_entry_reply(
     answer: &mut [u8],
     request: &mut [u8],
 ) -> GuardOutcome
-    ensures { Shown (Replied memory bytes answer request) result }
+    ensures { Shown (Replied memory bytes.now answer request) result }
 {
     let o = on_reply(memory, bytes, answer, request);
     shown(o)
@@ -332,7 +332,7 @@ pub extern "C" fn guard_entry_save(
 
 #[unsafe(no_mangle)]
 pub extern "C" fn guard_entry_load(memory: &mut [u8], image: &[u8], digest: &[u8]) -> GuardOutcome
-    ensures { Shown (Loaded memory image digest) result }
+    ensures { Shown (Loaded memory image.now digest.now) result }
 {
     let o = on_load(memory, image, digest);
     shown(o)

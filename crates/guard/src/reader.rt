@@ -24,7 +24,7 @@ pub fn on_call(
     answer: &mut [u8],
     request: &mut [u8],
 ) -> outcomes::Outcome
-    ensures { ReaderCalled memory bytes answer request result }
+    ensures { ReaderCalled memory bytes.now answer request result }
 {
     let own = read_only_calls::refusal(bytes);
     if own == 0 {
@@ -42,7 +42,7 @@ pub extern "C" fn guard_entry_reader_call(
     answer: &mut [u8],
     request: &mut [u8],
 ) -> super::GuardOutcome
-    ensures { Shown (ReaderCalled memory bytes answer request) result }
+    ensures { Shown (ReaderCalled memory bytes.now answer request) result }
 {
     let own = read_only_calls::refusal(bytes);
     if own == 0 {

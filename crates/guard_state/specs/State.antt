@@ -10,7 +10,6 @@
 use Rattle.std.specs.Prelude.{Bool, List, [], ◌∷◌, ℕ, ◌+◌, ◌/◌, ◌%◌, ◌<◌, eqb, get_or, take, drop, set}
 use Rattle.filesystem.specs.Tables.{NODES, PAGE_BYTES, FILE_BYTES, DATA_BYTES}
 use Rattle.filesystem.specs.MemoryMaps.{Map, MAPS}
-use Rattle.numbers.specs.Slices.{Slice}
 use Rattle.memory.specs.Layout.{mem_of, open_rows, new_digests}
 use Rattle.rules.specs.Pages.{writing, shrinking, growing}
 use Rattle.rules.specs.Requests.{asked, Pending, idle, creating, opening, closing, removing, changing, listing, stating}
@@ -47,11 +46,11 @@ numbers_of h = record {
 }
 
 -- the numbers that a memory holds
-abbrev pub numbers_in : Slice → Guard
-numbers_in m = numbers_of (mem_of m.now).head
+abbrev pub numbers_in : List ℕ → Guard
+numbers_in m = numbers_of (mem_of m).head
 
 -- there is a node
-abbrev pub HasRoot : Slice → Type 0
+abbrev pub HasRoot : List ℕ → Type 0
 HasRoot m = 0 < (numbers_in m).nodes
 
 -- The pending call: its bytes, and what it is by its number (src/calls.rt); any other number is idle.

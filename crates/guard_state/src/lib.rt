@@ -79,8 +79,8 @@ impl Guard {
 
     // The numbers that the memory's header holds, each within its limit.
     pub fn load(m: &[u8]) -> Guard
-        requires { IsMemory m }
-        ensures { result ≡ numbers_in m.entry }
+        requires { IsMemory m.now }
+        ensures { result ≡ numbers_in m.now }
     {
         Guard {
             nodes: number(m, header::NODES, limits::NODES),
@@ -104,9 +104,9 @@ impl Guard {
 
     // A fresh guard: the root alone, idle.
     pub fn fresh(m: &mut [u8]) -> Guard
-        requires { IsMemory m }
+        requires { IsMemory m.old }
         ensures value { ((c : Config) → state_of c m.new ≡ fresh c (digest_store c))
-            × (result ≡ numbers_in m.exit) }
+            × (result ≡ numbers_in m.new) }
         ensures keeps_length { KeepsLength m }
     {
         let row = memory::node_row(1, 0, limits::DIRECTORY, 7, 0, b"");
@@ -127,8 +127,8 @@ const FILE_PAGES: usize = limits::FILE_BYTES / limits::PAGE_BYTES;
 
 // Number k of the header, at most `most`.
 fn number(m: &[u8], k: usize, most: usize) -> usize
-    requires { (k < head_numbers) × (most < 4294967296) × IsMemory m }
-    ensures { result ≡ get_or (was m).head k 0 % (most + 1) }
+    requires { (k < head_numbers) × (most < 4294967296) × IsMemory m.now }
+    ensures { result ≡ get_or (was m.now).head k 0 % (most + 1) }
 {
     let x = memory::head(m, k);
     // what was written there is; a remainder of anything else would cost each load a multiplication
@@ -140,16 +140,16 @@ fn number(m: &[u8], k: usize, most: usize) -> usize
 
 // How many nodes there are, for those who need no other number.
 pub fn node_count(m: &[u8]) -> usize
-    requires { IsMemory m }
-    ensures { result ≡ (numbers_in m.entry).nodes }
+    requires { IsMemory m.now }
+    ensures { result ≡ (numbers_in m.now).nodes }
 {
     number(m, header::NODES, limits::NODES)
 }
 
 // How many maps live.
 pub fn map_count(m: &[u8]) -> usize
-    requires { IsMemory m }
-    ensures { result ≡ map_count (was m).head }
+    requires { IsMemory m.now }
+    ensures { result ≡ map_count (was m.now).head }
 {
     number(m, header::MAPS, limits::MAPS)
 }
@@ -158,16 +158,16 @@ pub fn map_count(m: &[u8]) -> usize
 
 // Nothing is pending, and the guard has not stopped; the counts stay.
 fn clear(m: &mut [u8])
-    requires { IsMemory m }
-    ensures { Becomes m (with_head (cleared_head (was m).head)) }
+    requires { IsMemory m.old }
+    ensures { Becomes m (with_head (cleared_head (was m.old).head)) }
 {
     clear_call(m);
     clear_span(m);
 }
 
 fn clear_call(m: &mut [u8])
-    requires { IsMemory m }
-    ensures { Becomes m (with_head (cleared_call (was m).head)) }
+    requires { IsMemory m.old }
+    ensures { Becomes m (with_head (cleared_call (was m.old).head)) }
 {
     memory::put_head(m, header::RUNNING, 1);
     memory::put_head(m, header::CALL, calls::IDLE);
@@ -179,8 +179,8 @@ fn clear_call(m: &mut [u8])
 }
 
 fn clear_span(m: &mut [u8])
-    requires { IsMemory m }
-    ensures { Becomes m (with_head (cleared_span (was m).head)) }
+    requires { IsMemory m.old }
+    ensures { Becomes m (with_head (cleared_span (was m.old).head)) }
 {
     memory::put_head(m, header::RIGHTS, 0);
     memory::put_head(m, header::POSITION, 0);
@@ -195,7 +195,7 @@ fn clear_span(m: &mut [u8])
 
 // A create or a mkdir: the parent's id, the kind, the mode, and the name, which is staged.
 pub fn wait_create(m: &mut [u8], parent: u64, kind: u8, mode: u8, name: &[u8])
-    requires { (length name.now ≤ NAME_BYTES) × IsMemory m }
+    requires { (length name.now ≤ NAME_BYTES) × IsMemory m.old }
     ensures { Waits m (asked (creating parent kind mode name.now)) gathered_none }
 {
     let n = name.len();
@@ -209,7 +209,7 @@ pub fn wait_create(m: &mut [u8], parent: u64, kind: u8, mode: u8, name: &[u8])
 }
 
 pub fn wait_close(m: &mut [u8], opened: usize)
-    requires { (opened < open_rows) × IsMemory m }
+    requires { (opened < open_rows) × IsMemory m.old }
     ensures { Waits m (asked (closing opened)) gathered_none }
 {
     clear(m);
@@ -220,7 +220,7 @@ pub fn wait_close(m: &mut [u8], opened: usize)
 // A call on a node: open with its rights, chmod with its mode, remove, readdir, stat. The number stands under both:
 // each reads its own.
 pub fn wait_on_node(m: &mut [u8], call: u64, node: usize, number: u8)
-    requires { OnNode call × (node < NODES) × IsMemory m }
+    requires { OnNode call × (node < NODES) × IsMemory m.old }
     ensures { Waits m (asked (question_on call node number)) gathered_none }
 {
     clear(m);
@@ -232,7 +232,7 @@ pub fn wait_on_node(m: &mut [u8], call: u64, node: usize, number: u8)
 
 // A map of this size is asked for.
 pub fn wait_map(m: &mut [u8], size: usize)
-    requires { (size ≤ MAP_BYTES) × IsMemory m }
+    requires { (size ≤ MAP_BYTES) × IsMemory m.old }
     ensures { Waits m (asked (mapping size)) gathered_none }
 {
     clear(m);
@@ -242,7 +242,7 @@ pub fn wait_map(m: &mut [u8], size: usize)
 
 // The map at this address is to end. It stands where a parent's id does.
 pub fn wait_unmap(m: &mut [u8], address: u64)
-    requires { IsMemory m }
+    requires { IsMemory m.old }
     ensures { Waits m (asked (unmapping address)) gathered_none }
 {
     clear(m);
@@ -252,7 +252,7 @@ pub fn wait_unmap(m: &mut [u8], address: u64)
 
 // A rename: the node, its new parent's id, and the new name, which is staged.
 pub fn wait_rename(m: &mut [u8], node: usize, parent: u64, name: &[u8])
-    requires { (node < NODES) × (length name.now ≤ NAME_BYTES) × IsMemory m }
+    requires { (node < NODES) × (length name.now ≤ NAME_BYTES) × IsMemory m.old }
     ensures { Waits m (asked (renaming node parent name.now)) gathered_none }
 {
     let n = name.len();
@@ -266,8 +266,8 @@ pub fn wait_rename(m: &mut [u8], node: usize, parent: u64, name: &[u8])
 
 // The numbers of a read that waits for a page.
 fn put_read(m: &mut [u8], node: usize, opened: usize, position: usize, count: usize, page: usize)
-    requires { IsMemory m }
-    ensures { Becomes m (with_head (reading_head (was m).head node opened position count page)) }
+    requires { IsMemory m.old }
+    ensures { Becomes m (with_head (reading_head (was m.old).head node opened position count page)) }
 {
     clear(m);
     memory::put_head(m, header::CALL, calls::READING);
@@ -288,7 +288,7 @@ pub fn wait_read(
     page: usize,
 )
     requires { (node < NODES) × (opened < open_rows) × (position ≤ FILE_BYTES) × (count ≤ DATA_BYTES)
-        × (page ≤ file_pages) × IsMemory m }
+        × (page ≤ file_pages) × IsMemory m.old }
     ensures { Waits m (reading node opened position count page) gathered_none }
 {
     put_read(m, node, opened, position, count, page);
@@ -306,8 +306,8 @@ pub fn wait_page(
     more: &[u8],
 )
     requires { (node < NODES) × (opened < open_rows) × (position ≤ FILE_BYTES) × (count ≤ DATA_BYTES)
-        × (page ≤ file_pages) × (bytes + length more.now ≤ DATA_BYTES) × IsMemory m }
-    ensures { Waits m (reading node opened position count page) (gathered_read (take bytes (was m).staged
+        × (page ≤ file_pages) × (bytes + length more.now ≤ DATA_BYTES) × IsMemory m.old }
+    ensures { Waits m (reading node opened position count page) (gathered_read (take bytes (was m.old).staged
         ++ more.now)) }
 {
     let l = bytes + more.len();
@@ -321,10 +321,10 @@ pub fn wait_page(
 // A write waits: its bytes are staged, and no page of it is asked yet.
 pub fn wait_write(m: &mut [u8], node: usize, opened: usize, position: usize, bytes: &[u8])
     requires { (node < NODES) × (opened < open_rows) × (position ≤ FILE_BYTES) × (length bytes.now ≤ DATA_BYTES)
-        × IsMemory m }
+        × IsMemory m.old }
     ensures m_after { (c : Config) → state_of c m.new ≡ waits c (state_of c m.old)
         (fetching node opened (writing position bytes.now) 0) gathered_none }
-    ensures m_value { numbers_in m.exit ≡ write_numbers (numbers_in m.entry) node opened position
+    ensures m_value { numbers_in m.new ≡ write_numbers (numbers_in m.old) node opened position
         (length bytes.now) }
     ensures keeps_length { KeepsLength m }
 {
@@ -340,10 +340,10 @@ pub fn wait_write(m: &mut [u8], node: usize, opened: usize, position: usize, byt
 
 // A truncation waits: for its page, which is not asked yet, or for the cut that makes the file longer (calls.rt).
 pub fn wait_truncate(m: &mut [u8], call: u64, node: usize, opened: usize, size: usize)
-    requires { Truncating call × (node < NODES) × (opened < open_rows) × (size ≤ FILE_BYTES) × IsMemory m }
+    requires { Truncating call × (node < NODES) × (opened < open_rows) × (size ≤ FILE_BYTES) × IsMemory m.old }
     ensures m_after { (c : Config) → state_of c m.new ≡ waits c (state_of c m.old)
         (truncation_on call node opened size) gathered_none }
-    ensures m_value { numbers_in m.exit ≡ truncate_numbers (numbers_in m.entry) call node opened size }
+    ensures m_value { numbers_in m.new ≡ truncate_numbers (numbers_in m.old) call node opened size }
     ensures keeps_length { KeepsLength m }
 {
     clear(m);
@@ -355,9 +355,9 @@ pub fn wait_truncate(m: &mut [u8], call: u64, node: usize, opened: usize, size: 
 
 // A change goes on: what it waits for now (calls.rt), and the page that is asked.
 pub fn wait_further(m: &mut [u8], call: u64, page: usize)
-    requires { (FETCHING ≤ (numbers_in m).call) × ((numbers_in m).call ≤ CUTTING) × (FETCHING ≤ call) × (call ≤ CUTTING)
-        × (page ≤ file_pages) × IsMemory m }
-    ensures { Turns m (λ c s. waits c s (pending_in (goes_on call page (numbers_in m.entry)) (was m).staged)
+    requires { (FETCHING ≤ (numbers_in m.old).call) × ((numbers_in m.old).call ≤ CUTTING) × (FETCHING ≤ call) × (call ≤ CUTTING)
+        × (page ≤ file_pages) × IsMemory m.old }
+    ensures { Turns m (λ c s. waits c s (pending_in (goes_on call page (numbers_in m.old)) (was m.old).staged)
         s.progress) }
 {
     memory::put_head(m, header::RUNNING, 1);
@@ -367,9 +367,9 @@ pub fn wait_further(m: &mut [u8], call: u64, page: usize)
 
 // The same with the digest of the page that goes out, staged behind those before.
 pub fn wait_sent(m: &mut [u8], call: u64, page: usize, digest: [u8; limits::DIGEST_BYTES])
-    requires { (FETCHING ≤ (numbers_in m).call) × ((numbers_in m).call ≤ CUTTING) × (FETCHING ≤ call) × (call ≤ CUTTING)
-        × (page ≤ file_pages) × ((numbers_in m).digests < new_digests) × IsMemory m }
-    ensures { Turns m (λ c s. waits c s (pending_in (goes_on call page (numbers_in m.entry)) (was m).staged)
+    requires { (FETCHING ≤ (numbers_in m.old).call) × ((numbers_in m.old).call ≤ CUTTING) × (FETCHING ≤ call) × (call ≤ CUTTING)
+        × (page ≤ file_pages) × ((numbers_in m.old).digests < new_digests) × IsMemory m.old }
+    ensures { Turns m (λ c s. waits c s (pending_in (goes_on call page (numbers_in m.old)) (was m.old).staged)
         (record { bytes = []; digests = s.progress.digests ++ (digest ∷ []) })) }
 {
     let k = number(m, header::DIGESTS, memory::NEW_DIGESTS);
@@ -382,7 +382,7 @@ pub fn wait_sent(m: &mut [u8], call: u64, page: usize, digest: [u8; limits::DIGE
 
 // The call is done and the tables are as they were. The call's other numbers mean nothing without it.
 pub fn finish(m: &mut [u8])
-    requires { IsMemory m }
+    requires { IsMemory m.old }
     ensures { Turns m (λ c s. ends c s s.skeleton.tables s.contents) }
 {
     memory::put_head(m, header::RUNNING, 1);
@@ -391,8 +391,8 @@ pub fn finish(m: &mut [u8])
 
 // The call is done, over tables that now have these counts.
 pub fn rest(m: &mut [u8], nodes: usize, opens: usize)
-    requires { (nodes ≤ NODES) × (opens ≤ open_rows) × IsMemory m }
-    ensures { Turns m (λ c _. resting_state c (view_of nodes opens (was m))) }
+    requires { (nodes ≤ NODES) × (opens ≤ open_rows) × IsMemory m.old }
+    ensures { Turns m (λ c _. resting_state c (view_of nodes opens (was m.old))) }
 {
     clear(m);
     memory::put_head(m, header::NODES, nodes as u64);
@@ -401,8 +401,8 @@ pub fn rest(m: &mut [u8], nodes: usize, opens: usize)
 
 // The call is done, over a table that now has this many maps.
 pub fn rest_maps(m: &mut [u8], maps: usize)
-    requires { (maps ≤ MAPS) × IsMemory m }
-    ensures { Turns m (λ c s. remaps c s (take maps (was m).maps)) }
+    requires { (maps ≤ MAPS) × IsMemory m.old }
+    ensures { Turns m (λ c s. remaps c s (take maps (was m.old).maps)) }
 {
     memory::put_head(m, header::RUNNING, 1);
     memory::put_head(m, header::CALL, calls::IDLE);
@@ -411,7 +411,7 @@ pub fn rest_maps(m: &mut [u8], maps: usize)
 
 // The guard stops for good; the tables are those of before the call.
 pub fn stop(m: &mut [u8])
-    requires { IsMemory m }
+    requires { IsMemory m.old }
     ensures { Turns m stops }
 {
     clear(m);

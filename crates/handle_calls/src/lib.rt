@@ -19,16 +19,16 @@ pub enum Handled {
 
 // The place of the node of the open file in place k, which has this handle.
 pub fn file_place(m: &[u8], n: usize, k: usize, handle: u64) -> usize
-    requires { (n ≤ NODES) × (k < open_rows) × IsMemory m }
-    ensures { (w : ℕ) → sound_nodes w (nodes_of n m) ≡ true → result ≡ find_id (nodes_of n m) handle }
+    requires { (n ≤ NODES) × (k < open_rows) × IsMemory m.now }
+    ensures { (w : ℕ) → sound_nodes w (nodes_of n m.now) ≡ true → result ≡ find_id (nodes_of n m.now) handle }
 {
     tables::find_node(m, n, handle, memory::open_hint(m, k) as usize)
 }
 
 // Whether no open file with this right stands in place k.
 pub fn lacks_right(m: &[u8], o: usize, k: usize, right: u8) -> bool
-    requires { (0 < right) × (o ≤ open_rows) × IsMemory m }
-    ensures { result ≡ lacks_right (opens_of o m) right k }
+    requires { (0 < right) × (o ≤ open_rows) × IsMemory m.now }
+    ensures { result ≡ lacks_right (opens_of o m.now) right k }
 {
     if o <= k {
         return true;
@@ -38,8 +38,8 @@ pub fn lacks_right(m: &[u8], o: usize, k: usize, right: u8) -> bool
 
 // The size of the node in place k; past the nodes there is none.
 pub fn size_at(m: &[u8], n: usize, k: usize) -> u32
-    requires { (n ≤ NODES) × IsMemory m }
-    ensures { result ≡ (node_at (nodes_of n m) k).size }
+    requires { (n ≤ NODES) × IsMemory m.now }
+    ensures { result ≡ (node_at (nodes_of n m.now) k).size }
 {
     if n <= k {
         return 0;
@@ -49,8 +49,8 @@ pub fn size_at(m: &[u8], n: usize, k: usize) -> u32
 
 // 22 past the end, for the open file in place k. A position that passes is at most a size, so it fits a u32.
 pub fn judge_end(m: &[u8], n: usize, handle: u64, k: usize, position: u64) -> Handled
-    requires { (n ≤ NODES) × (k < open_rows) × IsMemory m }
-    ensures by_index { (w : ℕ) → sound_nodes w (nodes_of n m) ≡ true → result ≡ end_checked (nodes_of n m) handle k position }
+    requires { (n ≤ NODES) × (k < open_rows) × IsMemory m.now }
+    ensures by_index { (w : ℕ) → sound_nodes w (nodes_of n m.now) ≡ true → result ≡ end_checked (nodes_of n m.now) handle k position }
     ensures by_index_2 { (i j : ℕ) → result ≡ Open i j → (i ≡ k) × (position < 4294967296) }
 {
     let node = file_place(m, n, k, handle);
@@ -62,8 +62,8 @@ pub fn judge_end(m: &[u8], n: usize, handle: u64, k: usize, position: u64) -> Ha
 
 // Whether the pages would be too many if the node in place k had this size. Sound nodes have room for their own.
 pub fn is_full(m: &[u8], n: usize, k: usize, size: u32) -> bool
-    requires { (n ≤ NODES) × IsMemory m }
-    ensures { (w o : ℕ) → sound_nodes w (nodes_of n m) ≡ true → result ≡ no_room (tables_in n o (was m)) k size }
+    requires { (n ≤ NODES) × IsMemory m.now }
+    ensures { (w o : ℕ) → sound_nodes w (nodes_of n m.now) ≡ true → result ≡ no_room (tables_in n o (was m.now)) k size }
 {
     if n <= k {
         return false;

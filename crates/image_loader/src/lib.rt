@@ -16,8 +16,8 @@ ghost use Rattle.image_loader.specs.Loaded.{Loaded};
 // The record at `at` as node i of the memory.
 fn load_record(image: &[u8], w: usize, maker: usize, at: usize, m: &mut [u8], i: usize)
     requires { IsLayout w maker × (record_end (layout w maker) image.now at ≤ length image.now)
-        × (length (record_at (layout w maker) image.now at).name ≤ NAME_BYTES) × (i < NODES) × IsMemory m }
-    ensures { Becomes m (with_nodes (set (was m).nodes i
+        × (length (record_at (layout w maker) image.now at).name ≤ NAME_BYTES) × (i < NODES) × IsMemory m.old }
+    ensures { Becomes m (with_nodes (set (was m.old).nodes i
         (record_at (layout w maker) image.now at))) }
 {
     let name = image_records::record_name(image, w, maker, at);
@@ -35,8 +35,8 @@ fn load_record(image: &[u8], w: usize, maker: usize, at: usize, m: &mut [u8], i:
 // The first n records, which are sound, as the memory's first nodes; the place behind them.
 fn load_records(image: &[u8], w: usize, maker: usize, n: usize, m: &mut [u8]) -> usize
     requires { IsLayout w maker × (sound_nodes w (nodes_from (layout w maker) image.now 4 n) ≡ true) × (n ≤ NODES)
-        × (end_from (layout w maker) image.now 4 n ≤ length image.now) × IsMemory m }
-    ensures becomes { Becomes m (with_nodes (overwrite (was m).nodes 0
+        × (end_from (layout w maker) image.now 4 n ≤ length image.now) × IsMemory m.old }
+    ensures becomes { Becomes m (with_nodes (overwrite (was m.old).nodes 0
         (nodes_from (layout w maker) image.now 4 n))) }
     ensures value { result ≡ end_from (layout w maker) image.now 4 n }
 {
@@ -54,8 +54,8 @@ fn load_records(image: &[u8], w: usize, maker: usize, n: usize, m: &mut [u8]) ->
 // The digests behind the second count, which stands at `end`, as the memory's first digests.
 fn load_digests(image: &[u8], end: usize, m: &mut [u8])
     requires { (end + 4 + decode (part end 4 image.now) * DIGEST_BYTES ≡ length image.now)
-        × (decode (part end 4 image.now) ≤ PAGES) × IsMemory m }
-    ensures { Becomes m (with_digests (overwrite (was m).digests 0
+        × (decode (part end 4 image.now) ≤ PAGES) × IsMemory m.old }
+    ensures { Becomes m (with_digests (overwrite (was m.old).digests 0
         (rows DIGEST_BYTES (decode (part end 4 image.now)) (drop (end + 4) image.now)))) }
 {
     let k = numbers::u32_at(image, end) as usize;
@@ -65,7 +65,7 @@ fn load_digests(image: &[u8], end: usize, m: &mut [u8])
 
 // The tables of a sound image put into the memory, in place of its nodes and digests; the number of nodes.
 pub fn load_image(image: &[u8], w: usize, maker: usize, m: &mut [u8]) -> usize
-    requires { IsLayout w maker × (is_some (parse (layout w maker) image.now) ≡ true) × IsMemory m }
+    requires { IsLayout w maker × (is_some (parse (layout w maker) image.now) ≡ true) × IsMemory m.old }
     ensures loaded { Loaded (layout w maker) image.now m.old m.new result }
     ensures keeps_length { KeepsLength m }
 {

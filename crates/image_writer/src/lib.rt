@@ -16,7 +16,7 @@ ghost use Rattle.image_writer.specs.Images.{nodes_in, image_in, record_length, m
 
 // The bytes of the first n nodes' records.
 fn records_length(m: &[u8], n: usize, w: usize, maker: usize) -> usize
-    requires { (n ≤ NODES) × IsMemory m × IsLayout w maker }
+    requires { (n ≤ NODES) × IsMemory m.now × IsLayout w maker }
     ensures { (result ≡ records_length (layout w maker) (nodes_in n m.now)) × (result ≤ n * 56) }
 {
     let front = 2 * w + maker + 7;
@@ -33,7 +33,7 @@ fn records_length(m: &[u8], n: usize, w: usize, maker: usize) -> usize
 
 // The bytes of the image of the first n nodes.
 pub fn image_length(m: &[u8], n: usize, w: usize, maker: usize) -> usize
-    requires { (n ≤ NODES) × IsMemory m × IsLayout w maker }
+    requires { (n ≤ NODES) × IsMemory m.now × IsLayout w maker }
     ensures { result ≡ image_length (layout w maker) (nodes_in n m.now) }
 {
     let pages = tables::first_page(m, n);
@@ -67,11 +67,11 @@ fn write_middle(out: &mut [u8], at: usize, maker: usize, kind: u8, mode: u8, siz
 
 // Node i's record, written over a part of out; the place behind it.
 pub fn write_record(m: &[u8], i: usize, w: usize, maker: usize, out: &mut [u8], at: usize) -> usize
-    requires { (i < NODES) × IsMemory m × IsLayout w maker
+    requires { (i < NODES) × IsMemory m.now × IsLayout w maker
         × (at + record_length (layout w maker) (node_at (mem_of m.now).nodes i) ≤ length out.old) }
     ensures out_after { out.new ≡ overwrite out.old at
-        ((node_form (layout w maker)).put (node_at (was m).nodes i)) }
-    ensures value { result ≡ at + record_length (layout w maker) (node_at (was m).nodes i) }
+        ((node_form (layout w maker)).put (node_at (was m.now).nodes i)) }
+    ensures value { result ≡ at + record_length (layout w maker) (node_at (was m.now).nodes i) }
 {
     let name = memory::node_name(m, i);
     let kind = memory::node_kind(m, i);
@@ -88,7 +88,7 @@ pub fn write_record(m: &[u8], i: usize, w: usize, maker: usize, out: &mut [u8], 
 
 // The first n nodes' records, written over a part of out; the place behind them.
 pub fn write_records(m: &[u8], n: usize, w: usize, maker: usize, out: &mut [u8], at: usize) -> usize
-    requires { (n ≤ NODES) × IsMemory m × IsLayout w maker
+    requires { (n ≤ NODES) × IsMemory m.now × IsLayout w maker
         × (at + records_length (layout w maker) (nodes_in n m.now) ≤ length out.old) }
     ensures out_after { out.new ≡ overwrite out.old at
         (put_all (node_form (layout w maker)) (nodes_in n m.now)) }
@@ -106,7 +106,7 @@ pub fn write_records(m: &[u8], n: usize, w: usize, maker: usize, out: &mut [u8],
 
 // The image of the first n nodes, written over a part of out; the place behind it.
 pub fn write_image(m: &[u8], n: usize, w: usize, maker: usize, out: &mut [u8], at: usize) -> usize
-    requires { (n ≤ NODES) × IsMemory m × IsLayout w maker × (page_total (nodes_in n m.now) ≤ PAGES)
+    requires { (n ≤ NODES) × IsMemory m.now × IsLayout w maker × (page_total (nodes_in n m.now) ≤ PAGES)
         × (at + image_length (layout w maker) (nodes_in n m.now) ≤ length out.old) }
     ensures out_after { out.new ≡ overwrite out.old at
         (print (layout w maker) (image_in n m.now)) }

@@ -1,4 +1,6 @@
 // The limits (SPECIFICATION 2.7), each said once in the code. `all` says that they are the definitions'.
+#![tactic(auto)]
+
 ghost use Rattle.std.specs.Prelude.{◌≡◌};
 ghost use Rattle.limits.specs.Defined.{defined_limits};
 

@@ -1,5 +1,7 @@
 // Places that lead to other places, in arrays of bytes: places in buckets, to find one without a search of all; and
 // places that lead up to place 0, each with a length, to measure the way there.
+#![tactic(auto)]
+
 ghost use Rattle.std.specs.Prelude.{true, false, ◌≡◌, ◌+◌, ◌≤◌, ◌<◌, length};
 ghost use Rattle.filesystem.specs.Tables.{NODES, PATH_BYTES};
 ghost use Rattle.links.specs.Buckets.{BUCKETS, inserted};

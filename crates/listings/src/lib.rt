@@ -21,8 +21,8 @@ use limits::kinds;
 
 // readdir on node k: 20, 13 (bit 4).
 fn readdir_own(m: &[u8], n: usize, k: usize) -> paths::Walked
-    requires { (k < n) × (n ≤ NODES) × IsMemory m }
-    ensures { result ≡ readdir_own (nodes_of n m) k }
+    requires { (k < n) × (n ≤ NODES) × IsMemory m.now }
+    ensures { result ≡ readdir_own (nodes_of n m.now) k }
 {
     if memory::node_kind(m, k) != limits::DIRECTORY {
         return paths::Walked::Refused(20);
@@ -35,8 +35,8 @@ fn readdir_own(m: &[u8], n: usize, k: usize) -> paths::Walked
 
 // readdir: stat's numbers, then its own.
 fn judge_readdir(m: &[u8], n: usize, path: &[u8]) -> paths::Walked
-    requires { (0 < n) × (n ≤ NODES) × IsMemory m }
-    ensures { (o : ℕ) → result ≡ node_for (tables_in n o (was m)) path.now readdir }
+    requires { (0 < n) × (n ≤ NODES) × IsMemory m.now }
+    ensures { (o : ℕ) → result ≡ node_for (tables_in n o (was m.now)) path.now readdir }
 {
     let w = path_calls::judge_reach(m, n, path);
     match w {
@@ -47,8 +47,8 @@ fn judge_readdir(m: &[u8], n: usize, path: &[u8]) -> paths::Walked
 
 // readdir: it waits for the listing.
 pub fn begin_readdir(m: &mut [u8], path: &[u8], request: &mut [u8]) -> outcomes::Outcome
-    requires { HasRoot m × IsMemory m × HoldsRequest request }
-    ensures { BeginsPath m request path readdir result }
+    requires { HasRoot m.old × IsMemory m.old × HoldsRequest request.old }
+    ensures { BeginsPath m request path.now readdir result }
 {
     let g = Guard::load(m);
     let w = judge_readdir(m, g.nodes, path);
@@ -94,9 +94,9 @@ fn entry_place(
     next: usize,
     places: &mut [u8; tables::PLACES],
 ) -> usize
-    requires { (n ≤ NODES) × IsMemory m × (end ≡ entry_end ID_BYTES reply.now at) × (end ≤ length reply.now) }
-    ensures { sound_nodes ID_BYTES (nodes_of n m) ≡ true
-        → result ≡ entry_place (nodes_of n m) id (entry_at ID_BYTES reply.now at) }
+    requires { (n ≤ NODES) × IsMemory m.now × (end ≡ entry_end ID_BYTES reply.now at) × (end ≤ length reply.now) }
+    ensures { sound_nodes ID_BYTES (nodes_of n m.now) ≡ true
+        → result ≡ entry_place (nodes_of n m.now) id (entry_at ID_BYTES reply.now at) }
 {
     let k = tables::find_listed(
         m,
@@ -123,9 +123,9 @@ fn entry_place(
 // `next` is the place behind the last entry's: children that stand together, listed in their order, need no table of
 // places.
 fn judge_listing(m: &[u8], n: usize, id: u64, reply: &[u8]) -> u8
-    requires { (n ≤ NODES) × IsMemory m }
-    ensures { sound_nodes ID_BYTES (nodes_of n m) ≡ true → (k o : ℕ) → (node_at (nodes_of n m) k).id ≡ id
-        → result ≡ reason_for (tables_in n o (was m)) reply.now (asked (listing k)) }
+    requires { (n ≤ NODES) × IsMemory m.now }
+    ensures { sound_nodes ID_BYTES (nodes_of n m.now) ≡ true → (k o : ℕ) → (node_at (nodes_of n m.now) k).id ≡ id
+        → result ≡ reason_for (tables_in n o (was m.now)) reply.now (asked (listing k)) }
 {
     let mut seen = [0u8; Guard::NODES];
     let mut places = [0u8; tables::PLACES];
@@ -157,8 +157,8 @@ fn judge_listing(m: &[u8], n: usize, id: u64, reply: &[u8]) -> u8
 
 // readdir: done with the number of entries, and the reply's bytes. A right listing is no longer than the answer buffer.
 pub fn accept_listing(m: &mut [u8], reply: &[u8], answer: &mut [u8]) -> outcomes::Outcome
-    requires { ((numbers_in m).call ≡ LISTING) × IsMemory m }
-    ensures { AcceptsInto m reply answer result }
+    requires { ((numbers_in m.old).call ≡ LISTING) × IsMemory m.old }
+    ensures { AcceptsInto m reply.now answer result }
 {
     let g = Guard::load(m);
     let n = g.nodes;

@@ -28,8 +28,8 @@ fn is_before_end(x: u64, address: u64, size: u32) -> bool
 
 // Whether map i has a byte of these.
 fn overlaps(m: &[u8], i: usize, address: u64, size: u32) -> bool
-    requires { (i < MAPS) × IsMemory m }
-    ensures { result ≡ overlaps (new_map address size) (map_at (was m).maps i) }
+    requires { (i < MAPS) × IsMemory m.now }
+    ensures { result ≡ overlaps (new_map address size) (map_at (was m.now).maps i) }
 {
     let first = memory::map_address(m, i);
     if is_before_end(address, first, memory::map_size(m, i)) {
@@ -40,8 +40,8 @@ fn overlaps(m: &[u8], i: usize, address: u64, size: u32) -> bool
 
 // Whether one of the first n maps has.
 fn any_overlaps(m: &[u8], n: usize, address: u64, size: u32) -> bool
-    requires { (n ≤ MAPS) × IsMemory m }
-    ensures { result ≡ any (overlaps (new_map address size)) (take n (was m).maps) }
+    requires { (n ≤ MAPS) × IsMemory m.now }
+    ensures { result ≡ any (overlaps (new_map address size)) (take n (was m.now).maps) }
 {
     let mut i = 0;
     // none before i has
@@ -56,8 +56,8 @@ fn any_overlaps(m: &[u8], n: usize, address: u64, size: u32) -> bool
 
 // The place of the map that begins at this address, or n: none of the first n does.
 fn find(m: &[u8], n: usize, address: u64) -> usize
-    requires { (n ≤ MAPS) × IsMemory m }
-    ensures { result ≡ find_map (take n (was m).maps) address }
+    requires { (n ≤ MAPS) × IsMemory m.now }
+    ensures { result ≡ find_map (take n (was m.now).maps) address }
 {
     let mut i = 0;
     // none before i does
@@ -138,8 +138,8 @@ fn is_misplaced(address: u64, size: usize) -> bool
 
 // A map's reply: 1 of another length, 8 where the address or a byte is wrong, else 0.
 fn judge_map(m: &[u8], n: usize, size: usize, reply: &[u8]) -> u8
-    requires { (n ≤ MAPS) × (size ≤ MAP_BYTES) × IsMemory m }
-    ensures value { result ≡ map_reason (take n (was m).maps) size reply.now }
+    requires { (n ≤ MAPS) × (size ≤ MAP_BYTES) × IsMemory m.now }
+    ensures value { result ≡ map_reason (take n (was m.now).maps) size reply.now }
     ensures reply_len { result ≡ 0 → length reply.now ≡ 8 + size }
 {
     if reply.len() != 8 + size {
@@ -161,7 +161,7 @@ fn judge_map(m: &[u8], n: usize, size: usize, reply: &[u8]) -> u8
 // ---- map
 
 pub fn begin_map(m: &mut [u8], size: u32, request: &mut [u8]) -> outcomes::Outcome
-    requires { (is_map_size size ≡ true) × IsMemory m × HoldsRequest request }
+    requires { (is_map_size size ≡ true) × IsMemory m.old × HoldsRequest request.old }
     ensures { BeginsMap m request (map_memory size) result }
 {
     if Guard::MAPS <= guard_state::map_count(m) {
@@ -173,8 +173,8 @@ pub fn begin_map(m: &mut [u8], size: u32, request: &mut [u8]) -> outcomes::Outco
 
 // The map joins the table; done with its address. No consistent state lacks room for it.
 pub fn accept_map(m: &mut [u8], reply: &[u8]) -> outcomes::Outcome
-    requires { ((numbers_in m).call ≡ MAPPING) × IsMemory m }
-    ensures { Accepts m reply result }
+    requires { ((numbers_in m.old).call ≡ MAPPING) × IsMemory m.old }
+    ensures { Accepts m reply.now result }
 {
     let g = Guard::load(m);
     let n = guard_state::map_count(m);
@@ -194,7 +194,7 @@ pub fn accept_map(m: &mut [u8], reply: &[u8]) -> outcomes::Outcome
 // ---- unmap
 
 pub fn begin_unmap(m: &mut [u8], address: u64, request: &mut [u8]) -> outcomes::Outcome
-    requires { IsMemory m × HoldsRequest request }
+    requires { IsMemory m.old × HoldsRequest request.old }
     ensures { BeginsMap m request (unmap address) result }
 {
     let n = guard_state::map_count(m);
@@ -207,8 +207,8 @@ pub fn begin_unmap(m: &mut [u8], address: u64, request: &mut [u8]) -> outcomes::
 
 // The map is taken out; those behind it move up. No consistent state lacks it.
 pub fn accept_unmap(m: &mut [u8], reply: &[u8]) -> outcomes::Outcome
-    requires { ((numbers_in m).call ≡ UNMAPPING) × IsMemory m }
-    ensures { Accepts m reply result }
+    requires { ((numbers_in m.old).call ≡ UNMAPPING) × IsMemory m.old }
+    ensures { Accepts m reply.now result }
 {
     let b = replies::judge_status(reply, 0);
     if b != 0 {

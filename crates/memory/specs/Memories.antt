@@ -1,25 +1,25 @@
 -- The guard's memory as contracts speak of it.
---   IsMemory m              the slice is long enough to be one
---   was m                   what stood in it at the function's entry
---   nodes_of n m, opens_of    its first n rows then
---   Becomes m f             f makes what stands in it now of what stood there, and it is as long as it was
+--   IsMemory m              the bytes are long enough to be one
+--   was m                   what stands in them; of what a function may write, `m.old` has them at its entry
+--   nodes_of n m, opens_of  their first n rows
+--   Becomes m f             f makes what stands in the slice now of what stood there, and it is as long as it was
 -- Assumes nothing.
 use Rattle.std.specs.Prelude.{◌≡◌, List, ℕ, ◌≤◌, length, take}
-use Rattle.numbers.specs.Slices.{Slice, Lent, KeepsLength}
+use Rattle.numbers.specs.Slices.{Lent, KeepsLength}
 use Rattle.filesystem.specs.Tables.{Node, OpenFile}
 use Rattle.memory.specs.Layout.{Mem, mem_of, memory_size}
 
-abbrev pub IsMemory : Slice → Type 0
-IsMemory m = memory_size ≤ length m.now
+abbrev pub IsMemory : List ℕ → Type 0
+IsMemory m = memory_size ≤ length m
 
-abbrev pub was : Lent → Mem
-was m = mem_of m.entry.now
+abbrev pub was : List ℕ → Mem
+was m = mem_of m
 
-abbrev pub nodes_of : ℕ → Lent → List Node
-nodes_of n m = take n (mem_of m.entry.now).nodes
+abbrev pub nodes_of : ℕ → List ℕ → List Node
+nodes_of n m = take n (mem_of m).nodes
 
-abbrev pub opens_of : ℕ → Lent → List OpenFile
-opens_of n m = take n (mem_of m.entry.now).opens
+abbrev pub opens_of : ℕ → List ℕ → List OpenFile
+opens_of n m = take n (mem_of m).opens
 
 abbrev pub Becomes : Lent → (Mem → Mem) → Type 0
 Becomes m f = (mem_of m.exit.now ≡ f (mem_of m.entry.now)) × KeepsLength m

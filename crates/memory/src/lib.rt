@@ -1,5 +1,7 @@
 // The guard's memory: one slice that the caller lends holds all of it. Only this crate knows where a table stands
 // (specs/Layout.antt) and where a field stands in its row (specs/Records.antt). Contracts are over the view `mem_of`.
+#![tactic(auto)]
+
 ghost use Rattle.std.specs.Prelude.{[], ◌≡◌, ◌+◌, ◌*◌, ◌%◌, ◌<◌, ◌≤◌, length, get_or, take, set};
 ghost use Rattle.lists.specs.Form.{put_all};
 ghost use Rattle.lists.specs.Formats.{bytes};
@@ -56,15 +58,15 @@ pub fn least_length() -> usize
 
 // Number k of the header.
 pub fn head(m: &[u8], k: usize) -> u64
-    requires { (k < head_numbers) × IsMemory m }
-    ensures { result ≡ get_or (was m).head k 0 }
+    requires { (k < head_numbers) × IsMemory m.now }
+    ensures { result ≡ get_or (was m.now).head k 0 }
 {
     numbers::u64_at(m, k * 8)
 }
 
 pub fn put_head(m: &mut [u8], k: usize, x: u64)
-    requires { (k < head_numbers) × IsMemory m }
-    ensures { Becomes m (with_head (set (was m).head k x)) }
+    requires { (k < head_numbers) × IsMemory m.old }
+    ensures { Becomes m (with_head (set (was m.old).head k x)) }
 {
     let b = numbers::bytes8(x);
     buffers::put(m, k * 8, &b);
@@ -73,36 +75,36 @@ pub fn put_head(m: &mut [u8], k: usize, x: u64)
 // ---- nodes
 
 pub fn node_id(m: &[u8], i: usize) -> u64
-    requires { (i < NODES) × IsMemory m }
-    ensures { result ≡ (node_at (was m).nodes i).id }
+    requires { (i < NODES) × IsMemory m.now }
+    ensures { result ≡ (node_at (was m.now).nodes i).id }
 {
     numbers::u64_at(m, NODES_AT + i * NODE_WIDTH)
 }
 
 pub fn node_parent(m: &[u8], i: usize) -> u64
-    requires { (i < NODES) × IsMemory m }
-    ensures { result ≡ (node_at (was m).nodes i).parent }
+    requires { (i < NODES) × IsMemory m.now }
+    ensures { result ≡ (node_at (was m.now).nodes i).parent }
 {
     numbers::u64_at(m, NODES_AT + i * NODE_WIDTH + 8)
 }
 
 pub fn node_kind(m: &[u8], i: usize) -> u8
-    requires { (i < NODES) × IsMemory m }
-    ensures { result ≡ (node_at (was m).nodes i).kind }
+    requires { (i < NODES) × IsMemory m.now }
+    ensures { result ≡ (node_at (was m.now).nodes i).kind }
 {
     m[NODES_AT + i * NODE_WIDTH + 16]
 }
 
 pub fn node_mode(m: &[u8], i: usize) -> u8
-    requires { (i < NODES) × IsMemory m }
-    ensures { result ≡ (node_at (was m).nodes i).mode }
+    requires { (i < NODES) × IsMemory m.now }
+    ensures { result ≡ (node_at (was m.now).nodes i).mode }
 {
     m[NODES_AT + i * NODE_WIDTH + 17]
 }
 
 pub fn node_size(m: &[u8], i: usize) -> u32
-    requires { (i < NODES) × IsMemory m }
-    ensures { result ≡ (node_at (was m).nodes i).size }
+    requires { (i < NODES) × IsMemory m.now }
+    ensures { result ≡ (node_at (was m.now).nodes i).size }
 {
     numbers::u32_at(m, NODES_AT + i * NODE_WIDTH + 18)
 }
@@ -118,8 +120,8 @@ fn name_length(b: u8) -> usize
 }
 
 pub fn node_name(m: &[u8], i: usize) -> &[u8]
-    requires { (i < NODES) × IsMemory m }
-    ensures { (result.now ≡ (node_at (was m).nodes i).name) × (length result.now ≤ NAME_BYTES) }
+    requires { (i < NODES) × IsMemory m.now }
+    ensures { (result.now ≡ (node_at (was m.now).nodes i).name) × (length result.now ≤ NAME_BYTES) }
 {
     let at = NODES_AT + i * NODE_WIDTH;
     let n = name_length(m[at + 22]);
@@ -132,8 +134,8 @@ pub fn node_name(m: &[u8], i: usize) -> &[u8]
 // so that a search is
 // compiled to a loop for each class of lengths.
 pub fn is_child(m: &[u8], i: usize, parent: u64, name: &[u8]) -> bool
-    requires { (i < NODES) × IsMemory m }
-    ensures { result ≡ is_child parent name.now (node_at (was m).nodes i) }
+    requires { (i < NODES) × IsMemory m.now }
+    ensures { result ≡ is_child parent name.now (node_at (was m.now).nodes i) }
 {
     if node_parent(m, i) != parent {
         return false;
@@ -184,30 +186,30 @@ pub fn node_row(
 }
 
 pub fn put_node(m: &mut [u8], i: usize, row: [u8; NODE_WIDTH])
-    requires { (i < NODES) × IsMemory m }
-    ensures { Becomes m (with_nodes (set (was m).nodes i (node_of row))) }
+    requires { (i < NODES) × IsMemory m.old }
+    ensures { Becomes m (with_nodes (set (was m.old).nodes i (node_of row))) }
 {
     buffers::put(m, NODES_AT + i * NODE_WIDTH, &row);
 }
 
 pub fn set_mode(m: &mut [u8], i: usize, mode: u8)
-    requires { (i < NODES) × IsMemory m }
-    ensures { Becomes m (with_nodes (set_mode (was m).nodes i mode)) }
+    requires { (i < NODES) × IsMemory m.old }
+    ensures { Becomes m (with_nodes (set_mode (was m.old).nodes i mode)) }
 {
     m[NODES_AT + i * NODE_WIDTH + 17] = mode;
 }
 
 pub fn set_size(m: &mut [u8], i: usize, size: u32)
-    requires { (i < NODES) × IsMemory m }
-    ensures { Becomes m (with_nodes (set_size (was m).nodes i size)) }
+    requires { (i < NODES) × IsMemory m.old }
+    ensures { Becomes m (with_nodes (set_size (was m.old).nodes i size)) }
 {
     let b = numbers::bytes4(size);
     buffers::put(m, NODES_AT + i * NODE_WIDTH + 18, &b);
 }
 
 pub fn move_nodes(m: &mut [u8], from: usize, to: usize, n: usize)
-    requires { (from + n ≤ NODES) × (to + n ≤ NODES) × IsMemory m }
-    ensures { Becomes m (with_nodes (overwrite (was m).nodes to (part from n (was m).nodes))) }
+    requires { (from + n ≤ NODES) × (to + n ≤ NODES) × IsMemory m.old }
+    ensures { Becomes m (with_nodes (overwrite (was m.old).nodes to (part from n (was m.old).nodes))) }
 {
     buffers::shift(
         m,
@@ -220,29 +222,29 @@ pub fn move_nodes(m: &mut [u8], from: usize, to: usize, n: usize)
 // ---- open files
 
 pub fn open_handle(m: &[u8], i: usize) -> u64
-    requires { (i < open_rows) × IsMemory m }
-    ensures { result ≡ (open_at (was m).opens i).handle }
+    requires { (i < open_rows) × IsMemory m.now }
+    ensures { result ≡ (open_at (was m.now).opens i).handle }
 {
     numbers::u64_at(m, OPENS_AT + i * OPEN_WIDTH)
 }
 
 pub fn open_descriptor(m: &[u8], i: usize) -> u32
-    requires { (i < open_rows) × IsMemory m }
-    ensures { result ≡ (open_at (was m).opens i).descriptor }
+    requires { (i < open_rows) × IsMemory m.now }
+    ensures { result ≡ (open_at (was m.now).opens i).descriptor }
 {
     numbers::u32_at(m, OPENS_AT + i * OPEN_WIDTH + 8)
 }
 
 pub fn open_rights(m: &[u8], i: usize) -> u8
-    requires { (i < open_rows) × IsMemory m }
-    ensures { result ≡ (open_at (was m).opens i).rights }
+    requires { (i < open_rows) × IsMemory m.now }
+    ensures { result ≡ (open_at (was m.now).opens i).rights }
 {
     m[OPENS_AT + i * OPEN_WIDTH + 12]
 }
 
 pub fn open_cursor(m: &[u8], i: usize) -> u32
-    requires { (i < open_rows) × IsMemory m }
-    ensures { result ≡ (open_at (was m).opens i).cursor }
+    requires { (i < open_rows) × IsMemory m.now }
+    ensures { result ≡ (open_at (was m.now).opens i).cursor }
 {
     numbers::u32_at(m, OPENS_AT + i * OPEN_WIDTH + 16)
 }
@@ -250,7 +252,7 @@ pub fn open_cursor(m: &[u8], i: usize) -> u32
 // Where the node of open file i stood when it was opened. A removal may have moved it, so this is where a search begins
 // and no more.
 pub fn open_hint(m: &[u8], i: usize) -> u8
-    requires { (i < open_rows) × IsMemory m }
+    requires { (i < open_rows) × IsMemory m.now }
     ensures { result ≡ get_or m.now (opens_at + i * open_width + hint_at) 0 }
 {
     m[OPENS_AT + i * OPEN_WIDTH + 13]
@@ -271,23 +273,23 @@ pub fn open_row(handle: u64, descriptor: u32, rights: u8, hint: u8, cursor: u32)
 }
 
 pub fn put_open(m: &mut [u8], i: usize, row: [u8; OPEN_WIDTH])
-    requires { (i < open_rows) × IsMemory m }
-    ensures { Becomes m (with_opens (set (was m).opens i (open_of row))) }
+    requires { (i < open_rows) × IsMemory m.old }
+    ensures { Becomes m (with_opens (set (was m.old).opens i (open_of row))) }
 {
     buffers::put(m, OPENS_AT + i * OPEN_WIDTH, &row);
 }
 
 pub fn set_cursor(m: &mut [u8], i: usize, cursor: u32)
-    requires { (i < open_rows) × IsMemory m }
-    ensures { Becomes m (with_opens (set_cursor (was m).opens i cursor)) }
+    requires { (i < open_rows) × IsMemory m.old }
+    ensures { Becomes m (with_opens (set_cursor (was m.old).opens i cursor)) }
 {
     let b = numbers::bytes4(cursor);
     buffers::put(m, OPENS_AT + i * OPEN_WIDTH + 16, &b);
 }
 
 pub fn move_opens(m: &mut [u8], from: usize, to: usize, n: usize)
-    requires { (from + n ≤ open_rows) × (to + n ≤ open_rows) × IsMemory m }
-    ensures { Becomes m (with_opens (overwrite (was m).opens to (part from n (was m).opens))) }
+    requires { (from + n ≤ open_rows) × (to + n ≤ open_rows) × IsMemory m.old }
+    ensures { Becomes m (with_opens (overwrite (was m.old).opens to (part from n (was m.old).opens))) }
 {
     buffers::shift(
         m,
@@ -300,8 +302,8 @@ pub fn move_opens(m: &mut [u8], from: usize, to: usize, n: usize)
 // ---- digests
 
 pub fn digest(m: &[u8], k: usize) -> &[u8]
-    requires { (k < PAGES) × IsMemory m }
-    ensures { (result.now ≡ get_or (was m).digests k []) × (length result.now ≡ DIGEST_BYTES) }
+    requires { (k < PAGES) × IsMemory m.now }
+    ensures { (result.now ≡ get_or (was m.now).digests k []) × (length result.now ≡ DIGEST_BYTES) }
 {
     let at = DIGESTS_AT + k * DIGEST_WIDTH;
     let end = at + DIGEST_WIDTH;
@@ -309,15 +311,15 @@ pub fn digest(m: &[u8], k: usize) -> &[u8]
 }
 
 pub fn put_digest(m: &mut [u8], k: usize, x: [u8; DIGEST_WIDTH])
-    requires { (k < PAGES) × IsMemory m }
-    ensures { Becomes m (with_digests (set (was m).digests k x)) }
+    requires { (k < PAGES) × IsMemory m.old }
+    ensures { Becomes m (with_digests (set (was m.old).digests k x)) }
 {
     buffers::put(m, DIGESTS_AT + k * DIGEST_WIDTH, &x);
 }
 
 pub fn move_digests(m: &mut [u8], from: usize, to: usize, n: usize)
-    requires { (from + n ≤ PAGES) × (to + n ≤ PAGES) × IsMemory m }
-    ensures { Becomes m (with_digests (overwrite (was m).digests to (part from n (was m).digests))) }
+    requires { (from + n ≤ PAGES) × (to + n ≤ PAGES) × IsMemory m.old }
+    ensures { Becomes m (with_digests (overwrite (was m.old).digests to (part from n (was m.old).digests))) }
 {
     buffers::shift(
         m,
@@ -329,8 +331,8 @@ pub fn move_digests(m: &mut [u8], from: usize, to: usize, n: usize)
 
 // The first n digests, one behind the other.
 pub fn digests(m: &[u8], n: usize) -> &[u8]
-    requires { (n ≤ PAGES) × IsMemory m }
-    ensures { (result.now ≡ put_all (bytes digest_width) (take n (was m).digests))
+    requires { (n ≤ PAGES) × IsMemory m.now }
+    ensures { (result.now ≡ put_all (bytes digest_width) (take n (was m.now).digests))
         × (length result.now ≡ n * digest_width) }
 {
     let at = DIGESTS_AT;
@@ -340,8 +342,8 @@ pub fn digests(m: &[u8], n: usize) -> &[u8]
 
 // n digests that stand one behind the other, kept as the first n.
 pub fn put_digests(m: &mut [u8], n: usize, x: &[u8])
-    requires { (n ≤ PAGES) × (length x.now ≡ n * digest_width) × IsMemory m }
-    ensures { Becomes m (with_digests (overwrite (was m).digests 0 (rows digest_width n x.now))) }
+    requires { (n ≤ PAGES) × (length x.now ≡ n * digest_width) × IsMemory m.old }
+    ensures { Becomes m (with_digests (overwrite (was m.old).digests 0 (rows digest_width n x.now))) }
 {
     buffers::put(m, DIGESTS_AT, x);
 }
@@ -349,8 +351,8 @@ pub fn put_digests(m: &mut [u8], n: usize, x: &[u8])
 // ---- the staging area
 
 pub fn staged(m: &[u8], at: usize, n: usize) -> &[u8]
-    requires { (at + n ≤ staging_size) × IsMemory m }
-    ensures { (result.now ≡ part at n (was m).staged) × (length result.now ≡ n) }
+    requires { (at + n ≤ staging_size) × IsMemory m.now }
+    ensures { (result.now ≡ part at n (was m.now).staged) × (length result.now ≡ n) }
 {
     let start = STAGING_AT + at;
     let end = start + n;
@@ -358,26 +360,26 @@ pub fn staged(m: &[u8], at: usize, n: usize) -> &[u8]
 }
 
 pub fn stage(m: &mut [u8], at: usize, x: &[u8])
-    requires { (at + length x.now ≤ staging_size) × IsMemory m }
-    ensures { Becomes m (with_staged (overwrite (was m).staged at x.now)) }
+    requires { (at + length x.now ≤ staging_size) × IsMemory m.old }
+    ensures { Becomes m (with_staged (overwrite (was m.old).staged at x.now)) }
 {
     buffers::put(m, STAGING_AT + at, x);
 }
 
 // Digest k of the new ones in the staging area.
 pub fn stage_digest(m: &mut [u8], k: usize, x: [u8; DIGEST_WIDTH])
-    requires { (k < new_digests) × IsMemory m }
-    ensures { Becomes m (with_staged (overwrite (was m).staged (data_size + k * digest_width) x)) }
+    requires { (k < new_digests) × IsMemory m.old }
+    ensures { Becomes m (with_staged (overwrite (was m.old).staged (data_size + k * digest_width) x)) }
 {
     buffers::put(m, STAGING_AT + (DATA_SIZE + k * DIGEST_WIDTH), &x);
 }
 
 // The first n new digests, kept from digest i on.
 pub fn keep_digests(m: &mut [u8], i: usize, n: usize)
-    requires { (i + n ≤ PAGES) × (n ≤ new_digests) × IsMemory m }
+    requires { (i + n ≤ PAGES) × (n ≤ new_digests) × IsMemory m.old }
     ensures { Becomes m
-        (with_digests (overwrite (was m).digests i
-        (rows digest_width n (part data_size (n * digest_width) (was m).staged)))) }
+        (with_digests (overwrite (was m.old).digests i
+        (rows digest_width n (part data_size (n * digest_width) (was m.old).staged)))) }
 {
     buffers::shift(
         m,
@@ -390,15 +392,15 @@ pub fn keep_digests(m: &mut [u8], i: usize, n: usize)
 // ---- maps
 
 pub fn map_address(m: &[u8], i: usize) -> u64
-    requires { (i < MAPS) × IsMemory m }
-    ensures { result ≡ (map_at (was m).maps i).address }
+    requires { (i < MAPS) × IsMemory m.now }
+    ensures { result ≡ (map_at (was m.now).maps i).address }
 {
     numbers::u64_at(m, MAPS_AT + i * MAP_WIDTH)
 }
 
 pub fn map_size(m: &[u8], i: usize) -> u32
-    requires { (i < MAPS) × IsMemory m }
-    ensures { result ≡ (map_at (was m).maps i).size }
+    requires { (i < MAPS) × IsMemory m.now }
+    ensures { result ≡ (map_at (was m.now).maps i).size }
 {
     numbers::u32_at(m, MAPS_AT + i * MAP_WIDTH + 8)
 }
@@ -415,16 +417,16 @@ fn map_row(address: u64, size: u32) -> [u8; MAP_WIDTH]
 }
 
 pub fn put_map(m: &mut [u8], i: usize, address: u64, size: u32)
-    requires { (i < MAPS) × IsMemory m }
-    ensures { Becomes m (with_maps (set (was m).maps i (record { address = address; size = size }))) }
+    requires { (i < MAPS) × IsMemory m.old }
+    ensures { Becomes m (with_maps (set (was m.old).maps i (record { address = address; size = size }))) }
 {
     let row = map_row(address, size);
     buffers::put(m, MAPS_AT + i * MAP_WIDTH, &row);
 }
 
 pub fn move_maps(m: &mut [u8], from: usize, to: usize, n: usize)
-    requires { (from + n ≤ MAPS) × (to + n ≤ MAPS) × IsMemory m }
-    ensures { Becomes m (with_maps (overwrite (was m).maps to (part from n (was m).maps))) }
+    requires { (from + n ≤ MAPS) × (to + n ≤ MAPS) × IsMemory m.old }
+    ensures { Becomes m (with_maps (overwrite (was m.old).maps to (part from n (was m.old).maps))) }
 {
     buffers::shift(
         m,

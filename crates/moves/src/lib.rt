@@ -17,9 +17,9 @@ fn parent_place(
     hint: usize,
     places: &mut [u8; tables::PLACES],
 ) -> usize
-    requires { (k < n) × (n ≤ NODES) × IsMemory m }
-    ensures { (result < n) × ((w : ℕ) → sound_nodes w (nodes_of n m) ≡ true → 0 < k
-        → ParentAt (nodes_of n m) (node_at (nodes_of n m) k) result) }
+    requires { (k < n) × (n ≤ NODES) × IsMemory m.now }
+    ensures { (result < n) × ((w : ℕ) → sound_nodes w (nodes_of n m.now) ≡ true → 0 < k
+        → ParentAt (nodes_of n m.now) (node_at (nodes_of n m.now) k) result) }
 {
     let d = tables::find_listed(m, n, memory::node_parent(m, k), hint, places);
     if n <= d {
@@ -30,10 +30,10 @@ fn parent_place(
 
 // Of each node but the root, the place of its parent in `to` and the bytes of its name, with a slash, in `far`.
 fn place_parents(m: &[u8], n: usize, to: &mut [u8], far: &mut [u8])
-    requires { (0 < n) × (n ≤ NODES) × (length to.old ≡ NODES) × (length far.old ≡ NODES) × IsMemory m }
+    requires { (0 < n) × (n ≤ NODES) × (length to.old ≡ NODES) × (length far.old ≡ NODES) × IsMemory m.now }
     ensures { Linked to.new far.new n
-        × ((w : ℕ) → sound_nodes w (nodes_of n m) ≡ true
-        → Placed (node_at (nodes_of n m)) to.new far.new n n) }
+        × ((w : ℕ) → sound_nodes w (nodes_of n m.now) ≡ true
+        → Placed (node_at (nodes_of n m.now)) to.new far.new n n) }
 {
     let mut places = [0u8; tables::PLACES];
     let mut parent = 0;
@@ -49,8 +49,8 @@ fn place_parents(m: &[u8], n: usize, to: &mut [u8], far: &mut [u8])
 
 // Whether one of the two directories may not be written: 13.
 fn is_barred(m: &[u8], n: usize, from: usize, d: usize) -> bool
-    requires { (from < n) × (d < n) × (n ≤ NODES) × IsMemory m }
-    ensures { result ≡ (not (has_bit 2 (node_at (nodes_of n m) from)) || not (has_bit 2 (node_at (nodes_of n m) d))) }
+    requires { (from < n) × (d < n) × (n ≤ NODES) × IsMemory m.now }
+    ensures { result ≡ (not (has_bit 2 (node_at (nodes_of n m.now) from)) || not (has_bit 2 (node_at (nodes_of n m.now) d))) }
 {
     if memory::node_mode(m, from) / 2 % 2 != 1 {
         return true;
@@ -72,9 +72,9 @@ fn depth_number(shallow: bool) -> u8
 // a path beneath it would be too long, or 0.
 fn judge_directory(m: &[u8], n: usize, k: usize, from: usize, d: usize, name: &[u8]) -> u8
     requires { (0 < k) × (k < n) × (from < n) × (d < n) × (n ≤ NODES) × (length name.now ≤ NAME_BYTES)
-        × IsMemory m }
-    ensures { (w : ℕ) → sound_nodes w (nodes_of n m) ≡ true → is_directory (node_at (nodes_of n m) d) ≡ true
-        → result ≡ move_number (nodes_of n m) k from d name.now }
+        × IsMemory m.now }
+    ensures { (w : ℕ) → sound_nodes w (nodes_of n m.now) ≡ true → is_directory (node_at (nodes_of n m.now) d) ≡ true
+        → result ≡ move_number (nodes_of n m.now) k from d name.now }
 {
     let mut to = [0u8; limits::NODES];
     let mut far = [0u8; limits::NODES];
@@ -94,10 +94,10 @@ fn judge_directory(m: &[u8], n: usize, k: usize, from: usize, d: usize, name: &[
 // The same of any node; nothing lies beneath a file.
 pub fn judge_move(m: &[u8], n: usize, k: usize, from: usize, d: usize, name: &[u8]) -> u8
     requires { (0 < k) × (k < n) × (from < n) × (d < n) × (n ≤ NODES) × (length name.now ≤ NAME_BYTES)
-        × IsMemory m }
-    ensures { (w : ℕ) → sound_nodes w (nodes_of n m) ≡ true → is_directory (node_at (nodes_of n m) d) ≡ true
-        → length_in (nodes_of n m) d name.now ≤ PATH_BYTES
-        → result ≡ move_number (nodes_of n m) k from d name.now }
+        × IsMemory m.now }
+    ensures { (w : ℕ) → sound_nodes w (nodes_of n m.now) ≡ true → is_directory (node_at (nodes_of n m.now) d) ≡ true
+        → length_in (nodes_of n m.now) d name.now ≤ PATH_BYTES
+        → result ≡ move_number (nodes_of n m.now) k from d name.now }
 {
     if memory::node_kind(m, k) == limits::DIRECTORY {
         return judge_directory(m, n, k, from, d, name);

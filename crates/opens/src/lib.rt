@@ -25,8 +25,8 @@ use limits::kinds;
 
 // open on node k: 21, 13, 16, 24.
 fn open_own(m: &[u8], n: usize, o: usize, k: usize, rights: u8) -> paths::Walked
-    requires { (k < n) × (n ≤ NODES) × (o ≤ open_rows) × IsMemory m }
-    ensures { result ≡ open_own (tables_in n o (was m)) k rights }
+    requires { (k < n) × (n ≤ NODES) × (o ≤ open_rows) × IsMemory m.now }
+    ensures { result ≡ open_own (tables_in n o (was m.now)) k rights }
 {
     if memory::node_kind(m, k) == limits::DIRECTORY {
         return paths::Walked::Refused(21);
@@ -45,8 +45,8 @@ fn open_own(m: &[u8], n: usize, o: usize, k: usize, rights: u8) -> paths::Walked
 
 // open: stat's numbers, then its own.
 fn judge_open(m: &[u8], n: usize, o: usize, path: &[u8], rights: u8) -> paths::Walked
-    requires { (0 < n) × (n ≤ NODES) × (o ≤ open_rows) × IsMemory m }
-    ensures { result ≡ node_for (tables_in n o (was m)) path.now (open_as rights) }
+    requires { (0 < n) × (n ≤ NODES) × (o ≤ open_rows) × IsMemory m.now }
+    ensures { result ≡ node_for (tables_in n o (was m.now)) path.now (open_as rights) }
 {
     let w = path_calls::judge_reach(m, n, path);
     match w {
@@ -57,8 +57,8 @@ fn judge_open(m: &[u8], n: usize, o: usize, path: &[u8], rights: u8) -> paths::W
 
 // open: it waits for a descriptor.
 pub fn begin_open(m: &mut [u8], rights: u8, path: &[u8], request: &mut [u8]) -> outcomes::Outcome
-    requires { HasRoot m × IsMemory m × HoldsRequest request }
-    ensures { BeginsPath m request path (open_as rights) result }
+    requires { HasRoot m.old × IsMemory m.old × HoldsRequest request.old }
+    ensures { BeginsPath m request path.now (open_as rights) result }
 {
     let g = Guard::load(m);
     let w = judge_open(m, g.nodes, g.opens, path, rights);
@@ -75,8 +75,8 @@ pub fn begin_open(m: &mut [u8], rights: u8, path: &[u8], request: &mut [u8]) -> 
 
 // A new descriptor: 1 of another length, 4 where it is out of range or an open file has it.
 fn judge_descriptor(m: &[u8], o: usize, reply: &[u8]) -> u8
-    requires { (o ≤ open_rows) × IsMemory m }
-    ensures { (k rights n : ℕ) → result ≡ reason_for (tables_in n o (was m)) reply.now
+    requires { (o ≤ open_rows) × IsMemory m.now }
+    ensures { (k rights n : ℕ) → result ≡ reason_for (tables_in n o (was m.now)) reply.now
         (asked (opening k rights)) }
 {
     if reply.len() != 4 {
@@ -97,8 +97,8 @@ fn judge_descriptor(m: &[u8], o: usize, reply: &[u8]) -> u8
 
 // open: one more open file, at its beginning; done with its id, which is its handle.
 pub fn accept_open(m: &mut [u8], reply: &[u8]) -> outcomes::Outcome
-    requires { ((numbers_in m).call ≡ OPENING) × IsMemory m }
-    ensures { Accepts m reply result }
+    requires { ((numbers_in m.old).call ≡ OPENING) × IsMemory m.old }
+    ensures { Accepts m reply.now result }
 {
     let g = Guard::load(m);
     let o = g.opens;
@@ -127,7 +127,7 @@ pub fn accept_open(m: &mut [u8], reply: &[u8]) -> outcomes::Outcome
 
 // close: 9.
 fn judge_close(m: &[u8], n: usize, o: usize, handle: u64) -> handle_calls::Handled
-    requires { (n ≤ NODES) × (o ≤ open_rows) × IsMemory m }
+    requires { (n ≤ NODES) × (o ≤ open_rows) × IsMemory m.now }
     ensures { Judgement m.now n o handle (close handle) result }
 {
     let k = tables::find_handle(m, o, handle);
@@ -140,8 +140,8 @@ fn judge_close(m: &[u8], n: usize, o: usize, handle: u64) -> handle_calls::Handl
 
 // A close that passed: it waits, and its request goes out.
 fn send_close(m: &mut [u8], opened: usize, request: &mut [u8]) -> outcomes::Outcome
-    requires { (opened < open_rows) × IsMemory m × HoldsRequest request }
-    ensures { Asks m request (asked (closing opened)) (close_request (open_at (was m).opens opened).descriptor) result }
+    requires { (opened < open_rows) × IsMemory m.old × HoldsRequest request.old }
+    ensures { Asks m request (asked (closing opened)) (close_request (open_at (was m.old).opens opened).descriptor) result }
 {
     let d = memory::open_descriptor(m, opened);
     guard_state::wait_close(m, opened);
@@ -150,7 +150,7 @@ fn send_close(m: &mut [u8], opened: usize, request: &mut [u8]) -> outcomes::Outc
 }
 
 pub fn begin_close(m: &mut [u8], handle: u64, request: &mut [u8]) -> outcomes::Outcome
-    requires { IsMemory m × HoldsRequest request }
+    requires { IsMemory m.old × HoldsRequest request.old }
     ensures { Begins m request (close handle) result }
 {
     let g = Guard::load(m);
@@ -163,8 +163,8 @@ pub fn begin_close(m: &mut [u8], handle: u64, request: &mut [u8]) -> outcomes::O
 
 // close: the open file is taken out.
 pub fn accept_close(m: &mut [u8], reply: &[u8]) -> outcomes::Outcome
-    requires { ((numbers_in m).call ≡ CLOSING) × IsMemory m }
-    ensures { Accepts m reply result }
+    requires { ((numbers_in m.old).call ≡ CLOSING) × IsMemory m.old }
+    ensures { Accepts m reply.now result }
 {
     let b = replies::judge_status(reply, 0);
     if b != 0 {
@@ -186,7 +186,7 @@ pub fn accept_close(m: &mut [u8], reply: &[u8]) -> outcomes::Outcome
 
 // seek: 9, 22 past the end.
 fn judge_seek(m: &[u8], n: usize, o: usize, handle: u64, position: u64) -> handle_calls::Handled
-    requires { (n ≤ NODES) × (o ≤ open_rows) × IsMemory m }
+    requires { (n ≤ NODES) × (o ≤ open_rows) × IsMemory m.now }
     ensures judgement { Judgement m.now n o handle (seek handle position) result }
     ensures by_index { (i j : ℕ) → result ≡ Open i j → position < 4294967296 }
 {
@@ -199,7 +199,7 @@ fn judge_seek(m: &[u8], n: usize, o: usize, handle: u64, position: u64) -> handl
 
 // The cursor of an open file is set, and the call is done.
 fn end_at(m: &mut [u8], opened: usize, position: u32)
-    requires { (opened < (numbers_in m).opens) × (opened < open_rows) × IsMemory m }
+    requires { (opened < (numbers_in m.old).opens) × (opened < open_rows) × IsMemory m.old }
     ensures { Turns m (λ c s. cursor_moved c s opened position) }
 {
     memory::set_cursor(m, opened, position);
@@ -208,7 +208,7 @@ fn end_at(m: &mut [u8], opened: usize, position: u32)
 
 // A seek asks nothing of the host: no request buffer is touched.
 pub fn finish_seek(m: &mut [u8], handle: u64, position: u64) -> outcomes::Outcome
-    requires { IsMemory m }
+    requires { IsMemory m.old }
     ensures { Finishes m (seek handle position) result }
 {
     let g = Guard::load(m);

@@ -40,32 +40,32 @@ BeginsMap m q x r =
 abbrev pub Finishes : Lent → Call → Outcome → Type 0
 Finishes m x r = Rightly m (λ c s. (q : List ℕ) → Sends c (started_by c s x) r m.exit.now q q) × KeepsLength m
 
-abbrev pub Accepts : (m p : Lent) → Outcome → Type 0
+abbrev pub Accepts : (m : Lent) → (p : List ℕ) → Outcome → Type 0
 Accepts m p r =
-    Rightly m (λ c s. (q : List ℕ) → Sends c (answered c s p.entry.now) r m.exit.now q q) × KeepsLength m
+    Rightly m (λ c s. (q : List ℕ) → Sends c (answered c s p) r m.exit.now q q) × KeepsLength m
 
-abbrev pub AcceptsAsking : (m p q : Lent) → Outcome → Type 0
+abbrev pub AcceptsAsking : (m : Lent) → (p : List ℕ) → (q : Lent) → Outcome → Type 0
 AcceptsAsking m p q r =
-    Rightly m (λ c s. Sends c (answered c s p.entry.now) r m.exit.now q.entry.now q.exit.now)
+    Rightly m (λ c s. Sends c (answered c s p) r m.exit.now q.entry.now q.exit.now)
     × KeepsLength m
 
-abbrev pub AcceptsInto : (m p a : Lent) → Outcome → Type 0
+abbrev pub AcceptsInto : (m : Lent) → (p : List ℕ) → (a : Lent) → Outcome → Type 0
 AcceptsInto m p a r =
     Rightly m (λ c s. answer_length c ≤ length a.entry.now
-    → Fills c (answered c s p.entry.now) r m.exit.now a.entry.now a.exit.now)
+    → Fills c (answered c s p) r m.exit.now a.entry.now a.exit.now)
     × KeepsLength m
 
-abbrev pub AcceptsBoth : (m p a q : Lent) → Outcome → Type 0
+abbrev pub AcceptsBoth : (m : Lent) → (p : List ℕ) → (a q : Lent) → Outcome → Type 0
 AcceptsBoth m p a q r =
     Rightly m (λ c s. answer_length c ≤ length a.entry.now
-    → Leaves c (answered c s p.entry.now) r m.exit.now a.entry.now a.exit.now q.entry.now
+    → Leaves c (answered c s p) r m.exit.now a.entry.now a.exit.now q.entry.now
     q.exit.now)
     × KeepsLength m
 
-abbrev pub AcceptsPending : (m p a q : Lent) → Outcome → Type 0
+abbrev pub AcceptsPending : (m : Lent) → (p : List ℕ) → (a q : Lent) → Outcome → Type 0
 AcceptsPending m p a q r =
-    Rightly m (λ c s. 1 ≤ (numbers_in m.entry).call → (numbers_in m.entry).call ≤ LAST
+    Rightly m (λ c s. 1 ≤ (numbers_in m.entry.now).call → (numbers_in m.entry.now).call ≤ LAST
     → answer_length c ≤ length a.entry.now
-    → Leaves c (answered c s p.entry.now) r m.exit.now a.entry.now a.exit.now q.entry.now
+    → Leaves c (answered c s p) r m.exit.now a.entry.now a.exit.now q.entry.now
     q.exit.now)
     × KeepsLength m

@@ -21,7 +21,7 @@ use Rattle.page_changes.specs.Sending.{Sending}
 
 abbrev pub Moves : (m q : Lent) → ((c : Config) → State (digest_store c) → Result (digest_store c)) → Outcome → Type 0
 Moves m q f r =
-    ((c : Config) → (numbers_in m.entry).opened < (numbers_in m.entry).opens
+    ((c : Config) → (numbers_in m.entry.now).opened < (numbers_in m.entry.now).opens
     → Sends c (f c (state_of c m.entry.now)) r m.exit.now q.entry.now q.exit.now)
     × KeepsLength m
 
@@ -30,7 +30,7 @@ abbrev pub Doing : Type 0
 Doing = (c : Config) → State (digest_store c) → (node opened : ℕ) → Change → Result (digest_store c)
 
 abbrev pub doing : Doing → (m : Lent) → (List ℕ → Change) → (c : Config) → Result (digest_store c)
-doing f m w c = f c (state_of c m.entry.now) (numbers_in m.entry).node (numbers_in m.entry).opened
+doing f m w c = f c (state_of c m.entry.now) (numbers_in m.entry.now).node (numbers_in m.entry.now).opened
     (w m.entry.now)
 
 abbrev pub Goes : (m q : Lent) → (List ℕ → Change) → ℕ → Doing → Outcome → Type 0

@@ -26,11 +26,11 @@ use guard_state::Guard;
 
 // The pending change asks for a page, and waits for it as `call` says (guard_state::calls).
 pub fn ask_page(m: &mut [u8], call: u64, page: usize, request: &mut [u8]) -> outcomes::Outcome
-    requires { Changing (numbers_in m).call × Changing call × (page ≤ file_pages) × IsMemory m
-        × HoldsRequest request }
+    requires { Changing (numbers_in m.old).call × Changing call × (page ≤ file_pages) × IsMemory m.old
+        × HoldsRequest request.old }
     ensures { Moves m request (λ c s. asking c (digest_store c) s
-        (fetch_request (descriptor_at c (digest_store c) s (numbers_in m.entry).opened) page)
-        (pending_in (goes_on call page (numbers_in m.entry)) (was m).staged) s.progress) result }
+        (fetch_request (descriptor_at c (digest_store c) s (numbers_in m.old).opened) page)
+        (pending_in (goes_on call page (numbers_in m.old)) (was m.old).staged) s.progress) result }
 {
     let g = Guard::load(m);
     let d = memory::open_descriptor(m, g.opened);
@@ -43,7 +43,7 @@ pub fn ask_page(m: &mut [u8], call: u64, page: usize, request: &mut [u8]) -> out
 // than
 // there is room for their digests.
 pub fn judge_fetched(m: &[u8], reply: &[u8]) -> u8
-    requires { IsMemory m }
+    requires { IsMemory m.now }
     ensures { Fetched m.now reply.now result }
 {
     let g = Guard::load(m);
@@ -60,11 +60,11 @@ pub fn judge_fetched(m: &[u8], reply: &[u8]) -> u8
 // The store that stands in the request buffer goes out: its page's digest is staged, and the change waits for the
 // status as `call` says.
 pub fn send_store(m: &mut [u8], call: u64, page: usize, request: &[u8]) -> outcomes::Outcome
-    requires { Changing (numbers_in m).call × Changing call × ((numbers_in m).digests < new_digests) × (page ≤ file_pages)
-        × IsMemory m × HoldsRequest request }
+    requires { Changing (numbers_in m.old).call × Changing call × ((numbers_in m.old).digests < new_digests) × (page ≤ file_pages)
+        × IsMemory m.old × HoldsRequest request.now }
     ensures m_after { (c : Config) → c.digest ≡ sha256
         → state_of c m.new ≡ waits c (state_of c m.old)
-        (pending_in (goes_on call page (numbers_in m.entry)) (was m).staged)
+        (pending_in (goes_on call page (numbers_in m.old)) (was m.old).staged)
         (record {
           bytes = [];
           digests = (state_of c m.old).progress.digests
@@ -90,7 +90,7 @@ pub fn end_change(
     count: usize,
     number: u64,
 ) -> outcomes::Outcome
-    requires { (opened < open_rows) × IsMemory m }
+    requires { (opened < open_rows) × IsMemory m.old }
     ensures sends { (c : Config) (q : Change) → Ended c m.old q node opened size cursor from count number
         → (b : List ℕ) → Sends c (finish_change c (digest_store c)
         (trimmed c (digest_store c) (state_of c m.old) count) node opened q) result m.new b b }

@@ -32,9 +32,9 @@ begun c s path make =
     (judged refuse (λ p. call_checks s.skeleton.tables (make p)) (λ p. call_action s.skeleton.tables c.width
     (make p)) path)
 
-abbrev pub BeginsPath : (m q path : Lent) → (Path → Call) → Outcome → Type 0
+abbrev pub BeginsPath : (m q : Lent) → (path : List ℕ) → (Path → Call) → Outcome → Type 0
 BeginsPath m q path make r =
-    Rightly m (λ c s. Sends c (begun c s path.entry.now make) r m.exit.now q.entry.now q.exit.now)
+    Rightly m (λ c s. Sends c (begun c s path make) r m.exit.now q.entry.now q.exit.now)
     × KeepsLength m
 
 -- a call on a node that is there
@@ -49,11 +49,11 @@ SendsItself call kind number make = (t : Tables) (w : ℕ) (p : Path)
     → call_action t w (make p) ≡ send (asked (question_on call (walk t.nodes 0 p) number))
     (path_request kind number (path_bytes p))
 
-abbrev pub BeginsAs : (m q path : Lent) → Walked → (call kind number : ℕ) → Outcome → Type 0
+abbrev pub BeginsAs : (m q : Lent) → (path : List ℕ) → Walked → (call kind number : ℕ) → Outcome → Type 0
 BeginsAs m q path w call kind number r =
-    ((c : Config) (make : Path → Call) → w ≡ node_for (state_of c m.entry.now).skeleton.tables path.entry.now
+    ((c : Config) (make : Path → Call) → w ≡ node_for (state_of c m.entry.now).skeleton.tables path
     make
     → SendsItself call kind number make
-    → Sends c (begun c (state_of c m.entry.now) path.entry.now make) r m.exit.now q.entry.now
+    → Sends c (begun c (state_of c m.entry.now) path make) r m.exit.now q.entry.now
     q.exit.now)
     × KeepsLength m

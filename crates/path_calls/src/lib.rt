@@ -24,8 +24,8 @@ pub enum Way {
 
 // chmod and stat: 22, 36, then the walk's 20, 13, 2.
 pub fn judge_reach(m: &[u8], n: usize, path: &[u8]) -> paths::Walked
-    requires { (0 < n) × (n ≤ NODES) × IsMemory m }
-    ensures { (o : ℕ) → result ≡ node_for (tables_in n o (was m)) path.now stat }
+    requires { (0 < n) × (n ≤ NODES) × IsMemory m.now }
+    ensures { (o : ℕ) → result ≡ node_for (tables_in n o (was m.now)) path.now stat }
 {
     let f = paths::form(path);
     match f {
@@ -37,8 +37,8 @@ pub fn judge_reach(m: &[u8], n: usize, path: &[u8]) -> paths::Walked
 
 // The last step of a walk, from the directory in place `parent`.
 fn step_from(m: &[u8], n: usize, parent: usize, name: &[u8]) -> Way
-    requires { (parent < n) × (n ≤ NODES) × IsMemory m }
-    ensures { result ≡ way_of parent (child_step (nodes_of n m) parent name.now) }
+    requires { (parent < n) × (n ≤ NODES) × IsMemory m.now }
+    ensures { result ≡ way_of parent (child_step (nodes_of n m.now) parent name.now) }
 {
     let w = paths::last_step(m, n, parent, name);
     match w {
@@ -49,8 +49,8 @@ fn step_from(m: &[u8], n: usize, parent: usize, name: &[u8]) -> Way
 
 // A walk that keeps the directory of its last step.
 pub fn walk_both(m: &[u8], n: usize, path: &[u8]) -> Way
-    requires { (0 < n) × (n ≤ NODES) × IsMemory m }
-    ensures { result ≡ walked_both (nodes_of n m) (components_of path.now) }
+    requires { (0 < n) × (n ≤ NODES) × IsMemory m.now }
+    ensures { result ≡ walked_both (nodes_of n m.now) (components_of path.now) }
 {
     let w = paths::walk_parent(m, n, path);
     match w {
@@ -62,8 +62,8 @@ pub fn walk_both(m: &[u8], n: usize, path: &[u8]) -> Way
 
 // The same as a call is judged: 22 and 36 first.
 pub fn judge_way(m: &[u8], n: usize, path: &[u8]) -> Way
-    requires { (0 < n) × (n ≤ NODES) × IsMemory m }
-    ensures { (o : ℕ) → result ≡ way_for (tables_in n o (was m)) path.now stat }
+    requires { (0 < n) × (n ≤ NODES) × IsMemory m.now }
+    ensures { (o : ℕ) → result ≡ way_for (tables_in n o (was m.now)) path.now stat }
 {
     let f = paths::form(path);
     match f {
@@ -83,7 +83,7 @@ fn send_on_node(
     path: &[u8],
     request: &mut [u8],
 ) -> outcomes::Outcome
-    requires { OnNode call × (k < NODES) × (length path.now ≤ PATH_BYTES) × IsMemory m × HoldsRequest request }
+    requires { OnNode call × (k < NODES) × (length path.now ≤ PATH_BYTES) × IsMemory m.old × HoldsRequest request.old }
     ensures { Asks m request (asked (question_on call k number)) (path_request kind number path.now) result }
 {
     guard_state::wait_on_node(m, call, k, number);
@@ -101,8 +101,8 @@ pub fn begin_on_node(
     path: &[u8],
     request: &mut [u8],
 ) -> outcomes::Outcome
-    requires { OnNode call × Reaches w path.now × IsMemory m × HoldsRequest request }
-    ensures { BeginsAs m request path w call kind number result }
+    requires { OnNode call × Reaches w path.now × IsMemory m.old × HoldsRequest request.old }
+    ensures { BeginsAs m request path.now w call kind number result }
 {
     match w {
         paths::Walked::Node(k) => send_on_node(m, call, kind, number, k, path, request),

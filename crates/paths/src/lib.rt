@@ -202,8 +202,8 @@ pub fn forms(first: &[u8], second: &[u8]) -> PathForm
 
 // 0 where node d is a directory that may be searched, else 20 or 13.
 fn search_number(m: &[u8], n: usize, d: usize) -> u8
-    requires { (d < n) × (n ≤ NODES) × IsMemory m }
-    ensures { result ≡ search_number (nodes_of n m) d }
+    requires { (d < n) × (n ≤ NODES) × IsMemory m.now }
+    ensures { result ≡ search_number (nodes_of n m.now) d }
 {
     if memory::node_kind(m, d) != limits::DIRECTORY {
         return 20;
@@ -216,8 +216,8 @@ fn search_number(m: &[u8], n: usize, d: usize) -> u8
 
 // The last step of a walk: the child with this name of node d, or 2.
 pub fn last_step(m: &[u8], n: usize, d: usize, name: &[u8]) -> Walked
-    requires { (d < n) × (n ≤ NODES) × IsMemory m }
-    ensures { result ≡ child_step (nodes_of n m) d name.now }
+    requires { (d < n) × (n ≤ NODES) × IsMemory m.now }
+    ensures { result ≡ child_step (nodes_of n m.now) d name.now }
 {
     let k = tables::find_child(m, n, memory::node_id(m, d), name);
     if n <= k {
@@ -255,8 +255,8 @@ fn places_for(m: &[u8], n: usize, deep: bool) -> [u8; limits::NODES]
 
 // The way to the directory that holds the last component, which may be absent itself.
 pub fn walk_parent(m: &[u8], n: usize, path: &[u8]) -> Placed
-    requires { (0 < n) × (n ≤ NODES) × IsMemory m }
-    ensures { result ≡ placed (nodes_of n m) path.now }
+    requires { (0 < n) × (n ≤ NODES) × IsMemory m.now }
+    ensures { result ≡ placed (nodes_of n m.now) path.now }
 {
     if path.len() < 2 {
         return Placed::Root;
@@ -291,8 +291,8 @@ pub fn walk_parent(m: &[u8], n: usize, path: &[u8]) -> Placed
 
 // The node at the end of a path, or the number that stops the walk: at each component from the left 20, 13, 2.
 pub fn walk(m: &[u8], n: usize, path: &[u8]) -> Walked
-    requires { (0 < n) × (n ≤ NODES) × IsMemory m }
-    ensures { result ≡ walked (nodes_of n m) (components_of path.now) }
+    requires { (0 < n) × (n ≤ NODES) × IsMemory m.now }
+    ensures { result ≡ walked (nodes_of n m.now) (components_of path.now) }
 {
     let way = walk_parent(m, n, path);
     match way {

@@ -22,4 +22,4 @@ page_taken c s k o p n i x = read_on c (digest_store c) s k o p n i ((digest_sto
 
 -- the first n bytes that are staged are those that the read has gathered
 abbrev pub Gathers : Config → Lent → ℕ → Type 0
-Gathers c m n = (state_of c m.entry.now).progress ≡ gathered_read (take n (was m).staged)
+Gathers c m n = (state_of c m.entry.now).progress ≡ gathered_read (take n (was m.entry.now).staged)

@@ -24,7 +24,7 @@ use guard_state::Guard;
 
 // read: 9 without right 1.
 fn judge_read(m: &[u8], n: usize, o: usize, handle: u64) -> handle_calls::Handled
-    requires { (n ≤ NODES) × (o ≤ open_rows) × IsMemory m }
+    requires { (n ≤ NODES) × (o ≤ open_rows) × IsMemory m.now }
     ensures { (count : ℕ) → Judgement m.now n o handle (read handle count) result }
 {
     let k = tables::find_handle(m, o, handle);
@@ -44,10 +44,10 @@ fn fetch(
     count: usize,
     request: &mut [u8],
 ) -> outcomes::Outcome
-    requires { (node < NODES) × (opened < open_rows) × (position ≤ FILE_BYTES) × (count ≤ DATA_BYTES) × IsMemory m
-        × HoldsRequest request }
+    requires { (node < NODES) × (opened < open_rows) × (position ≤ FILE_BYTES) × (count ≤ DATA_BYTES) × IsMemory m.old
+        × HoldsRequest request.old }
     ensures { Asks m request (reading node opened position count (page_at position))
-        (fetch_request (open_at (was m).opens opened).descriptor (page_at position)) result }
+        (fetch_request (open_at (was m.old).opens opened).descriptor (page_at position)) result }
 {
     let descriptor = memory::open_descriptor(m, opened);
     let page = position / Guard::PAGE_BYTES;
@@ -66,8 +66,8 @@ fn read_at(
     count: usize,
     request: &mut [u8],
 ) -> outcomes::Outcome
-    requires { (n ≡ (numbers_in m).nodes) × (opened < (numbers_in m).opens) × (n ≤ NODES) × (opened < open_rows)
-        × (count ≤ DATA_BYTES) × IsMemory m × HoldsRequest request }
+    requires { (n ≡ (numbers_in m.old).nodes) × (opened < (numbers_in m.old).opens) × (n ≤ NODES) × (opened < open_rows)
+        × (count ≤ DATA_BYTES) × IsMemory m.old × HoldsRequest request.old }
     ensures sends { (c : Config) → (node_at (state_of c m.old).skeleton.tables.nodes node).size ≤
         FILE_BYTES → Sends c (apply c (digest_store c) (state_of c m.old)
         (read_of (state_of c m.old).skeleton.tables opened node
@@ -93,7 +93,7 @@ fn read_at(
 
 // read: at most count bytes from the cursor on, of the open file with this handle.
 pub fn begin_read(m: &mut [u8], handle: u64, count: usize, request: &mut [u8]) -> outcomes::Outcome
-    requires { (count ≤ DATA_BYTES) × IsMemory m × HoldsRequest request }
+    requires { (count ≤ DATA_BYTES) × IsMemory m.old × HoldsRequest request.old }
     ensures { Begins m request (read handle count) result }
 {
     let g = Guard::load(m);
@@ -119,9 +119,9 @@ fn next_page(
     more: &[u8],
     request: &mut [u8],
 ) -> outcomes::Outcome
-    requires { (opened < (numbers_in m).opens) × (page * PAGE_BYTES + PAGE_BYTES < position + count)
+    requires { (opened < (numbers_in m.old).opens) × (page * PAGE_BYTES + PAGE_BYTES < position + count)
         × (bytes + length more.now ≤ DATA_BYTES) × (node < NODES) × (opened < open_rows) × (position ≤ FILE_BYTES)
-        × (count ≤ DATA_BYTES) × (page < file_pages) × IsMemory m × HoldsRequest request }
+        × (count ≤ DATA_BYTES) × (page < file_pages) × IsMemory m.old × HoldsRequest request.old }
     ensures sends { (c : Config) (x : List ℕ) → more.now ≡ page_part x position count page → Gathers c m bytes
         → Sends c (page_taken c (state_of c m.old) node opened position count page x) result m.new
         request.old request.new }
@@ -137,8 +137,8 @@ fn next_page(
 // The bytes of a read that is done, over the front of the answer buffer: those that are staged, and those of the last
 // page.
 fn put_answer(m: &[u8], bytes: usize, more: &[u8], answer: &mut [u8])
-    requires { (bytes + length more.now ≤ DATA_BYTES) × (DATA_BYTES ≤ length answer.old) × IsMemory m }
-    ensures { answer.new ≡ at_front (take bytes (was m).staged ++ more.now)
+    requires { (bytes + length more.now ≤ DATA_BYTES) × (DATA_BYTES ≤ length answer.old) × IsMemory m.now }
+    ensures { answer.new ≡ at_front (take bytes (was m.now).staged ++ more.now)
         answer.old }
 {
     let b = memory::staged(m, 0, bytes);
@@ -148,7 +148,7 @@ fn put_answer(m: &[u8], bytes: usize, more: &[u8], answer: &mut [u8])
 
 // The read is done: its cursor stands behind what it gave.
 fn end_read(m: &mut [u8], opened: usize, end: usize)
-    requires { (opened < (numbers_in m).opens) × (opened < open_rows) × (end ≤ FILE_BYTES + DATA_BYTES) × IsMemory m }
+    requires { (opened < (numbers_in m.old).opens) × (opened < open_rows) × (end ≤ FILE_BYTES + DATA_BYTES) × IsMemory m.old }
     ensures { Turns m (λ c s. ends c s (cursor_to s.skeleton.tables opened end) s.contents) }
 {
     memory::set_cursor(m, opened, end as u32);
@@ -165,8 +165,8 @@ fn last_page(
     more: &[u8],
     answer: &mut [u8],
 ) -> outcomes::Outcome
-    requires { (opened < (numbers_in m).opens) × (opened < open_rows) × (position ≤ FILE_BYTES) × (count ≤ DATA_BYTES)
-        × (bytes + length more.now ≤ DATA_BYTES) × (DATA_BYTES ≤ length answer.old) × IsMemory m }
+    requires { (opened < (numbers_in m.old).opens) × (opened < open_rows) × (position ≤ FILE_BYTES) × (count ≤ DATA_BYTES)
+        × (bytes + length more.now ≤ DATA_BYTES) × (DATA_BYTES ≤ length answer.old) × IsMemory m.old }
     ensures fills { (c : Config) (k i : ℕ) (x : List ℕ) → position + count ≤ i * PAGE_BYTES + PAGE_BYTES
         → more.now ≡ page_part x position count i → Gathers c m bytes
         → Fills c (page_taken c (state_of c m.old) k opened position count i x) result m.new
@@ -225,9 +225,9 @@ fn take_page(
     answer: &mut [u8],
     request: &mut [u8],
 ) -> outcomes::Outcome
-    requires { (opened < (numbers_in m).opens) × (InRead position count page) × (length reply.now ≡ PAGE_BYTES)
+    requires { (opened < (numbers_in m.old).opens) × (InRead position count page) × (length reply.now ≡ PAGE_BYTES)
         × (bytes ≤ DATA_BYTES) × (node < NODES) × (opened < open_rows) × (count ≤ DATA_BYTES)
-        × (DATA_BYTES ≤ length answer.old) × IsMemory m × HoldsRequest request }
+        × (DATA_BYTES ≤ length answer.old) × IsMemory m.old × HoldsRequest request.old }
     ensures leaves { (c : Config) → bytes + length (page_part reply.now position count page) ≤ DATA_BYTES
         → Gathers c m bytes → Leaves c (page_taken c (state_of c m.old) node opened position count page
         reply.now) result m.new answer.old answer.new request.old
@@ -251,9 +251,9 @@ pub fn accept_page(
     answer: &mut [u8],
     request: &mut [u8],
 ) -> outcomes::Outcome
-    requires { ((numbers_in m).call ≡ READING) × (DATA_BYTES ≤ length answer.old) × IsMemory m
-        × HoldsRequest request }
-    ensures { AcceptsBoth m reply answer request result }
+    requires { ((numbers_in m.old).call ≡ READING) × (DATA_BYTES ≤ length answer.old) × IsMemory m.old
+        × HoldsRequest request.old }
+    ensures { AcceptsBoth m reply.now answer request result }
 {
     let g = Guard::load(m);
     let b = replies::judge_page(m, g.nodes, g.node, g.page, reply);

@@ -18,8 +18,8 @@ use limits::kinds;
 
 // remove of node k in directory d: 21, 13 (the directory's bit 2), 16.
 fn remove_own(m: &[u8], n: usize, o: usize, k: usize, d: usize) -> paths::Walked
-    requires { (k < n) × (d < n) × (n ≤ NODES) × (o ≤ open_rows) × IsMemory m }
-    ensures { result ≡ remove_own (tables_in n o (was m)) k d }
+    requires { (k < n) × (d < n) × (n ≤ NODES) × (o ≤ open_rows) × IsMemory m.now }
+    ensures { result ≡ remove_own (tables_in n o (was m.now)) k d }
 {
     if memory::node_kind(m, k) == limits::DIRECTORY {
         return paths::Walked::Refused(21);
@@ -35,8 +35,8 @@ fn remove_own(m: &[u8], n: usize, o: usize, k: usize, d: usize) -> paths::Walked
 
 // remove: stat's numbers, then its own.
 fn judge_remove(m: &[u8], n: usize, o: usize, path: &[u8]) -> paths::Walked
-    requires { (0 < n) × (n ≤ NODES) × (o ≤ open_rows) × IsMemory m }
-    ensures { result ≡ node_for (tables_in n o (was m)) path.now remove }
+    requires { (0 < n) × (n ≤ NODES) × (o ≤ open_rows) × IsMemory m.now }
+    ensures { result ≡ node_for (tables_in n o (was m.now)) path.now remove }
 {
     let w = path_calls::judge_way(m, n, path);
     match w {
@@ -47,8 +47,8 @@ fn judge_remove(m: &[u8], n: usize, o: usize, path: &[u8]) -> paths::Walked
 
 // remove: it waits for the status.
 pub fn begin_remove(m: &mut [u8], path: &[u8], request: &mut [u8]) -> outcomes::Outcome
-    requires { HasRoot m × IsMemory m × HoldsRequest request }
-    ensures { BeginsPath m request path remove result }
+    requires { HasRoot m.old × IsMemory m.old × HoldsRequest request.old }
+    ensures { BeginsPath m request path.now remove result }
 {
     let g = Guard::load(m);
     let w = judge_remove(m, g.nodes, g.opens, path);
@@ -65,8 +65,8 @@ pub fn begin_remove(m: &mut [u8], path: &[u8], request: &mut [u8]) -> outcomes::
 
 // rmdir of node k in directory d: 16 (the root), 20, 13 (the directory's bit 2), 39.
 fn rmdir_own(m: &[u8], n: usize, k: usize, d: usize) -> paths::Walked
-    requires { (k < n) × (d < n) × (n ≤ NODES) × IsMemory m }
-    ensures { result ≡ rmdir_own (nodes_of n m) k d }
+    requires { (k < n) × (d < n) × (n ≤ NODES) × IsMemory m.now }
+    ensures { result ≡ rmdir_own (nodes_of n m.now) k d }
 {
     if k == 0 {
         return paths::Walked::Refused(16);
@@ -85,8 +85,8 @@ fn rmdir_own(m: &[u8], n: usize, k: usize, d: usize) -> paths::Walked
 
 // rmdir: stat's numbers, then its own.
 fn judge_rmdir(m: &[u8], n: usize, path: &[u8]) -> paths::Walked
-    requires { (0 < n) × (n ≤ NODES) × IsMemory m }
-    ensures { (o : ℕ) → result ≡ node_for (tables_in n o (was m)) path.now rmdir }
+    requires { (0 < n) × (n ≤ NODES) × IsMemory m.now }
+    ensures { (o : ℕ) → result ≡ node_for (tables_in n o (was m.now)) path.now rmdir }
 {
     let w = path_calls::judge_way(m, n, path);
     match w {
@@ -97,8 +97,8 @@ fn judge_rmdir(m: &[u8], n: usize, path: &[u8]) -> paths::Walked
 
 // rmdir: the same.
 pub fn begin_rmdir(m: &mut [u8], path: &[u8], request: &mut [u8]) -> outcomes::Outcome
-    requires { HasRoot m × IsMemory m × HoldsRequest request }
-    ensures { BeginsPath m request path rmdir result }
+    requires { HasRoot m.old × IsMemory m.old × HoldsRequest request.old }
+    ensures { BeginsPath m request path.now rmdir result }
 {
     let g = Guard::load(m);
     let w = judge_rmdir(m, g.nodes, path);
@@ -115,8 +115,8 @@ pub fn begin_rmdir(m: &mut [u8], path: &[u8], request: &mut [u8]) -> outcomes::O
 
 // remove and rmdir: the node is taken out, and its digests.
 pub fn accept_remove(m: &mut [u8], reply: &[u8]) -> outcomes::Outcome
-    requires { ((numbers_in m).call ≡ REMOVING) × IsMemory m }
-    ensures { Accepts m reply result }
+    requires { ((numbers_in m.old).call ≡ REMOVING) × IsMemory m.old }
+    ensures { Accepts m reply.now result }
 {
     let b = replies::judge_status(reply, 0);
     if b != 0 {

@@ -19,8 +19,8 @@ rename_begun c s first second =
     (judged_both refuse (λ p q. call_checks s.skeleton.tables (rename p q))
     (λ p q. call_action s.skeleton.tables c.width (rename p q)) first second)
 
-abbrev pub BeginsRename : (m q first second : Lent) → Outcome → Type 0
+abbrev pub BeginsRename : (m q : Lent) → (first second : List ℕ) → Outcome → Type 0
 BeginsRename m q first second r =
-    Rightly m (λ c s. Sends c (rename_begun c s first.entry.now second.entry.now) r m.exit.now
+    Rightly m (λ c s. Sends c (rename_begun c s first second) r m.exit.now
     q.entry.now q.exit.now)
     × KeepsLength m

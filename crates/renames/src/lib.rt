@@ -58,10 +58,10 @@ fn judge_name(
     at: usize,
     name: &[u8],
 ) -> Renaming
-    requires { (k < n) × (from < n) × (d < n) × (n ≤ NODES) × (length name.now ≤ NAME_BYTES) × IsMemory m }
-    ensures by_index { (w : ℕ) → sound_nodes w (nodes_of n m) ≡ true → is_directory (node_at (nodes_of n m) d) ≡ true
-        → length_in (nodes_of n m) d name.now ≤ PATH_BYTES
-        → result ≡ name_own (nodes_of n m) k from d at name.now }
+    requires { (k < n) × (from < n) × (d < n) × (n ≤ NODES) × (length name.now ≤ NAME_BYTES) × IsMemory m.now }
+    ensures by_index { (w : ℕ) → sound_nodes w (nodes_of n m.now) ≡ true → is_directory (node_at (nodes_of n m.now) d) ≡ true
+        → length_in (nodes_of n m.now) d name.now ≤ PATH_BYTES
+        → result ≡ name_own (nodes_of n m.now) k from d at name.now }
     ensures moves { Moves result k d at }
 {
     if k == 0 {
@@ -90,9 +90,9 @@ fn root_name(k: usize) -> Renaming
 
 // The same from the way to that directory on; the root's own name is taken.
 fn judge_second(m: &[u8], n: usize, k: usize, from: usize, second: &[u8]) -> Renaming
-    requires { (k < n) × (from < n) × (n ≤ NODES) × Short second.now × IsMemory m }
-    ensures by_index { (w : ℕ) → sound_nodes w (nodes_of n m) ≡ true
-        → result ≡ second_own (nodes_of n m) k from second.now }
+    requires { (k < n) × (from < n) × (n ≤ NODES) × Short second.now × IsMemory m.now }
+    ensures by_index { (w : ℕ) → sound_nodes w (nodes_of n m.now) ≡ true
+        → result ≡ second_own (nodes_of n m.now) k from second.now }
     ensures fits { Fits result n second.now }
 {
     let w = paths::walk_parent(m, n, second);
@@ -113,9 +113,9 @@ fn judge_second(m: &[u8], n: usize, k: usize, from: usize, second: &[u8]) -> Ren
 
 // Both walks, the first first.
 fn judge_walks(m: &[u8], n: usize, first: &[u8], second: &[u8]) -> Renaming
-    requires { (0 < n) × (n ≤ NODES) × Short second.now × IsMemory m }
-    ensures by_index { (w : ℕ) → sound_nodes w (nodes_of n m) ≡ true
-        → result ≡ walks_own (nodes_of n m) first.now second.now }
+    requires { (0 < n) × (n ≤ NODES) × Short second.now × IsMemory m.now }
+    ensures by_index { (w : ℕ) → sound_nodes w (nodes_of n m.now) ≡ true
+        → result ≡ walks_own (nodes_of n m.now) first.now second.now }
     ensures fits { Fits result n second.now }
 {
     let w = path_calls::walk_both(m, n, first);
@@ -127,9 +127,9 @@ fn judge_walks(m: &[u8], n: usize, first: &[u8], second: &[u8]) -> Renaming
 
 // 22 and 36 of both paths first.
 fn judge_rename(m: &[u8], n: usize, first: &[u8], second: &[u8]) -> Renaming
-    requires { (0 < n) × (n ≤ NODES) × IsMemory m }
-    ensures by_index { (w o : ℕ) → sound_nodes w (nodes_of n m) ≡ true
-        → result ≡ renaming_for (tables_in n o (was m)) first.now second.now }
+    requires { (0 < n) × (n ≤ NODES) × IsMemory m.now }
+    ensures by_index { (w o : ℕ) → sound_nodes w (nodes_of n m.now) ≡ true
+        → result ≡ renaming_for (tables_in n o (was m.now)) first.now second.now }
     ensures fits_both { FitsBoth result n first.now second.now }
 {
     let f = paths::forms(first, second);
@@ -152,9 +152,9 @@ fn send_rename(
 ) -> outcomes::Outcome
     requires { (node < NODES) × (parent < NODES) × (start ≤ length second.now)
         × (length (drop start second.now) ≤ NAME_BYTES) × (length first.now ≤ PATH_BYTES)
-        × (length second.now ≤ PATH_BYTES) × IsMemory m × HoldsRequest request }
+        × (length second.now ≤ PATH_BYTES) × IsMemory m.old × HoldsRequest request.old }
     ensures { Asks m request
-        (asked (renaming node (node_at (was m).nodes parent).id (drop start second.now)))
+        (asked (renaming node (node_at (was m.old).nodes parent).id (drop start second.now)))
         (rename_request first.now second.now) result }
 {
     let id = memory::node_id(m, parent);
@@ -165,7 +165,7 @@ fn send_rename(
 
 // A node's own path: done, and nothing is sent.
 fn finish_same(m: &mut [u8]) -> outcomes::Outcome
-    requires { IsMemory m }
+    requires { IsMemory m.old }
     ensures { Turns m (λ c s. ends c s s.skeleton.tables s.contents) × (result ≡ Done 0 0) }
 {
     guard_state::finish(m);
@@ -182,8 +182,8 @@ pub fn begin_rename(
     second: &[u8],
     request: &mut [u8],
 ) -> outcomes::Outcome
-    requires { IsMemory m × HoldsRequest request }
-    ensures { BeginsRename m request first second result }
+    requires { IsMemory m.old × HoldsRequest request.old }
+    ensures { BeginsRename m request first.now second.now result }
 {
     let n = guard_state::node_count(m);
     if n == 0 {
@@ -203,8 +203,8 @@ pub fn begin_rename(
 
 // rename: the node's row has the new parent and name, all else of it stays.
 pub fn accept_rename(m: &mut [u8], reply: &[u8]) -> outcomes::Outcome
-    requires { ((numbers_in m).call ≡ RENAMING) × IsMemory m }
-    ensures { Accepts m reply result }
+    requires { ((numbers_in m.old).call ≡ RENAMING) × IsMemory m.old }
+    ensures { Accepts m reply.now result }
 {
     let b = replies::judge_status(reply, 0);
     if b != 0 {

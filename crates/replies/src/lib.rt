@@ -35,7 +35,7 @@ pub fn is_full(reply: &[u8]) -> bool
 
 // The disk is full, and the pending call has finished nothing: it is refused, and all else is as before it.
 pub fn give_up(m: &mut [u8]) -> outcomes::Outcome
-    requires { IsMemory m }
+    requires { IsMemory m.old }
     ensures sends { (c : Config) (q : List ℕ)
         → Sends c (gave_up c (digest_store c) (state_of c m.old)) result m.new q q }
     ensures keeps_length { KeepsLength m }
@@ -47,9 +47,9 @@ pub fn give_up(m: &mut [u8]) -> outcomes::Outcome
 // Page i of the node in place k as a reply: 1 of another length, 5 where its digest is not the kept one, else 0. No
 // valid table lacks the page.
 pub fn judge_page(m: &[u8], n: usize, k: usize, i: usize, reply: &[u8]) -> u8
-    requires { (n ≤ NODES) × IsMemory m }
-    ensures value { k < n → i < pages_for (node_at (was m).nodes k).size → page_total (nodes_of n m) ≤ PAGES
-        → result ≡ page_reason (get_or (get_or (divide (nodes_of n m) (was m).digests) k []) i []) reply.now }
+    requires { (n ≤ NODES) × IsMemory m.now }
+    ensures value { k < n → i < pages_for (node_at (was m.now).nodes k).size → page_total (nodes_of n m.now) ≤ PAGES
+        → result ≡ page_reason (get_or (get_or (divide (nodes_of n m.now) (was m.now).digests) k []) i []) reply.now }
     ensures reply_len { result ≡ 0 → length reply.now ≡ PAGE_BYTES }
 {
     if reply.len() != Guard::PAGE_BYTES {

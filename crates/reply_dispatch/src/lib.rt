@@ -12,8 +12,8 @@ use guard_state::{Guard, calls};
 
 // create and mkdir, open, close, remove and rmdir, chmod: the answer has no bytes.
 fn accept_change(m: &mut [u8], call: u64, reply: &[u8]) -> outcomes::Outcome
-    requires { (call ≡ (numbers_in m).call) × (CREATING ≤ call) × (call ≤ CHANGING) × IsMemory m }
-    ensures { Accepts m reply result }
+    requires { (call ≡ (numbers_in m.old).call) × (CREATING ≤ call) × (call ≤ CHANGING) × IsMemory m.old }
+    ensures { Accepts m reply.now result }
 {
     match call {
         calls::CREATING => creations::accept_create(m, reply),
@@ -31,9 +31,9 @@ fn accept_page_change(
     reply: &[u8],
     request: &mut [u8],
 ) -> outcomes::Outcome
-    requires { (call ≡ (numbers_in m).call) × (FETCHING ≤ call) × (call ≤ GROWING) × IsMemory m
-        × HoldsRequest request }
-    ensures { AcceptsAsking m reply request result }
+    requires { (call ≡ (numbers_in m.old).call) × (FETCHING ≤ call) × (call ≤ GROWING) × IsMemory m.old
+        × HoldsRequest request.old }
+    ensures { AcceptsAsking m reply.now request result }
 {
     match call {
         calls::FETCHING => writes::accept_fetched(m, reply, request),
@@ -47,8 +47,8 @@ fn accept_page_change(
 
 // A map, and its end.
 fn accept_on_maps(m: &mut [u8], call: u64, reply: &[u8]) -> outcomes::Outcome
-    requires { (call ≡ (numbers_in m).call) × (MAPPING ≤ call) × (call ≤ UNMAPPING) × IsMemory m }
-    ensures { Accepts m reply result }
+    requires { (call ≡ (numbers_in m.old).call) × (MAPPING ≤ call) × (call ≤ UNMAPPING) × IsMemory m.old }
+    ensures { Accepts m reply.now result }
 {
     match call {
         calls::MAPPING => maps::accept_map(m, reply),
@@ -63,8 +63,8 @@ pub fn accept_reply(
     answer: &mut [u8],
     request: &mut [u8],
 ) -> outcomes::Outcome
-    requires { IsMemory m × (DATA_BYTES ≤ length answer.old) × HoldsRequest request }
-    ensures { AcceptsPending m reply answer request result }
+    requires { IsMemory m.old × (DATA_BYTES ≤ length answer.old) × HoldsRequest request.old }
+    ensures { AcceptsPending m reply.now answer request result }
 {
     let g = Guard::load(m);
     let call = g.call;

@@ -70,7 +70,7 @@ fn has_number(kind: u8) -> bool
 
 // A call by path sends itself: its kind, its mode or rights where it has one, and the path.
 pub fn write_path(out: &mut [u8], kind: u8, number: u8, path: &[u8]) -> usize
-    requires { (length path.now ≤ PATH_BYTES) × HoldsRequest out }
+    requires { (length path.now ≤ PATH_BYTES) × HoldsRequest out.old }
     ensures { (out.new ≡ at_front (path_request kind number path.now) out.old)
         × (result ≡ length (path_request kind number path.now)) }
 {
@@ -82,7 +82,7 @@ pub fn write_path(out: &mut [u8], kind: u8, number: u8, path: &[u8]) -> usize
 
 // rename: the first path's length, and both paths.
 pub fn write_rename(out: &mut [u8], first: &[u8], second: &[u8]) -> usize
-    requires { (length first.now ≤ PATH_BYTES) × (length second.now ≤ PATH_BYTES) × HoldsRequest out }
+    requires { (length first.now ≤ PATH_BYTES) × (length second.now ≤ PATH_BYTES) × HoldsRequest out.old }
     ensures { (out.new ≡ at_front (rename_request first.now second.now)
         out.old) × (result ≡ length (rename_request first.now second.now)) }
 {
@@ -93,7 +93,7 @@ pub fn write_rename(out: &mut [u8], first: &[u8], second: &[u8]) -> usize
 
 // close: the descriptor.
 pub fn write_close(out: &mut [u8], descriptor: u32) -> usize
-    requires { HoldsRequest out }
+    requires { HoldsRequest out.old }
     ensures { (out.new ≡ at_front (close_request descriptor) out.old)
         × (result ≡ length (close_request descriptor)) }
 {
@@ -103,7 +103,7 @@ pub fn write_close(out: &mut [u8], descriptor: u32) -> usize
 
 // fetch: the descriptor and the page.
 pub fn write_fetch(out: &mut [u8], descriptor: u32, page: u32) -> usize
-    requires { HoldsRequest out }
+    requires { HoldsRequest out.old }
     ensures { (out.new ≡ at_front (fetch_request descriptor page) out.old)
         × (result ≡ length (fetch_request descriptor page)) }
 {
@@ -113,7 +113,7 @@ pub fn write_fetch(out: &mut [u8], descriptor: u32, page: u32) -> usize
 
 // cut: the descriptor and the size.
 pub fn write_cut(out: &mut [u8], descriptor: u32, size: u32) -> usize
-    requires { HoldsRequest out }
+    requires { HoldsRequest out.old }
     ensures { (out.new ≡ at_front (cut_request descriptor size) out.old)
         × (result ≡ length (cut_request descriptor size)) }
 {
@@ -123,7 +123,7 @@ pub fn write_cut(out: &mut [u8], descriptor: u32, size: u32) -> usize
 
 // map: the size.
 pub fn write_map(out: &mut [u8], size: u32) -> usize
-    requires { HoldsRequest out }
+    requires { HoldsRequest out.old }
     ensures { (out.new ≡ at_front (14 ∷ encode 4 size) out.old) × (result ≡ 5) }
 {
     put_head(out, kinds::MAP, size);
@@ -132,7 +132,7 @@ pub fn write_map(out: &mut [u8], size: u32) -> usize
 
 // unmap: the address.
 pub fn write_unmap(out: &mut [u8], address: u64) -> usize
-    requires { HoldsRequest out }
+    requires { HoldsRequest out.old }
     ensures { (out.new ≡ at_front (15 ∷ encode 8 address) out.old) × (result ≡ 9) }
 {
     numbers::put_number(out, 1, 8, address);
@@ -211,7 +211,7 @@ pub fn write_store(
     position: usize,
     bytes: &[u8],
 ) -> usize
-    requires { HoldsRequest out × (length page.now ≤ PAGE_BYTES) × (position ≤ FILE_BYTES)
+    requires { HoldsRequest out.old × (length page.now ≤ PAGE_BYTES) × (position ≤ FILE_BYTES)
         × (i ≤ FILE_BYTES / PAGE_BYTES) }
     ensures { (out.new ≡ at_front
         (store_request descriptor i size (fill (writing position bytes.now) i page.now))
@@ -231,7 +231,7 @@ pub fn write_store_cut(
     page: &[u8],
     to: usize,
 ) -> usize
-    requires { HoldsRequest out × (length page.now ≤ PAGE_BYTES) × (to ≤ FILE_BYTES)
+    requires { HoldsRequest out.old × (length page.now ≤ PAGE_BYTES) × (to ≤ FILE_BYTES)
         × (i ≤ FILE_BYTES / PAGE_BYTES) }
     ensures { (out.new ≡ at_front
         (store_request descriptor i size (fill (shrinking to) i page.now)) out.old)

@@ -18,7 +18,7 @@ const NO_MAKER: usize = 0;
 
 // The image of n nodes at the front of its buffer, and its SHA-256 at the front of `digest`; the image's length.
 fn put_image(m: &[u8], n: usize, image: &mut [u8], digest: &mut [u8]) -> usize
-    requires { (n ≤ NODES) × IsMemory m × (page_total (nodes_in n m.now) ≤ PAGES)
+    requires { (n ≤ NODES) × IsMemory m.now × (page_total (nodes_in n m.now) ≤ PAGES)
         × (image_length (saved ID_BYTES) (nodes_in n m.now) ≤ length image.old)
         × (DIGEST_BYTES ≤ length digest.old) }
     ensures { (image.new
@@ -35,7 +35,7 @@ fn put_image(m: &[u8], n: usize, image: &mut [u8], digest: &mut [u8]) -> usize
 
 // A save: 16, 34, else the image at the front of its buffer, and its SHA-256 at the front of `digest`.
 pub fn save(m: &mut [u8], image: &mut [u8], digest: &mut [u8]) -> outcomes::Outcome
-    requires { (DIGEST_BYTES ≤ length digest.old) × IsMemory m }
+    requires { (DIGEST_BYTES ≤ length digest.old) × IsMemory m.old }
     ensures saves { (c : Config) → c.digest ≡ sha256 → c.width ≡ ID_BYTES
         → page_total (state_of c m.old).skeleton.tables.nodes ≤ PAGES
         → Saves c (saved_into c (state_of c m.old) (length image.old)) result m.new
@@ -63,7 +63,7 @@ pub fn save(m: &mut [u8], image: &mut [u8], digest: &mut [u8]) -> outcomes::Outc
 
 // A load: 16, 74, 84, else the image's tables in place of those that stood.
 pub fn load(m: &mut [u8], image: &[u8], digest: &[u8]) -> outcomes::Outcome
-    requires { IsMemory m }
+    requires { IsMemory m.old }
     ensures loads { (c : Config) → c.digest ≡ sha256 → c.width ≡ ID_BYTES
         → Loads c (loaded_from c (state_of c m.old) image.now digest.now) result
         m.new }

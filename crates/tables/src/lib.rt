@@ -21,8 +21,8 @@ ghost use Rattle.tables.specs.View.{Others, FirstPlaces, hash_of};
 
 // The place of the node with this id, or n.
 pub fn find_id(m: &[u8], n: usize, id: u64) -> usize
-    requires { (n ≤ NODES) × IsMemory m }
-    ensures { result ≡ find_id (nodes_of n m) id }
+    requires { (n ≤ NODES) × IsMemory m.now }
+    ensures { result ≡ find_id (nodes_of n m.now) id }
 {
     let mut i = 0;
     // none before i has it
@@ -38,8 +38,8 @@ pub fn find_id(m: &[u8], n: usize, id: u64) -> usize
 // Whether k is the place of the node with this id: ids differ among sound nodes, so where node k has it, the search
 // would find it too.
 fn is_place(m: &[u8], n: usize, id: u64, k: usize) -> bool
-    requires { (n ≤ NODES) × IsMemory m }
-    ensures { result ≡ true → (w : ℕ) → sound_nodes w (nodes_of n m) ≡ true → k ≡ find_id (nodes_of n m) id }
+    requires { (n ≤ NODES) × IsMemory m.now }
+    ensures { result ≡ true → (w : ℕ) → sound_nodes w (nodes_of n m.now) ≡ true → k ≡ find_id (nodes_of n m.now) id }
 {
     if n <= k {
         return false;
@@ -49,8 +49,8 @@ fn is_place(m: &[u8], n: usize, id: u64, k: usize) -> bool
 
 // The search with a place that is tried first.
 pub fn find_node(m: &[u8], n: usize, id: u64, hint: usize) -> usize
-    requires { (n ≤ NODES) × IsMemory m }
-    ensures { (w : ℕ) → sound_nodes w (nodes_of n m) ≡ true → result ≡ find_id (nodes_of n m) id }
+    requires { (n ≤ NODES) × IsMemory m.now }
+    ensures { (w : ℕ) → sound_nodes w (nodes_of n m.now) ≡ true → result ≡ find_id (nodes_of n m.now) id }
 {
     if is_place(m, n, id, hint) {
         return hint;
@@ -73,7 +73,7 @@ fn hash(id: u64) -> usize
 }
 
 fn list_places(m: &[u8], n: usize, places: &mut [u8; PLACES])
-    requires { (n ≤ NODES) × IsMemory m }
+    requires { (n ≤ NODES) × IsMemory m.now }
 {
     let mut k = 0;
     while k < n {
@@ -93,7 +93,7 @@ fn to_place(b: u8) -> usize
 
 // The place with this id among those of its hash, from the last on: each is behind the next, else there are no more.
 fn place_of(m: &[u8], places: &[u8; PLACES], id: u64) -> usize
-    requires { IsMemory m }
+    requires { IsMemory m.now }
 {
     let mut k = to_place(places[hash(id)]);
     while memory::node_id(m, k) != id {
@@ -108,7 +108,7 @@ fn place_of(m: &[u8], places: &[u8; PLACES], id: u64) -> usize
 
 // A place to try for an id. One id alone is searched; the places are made for the second.
 fn likely_place(m: &[u8], n: usize, id: u64, places: &mut [u8; PLACES]) -> usize
-    requires { (n ≤ NODES) × IsMemory m }
+    requires { (n ≤ NODES) × IsMemory m.now }
 {
     let step = places[STEP];
     if step == 0 {
@@ -123,8 +123,8 @@ fn likely_place(m: &[u8], n: usize, id: u64, places: &mut [u8; PLACES]) -> usize
 
 // find_node for many ids in any order: where the hint has another id, one of `places`, at first all 0, is tried.
 pub fn find_listed(m: &[u8], n: usize, id: u64, hint: usize, places: &mut [u8; PLACES]) -> usize
-    requires { (n ≤ NODES) × IsMemory m }
-    ensures { (w : ℕ) → sound_nodes w (nodes_of n m) ≡ true → result ≡ find_id (nodes_of n m) id }
+    requires { (n ≤ NODES) × IsMemory m.now }
+    ensures { (w : ℕ) → sound_nodes w (nodes_of n m.now) ≡ true → result ≡ find_id (nodes_of n m.now) id }
 {
     if is_place(m, n, id, hint) {
         return hint;
@@ -134,8 +134,8 @@ pub fn find_listed(m: &[u8], n: usize, id: u64, hint: usize, places: &mut [u8; P
 
 // Whether none of the four nodes from i on has this parent.
 fn four_others(m: &[u8], i: usize, parent: u64) -> bool
-    requires { (i + 4 ≤ NODES) × IsMemory m }
-    ensures { result ≡ true → Others (was m).nodes parent i (i + 4) }
+    requires { (i + 4 ≤ NODES) × IsMemory m.now }
+    ensures { result ≡ true → Others (was m.now).nodes parent i (i + 4) }
 {
     if memory::node_parent(m, i) == parent {
         return false;
@@ -153,8 +153,8 @@ fn four_others(m: &[u8], i: usize, parent: u64) -> bool
 // in
 // other directories, so eight are passed in a turn.
 fn first_child(m: &[u8], n: usize, parent: u64) -> usize
-    requires { (n ≤ NODES) × IsMemory m }
-    ensures { (result ≤ n) × Others (was m).nodes parent 0 result }
+    requires { (n ≤ NODES) × IsMemory m.now }
+    ensures { (result ≤ n) × Others (was m.now).nodes parent 0 result }
 {
     let mut i = 0;
     while i + 8 <= n {
@@ -187,8 +187,8 @@ pub fn first_places(m: &[u8], n: usize) -> [u8; limits::NODES]
 // The place of the node with this parent and this name, or the count of nodes, where no node before `start` has the
 // parent.
 fn find_child_from(m: &[u8], nodes: usize, parent: u64, name: &[u8], start: usize) -> usize
-    requires { (start ≤ nodes) × (nodes ≤ NODES) × IsMemory m }
-    ensures { Others (was m).nodes parent 0 start → result ≡ find_child (nodes_of nodes m) parent name.now }
+    requires { (start ≤ nodes) × (nodes ≤ NODES) × IsMemory m.now }
+    ensures { Others (was m.now).nodes parent 0 start → result ≡ find_child (nodes_of nodes m.now) parent name.now }
 {
     let mut i = start;
     // none before i is it
@@ -203,8 +203,8 @@ fn find_child_from(m: &[u8], nodes: usize, parent: u64, name: &[u8], start: usiz
 
 // The same, whatever stands where.
 pub fn find_child(m: &[u8], nodes: usize, parent: u64, name: &[u8]) -> usize
-    requires { (nodes ≤ NODES) × IsMemory m }
-    ensures { result ≡ find_child (nodes_of nodes m) parent name.now }
+    requires { (nodes ≤ NODES) × IsMemory m.now }
+    ensures { result ≡ find_child (nodes_of nodes m.now) parent name.now }
 {
     find_child_from(m, nodes, parent, name, first_child(m, nodes, parent))
 }
@@ -217,8 +217,8 @@ pub fn find_child_by(
     name: &[u8],
     firsts: &[u8; limits::NODES],
 ) -> usize
-    requires { (nodes ≤ NODES) × IsMemory m × FirstPlaces (mem_of m.now).nodes nodes firsts.now }
-    ensures { result ≡ find_child (nodes_of nodes m) parent name.now }
+    requires { (nodes ≤ NODES) × IsMemory m.now × FirstPlaces (mem_of m.now).nodes nodes firsts.now }
+    ensures { result ≡ find_child (nodes_of nodes m.now) parent name.now }
 {
     let first = to_place(firsts[hash(parent)]);
     if first == 0 {
@@ -229,8 +229,8 @@ pub fn find_child_by(
 
 // How many nodes have this parent.
 pub fn count_children(m: &[u8], n: usize, parent: u64) -> usize
-    requires { (n ≤ NODES) × IsMemory m }
-    ensures { result ≡ length (children (nodes_of n m) parent) }
+    requires { (n ≤ NODES) × IsMemory m.now }
+    ensures { result ≡ length (children (nodes_of n m.now) parent) }
 {
     let mut c = 0;
     let mut i = 0;
@@ -246,8 +246,8 @@ pub fn count_children(m: &[u8], n: usize, parent: u64) -> usize
 
 // The place of the open file with this handle, or o.
 pub fn find_handle(m: &[u8], o: usize, handle: u64) -> usize
-    requires { (o ≤ open_rows) × IsMemory m }
-    ensures { result ≡ find_handle (opens_of o m) handle }
+    requires { (o ≤ open_rows) × IsMemory m.now }
+    ensures { result ≡ find_handle (opens_of o m.now) handle }
 {
     let mut i = 0;
     // none before i has it
@@ -262,8 +262,8 @@ pub fn find_handle(m: &[u8], o: usize, handle: u64) -> usize
 
 // The place of the open file with this descriptor, or o: no open file has it.
 pub fn find_descriptor(m: &[u8], o: usize, descriptor: u32) -> usize
-    requires { (o ≤ open_rows) × IsMemory m }
-    ensures { result ≡ find_descriptor (opens_of o m) descriptor }
+    requires { (o ≤ open_rows) × IsMemory m.now }
+    ensures { result ≡ find_descriptor (opens_of o m.now) descriptor }
 {
     let mut i = 0;
     // none before i has it
@@ -290,8 +290,8 @@ pub fn pages_for(size: u32) -> usize
 // How many pages the first n nodes have, where the first k have s.
 fn pages_on(m: &[u8], k: usize, s: usize, n: usize) -> usize
     requires { (k ≤ n) × (n ≤ NODES) × (s ≡ page_total (take k (mem_of m.now).nodes)) × (s ≤ k * 4194304)
-        × IsMemory m }
-    ensures { (result ≡ page_total (nodes_of n m)) × (result ≤ n * 4194304) }
+        × IsMemory m.now }
+    ensures { (result ≡ page_total (nodes_of n m.now)) × (result ≤ n * 4194304) }
 {
     let mut t = s;
     let mut i = k;
@@ -305,8 +305,8 @@ fn pages_on(m: &[u8], k: usize, s: usize, n: usize) -> usize
 
 // How many pages the first k nodes have: where the digests of node k begin.
 pub fn first_page(m: &[u8], k: usize) -> usize
-    requires { (k ≤ NODES) × IsMemory m }
-    ensures { (result ≡ page_total (nodes_of k m)) × (result ≤ k * 4194304) }
+    requires { (k ≤ NODES) × IsMemory m.now }
+    ensures { (result ≡ page_total (nodes_of k m.now)) × (result ≤ k * 4194304) }
 {
     pages_on(m, 0, 0, k)
 }
@@ -321,8 +321,8 @@ struct Span {
 
 // The same of node k among the first n.
 fn pages_of(m: &[u8], n: usize, k: usize) -> Span
-    requires { (k < n) × (n ≤ NODES) × IsMemory m }
-    ensures { Spans (was m).nodes n k result × (result.total ≤ n * 4194304) }
+    requires { (k < n) × (n ≤ NODES) × IsMemory m.now }
+    ensures { Spans (was m.now).nodes n k result × (result.total ≤ n * 4194304) }
 {
     let first = first_page(m, k);
     let end = first + pages_for(memory::node_size(m, k));
@@ -334,8 +334,8 @@ fn pages_of(m: &[u8], n: usize, k: usize) -> Span
 
 // One more node, behind the others; it has no pages.
 pub fn add_node(m: &mut [u8], n: usize, row: [u8; memory::NODE_WIDTH])
-    requires { (n < NODES) × ((node_of row).size ≡ 0) × IsMemory m }
-    ensures by_index { (o : ℕ) → view_of (n + 1) o (mem_of m.new) ≡ with_node (node_of row) (view_of n o (was m)) }
+    requires { (n < NODES) × ((node_of row).size ≡ 0) × IsMemory m.old }
+    ensures by_index { (o : ℕ) → view_of (n + 1) o (mem_of m.new) ≡ with_node (node_of row) (view_of n o (was m.old)) }
     ensures keeps_length { KeepsLength m }
 {
     memory::put_node(m, n, row);
@@ -343,8 +343,8 @@ pub fn add_node(m: &mut [u8], n: usize, row: [u8; memory::NODE_WIDTH])
 
 // Node k is taken out; those behind it move up, and so do their digests.
 pub fn remove_node(m: &mut [u8], n: usize, k: usize)
-    requires { (k < n) × (n ≤ NODES) × (page_total (take n (mem_of m.old).nodes) ≤ PAGES) × IsMemory m }
-    ensures by_index { (o : ℕ) → view_of (n - 1) o (mem_of m.new) ≡ without_node k (view_of n o (was m)) }
+    requires { (k < n) × (n ≤ NODES) × (page_total (take n (mem_of m.old).nodes) ≤ PAGES) × IsMemory m.old }
+    ensures by_index { (o : ℕ) → view_of (n - 1) o (mem_of m.new) ≡ without_node k (view_of n o (was m.old)) }
     ensures keeps_length { KeepsLength m }
 {
     let s = pages_of(m, n, k);
@@ -354,8 +354,8 @@ pub fn remove_node(m: &mut [u8], n: usize, k: usize)
 
 // One more open file, behind the others.
 pub fn add_open(m: &mut [u8], o: usize, row: [u8; memory::OPEN_WIDTH])
-    requires { (o < open_rows) × IsMemory m }
-    ensures by_index { (n : ℕ) → view_of n (o + 1) (mem_of m.new) ≡ with_open (open_of row) (view_of n o (was m)) }
+    requires { (o < open_rows) × IsMemory m.old }
+    ensures by_index { (n : ℕ) → view_of n (o + 1) (mem_of m.new) ≡ with_open (open_of row) (view_of n o (was m.old)) }
     ensures keeps_length { KeepsLength m }
 {
     memory::put_open(m, o, row);
@@ -363,8 +363,8 @@ pub fn add_open(m: &mut [u8], o: usize, row: [u8; memory::OPEN_WIDTH])
 
 // Open file k is taken out; those behind it move up.
 pub fn remove_open(m: &mut [u8], o: usize, k: usize)
-    requires { (k < o) × (o ≤ open_rows) × IsMemory m }
-    ensures by_index { (n : ℕ) → view_of n (o - 1) (mem_of m.new) ≡ without_open k (view_of n o (was m)) }
+    requires { (k < o) × (o ≤ open_rows) × IsMemory m.old }
+    ensures by_index { (n : ℕ) → view_of n (o - 1) (mem_of m.new) ≡ without_open k (view_of n o (was m.old)) }
     ensures keeps_length { KeepsLength m }
 {
     memory::move_opens(m, k + 1, k, o - (k + 1));
@@ -372,10 +372,10 @@ pub fn remove_open(m: &mut [u8], o: usize, k: usize)
 
 // Whether these bytes are page i of node k: their SHA-256 is the kept one. Where no digest can stand, none is kept.
 pub fn is_page(m: &[u8], k: usize, i: usize, page: &[u8]) -> bool
-    requires { (k < NODES) × (i < 4194304) × IsMemory m }
-    ensures { (n : ℕ) → k < n → n ≤ NODES → i < pages_for (node_at (was m).nodes k).size
-        → page_total (nodes_of n m) ≤ PAGES → result ≡ equal (sha256 page.now)
-        (get_or (get_or (divide (nodes_of n m) (was m).digests) k []) i []) }
+    requires { (k < NODES) × (i < 4194304) × IsMemory m.now }
+    ensures { (n : ℕ) → k < n → n ≤ NODES → i < pages_for (node_at (was m.now).nodes k).size
+        → page_total (nodes_of n m.now) ≤ PAGES → result ≡ equal (sha256 page.now)
+        (get_or (get_or (divide (nodes_of n m.now) (was m.now).digests) k []) i []) }
 {
     let at = first_page(m, k) + i;
     if limits::PAGES <= at {
@@ -387,8 +387,8 @@ pub fn is_page(m: &[u8], k: usize, i: usize, page: &[u8]) -> bool
 
 // How many pages all files have where node k is of this size.
 pub fn pages_with(m: &[u8], n: usize, k: usize, size: u32) -> usize
-    requires { (k < n) × (n ≤ NODES) × IsMemory m }
-    ensures { result ≡ page_total (set_size (nodes_of n m) k size) }
+    requires { (k < n) × (n ≤ NODES) × IsMemory m.now }
+    ensures { result ≡ page_total (set_size (nodes_of n m.now) k size) }
 {
     let s = pages_of(m, n, k);
     s.first + pages_for(size) + (s.total - s.end)
@@ -399,8 +399,8 @@ pub fn pages_with(m: &[u8], n: usize, k: usize, size: u32) -> usize
 // counted.
 fn rows_moved(m: &[u8], n: usize, k: usize, end: usize, old: usize, new: usize) -> usize
     requires { (k < n) × (n ≤ NODES) × (end ≡ page_total (take (k + 1) (mem_of m.now).nodes))
-        × (end ≤ (k + 1) * 4194304) × IsMemory m }
-    ensures { (result ≡ pick (eqb old new) 0 (page_total (nodes_of n m) - end)) × (result ≤ n * 4194304) }
+        × (end ≤ (k + 1) * 4194304) × IsMemory m.now }
+    ensures { (result ≡ pick (eqb old new) 0 (page_total (nodes_of n m.now) - end)) × (result ≤ n * 4194304) }
 {
     if old == new {
         return 0;
@@ -420,8 +420,8 @@ struct Resize {
 
 // The same of file k among the first n.
 fn rows_of(m: &[u8], n: usize, k: usize, size: u32) -> Resize
-    requires { (k < n) × (n ≤ NODES) × IsMemory m }
-    ensures { Resizes (was m).nodes n k size result × Bounded result }
+    requires { (k < n) × (n ≤ NODES) × IsMemory m.now }
+    ensures { Resizes (was m.now).nodes n k size result × Bounded result }
 {
     let first = first_page(m, k);
     let old = pages_for(memory::node_size(m, k));
@@ -459,10 +459,10 @@ fn has_room(s: Resize, from: usize, count: usize) -> bool
 // behind its pages move to
 // where these end.
 pub fn change_file(m: &mut [u8], n: usize, k: usize, size: u32, from: usize, count: usize) -> bool
-    requires { (n ≤ NODES) × IsMemory m }
-    ensures value { Changeable (nodes_of n m) k size from count → (result ≡ true)
+    requires { (n ≤ NODES) × IsMemory m.old }
+    ensures value { Changeable (nodes_of n m.old) k size from count → (result ≡ true)
         × ((blank : List ℕ) (o : ℕ) → view_of n o (mem_of m.new) ≡ with_change blank k size from
-        (staged_digests count (was m).staged) (view_of n o (was m))) }
+        (staged_digests count (was m.old).staged) (view_of n o (was m.old))) }
     ensures m_unchanged { result ≡ false → m.new ≡ m.old }
     ensures keeps_length { KeepsLength m }
 {
@@ -481,8 +481,8 @@ pub fn change_file(m: &mut [u8], n: usize, k: usize, size: u32, from: usize, cou
 
 // The same digest in `count` rows from `at` on.
 fn put_rows(m: &mut [u8], at: usize, count: usize, d: [u8; limits::DIGEST_BYTES])
-    requires { (at + count ≤ PAGES) × IsMemory m }
-    ensures { Becomes m (with_digests (overwrite (was m).digests at (replicate count d))) }
+    requires { (at + count ≤ PAGES) × IsMemory m.old }
+    ensures { Becomes m (with_digests (overwrite (was m.old).digests at (replicate count d))) }
 {
     let mut i = 0;
     // i of them are written
@@ -495,10 +495,10 @@ fn put_rows(m: &mut [u8], at: usize, count: usize, d: [u8; limits::DIGEST_BYTES]
 // File k grown to this size: each added page has the digest of the page of zeros. The rows behind its pages move to
 // where these end; inside the last page no row is looked at.
 pub fn grow_file(m: &mut [u8], n: usize, k: usize, size: u32) -> bool
-    requires { (n ≤ NODES) × IsMemory m }
-    ensures value { Growable (nodes_of n m) k size → (result ≡ true)
+    requires { (n ≤ NODES) × IsMemory m.old }
+    ensures value { Growable (nodes_of n m.old) k size → (result ≡ true)
         × ((o : ℕ) → view_of n o (mem_of m.new) ≡ with_change (sha256 zero_page) k size 0 []
-        (view_of n o (was m))) }
+        (view_of n o (was m.old))) }
     ensures m_unchanged { result ≡ false → m.new ≡ m.old }
     ensures keeps_length { KeepsLength m }
 {

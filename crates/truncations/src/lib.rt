@@ -23,7 +23,7 @@ use guard_state::Guard;
 
 // truncate: 9 without right 2, 27, 28. A size that passes is a file's.
 fn judge_truncate(m: &[u8], n: usize, o: usize, handle: u64, size: u64) -> handle_calls::Handled
-    requires { (n ≤ NODES) × (o ≤ open_rows) × IsMemory m }
+    requires { (n ≤ NODES) × (o ≤ open_rows) × IsMemory m.now }
     ensures judgement { Judgement m.now n o handle (truncate handle size) result }
     ensures by_index { (i j : ℕ) → result ≡ Open i j → size ≤ FILE_BYTES }
 {
@@ -43,9 +43,9 @@ fn judge_truncate(m: &[u8], n: usize, o: usize, handle: u64, size: u64) -> handl
 
 // The pending truncation asks for the cut.
 fn ask_cut(m: &mut [u8], request: &mut [u8]) -> outcomes::Outcome
-    requires { Shrinking (numbers_in m).call × IsMemory m × HoldsRequest request }
-    ensures { Moves m request (λ c s. pages_stored c (digest_store c) s (numbers_in m.entry).node
-        (numbers_in m.entry).opened (shrink_in m.old)) result }
+    requires { Shrinking (numbers_in m.old).call × IsMemory m.old × HoldsRequest request.old }
+    ensures { Moves m request (λ c s. pages_stored c (digest_store c) s (numbers_in m.old).node
+        (numbers_in m.old).opened (shrink_in m.old)) result }
 {
     let g = Guard::load(m);
     let d = memory::open_descriptor(m, g.opened);
@@ -56,10 +56,10 @@ fn ask_cut(m: &mut [u8], request: &mut [u8]) -> outcomes::Outcome
 
 // The page that the new end lies in goes out, with zeros from there on.
 fn store_page(m: &mut [u8], fetched: &[u8], request: &mut [u8]) -> outcomes::Outcome
-    requires { Shrinking (numbers_in m).call × ((numbers_in m).digests < new_digests)
-        × (length fetched.now ≤ PAGE_BYTES) × IsMemory m × HoldsRequest request }
-    ensures { Goes m request shrink_in (numbers_in m.entry).page (λ c s k o q. ask_store c (digest_store c) s k o
-        q (numbers_in m.entry).page fetched.now) result }
+    requires { Shrinking (numbers_in m.old).call × ((numbers_in m.old).digests < new_digests)
+        × (length fetched.now ≤ PAGE_BYTES) × IsMemory m.old × HoldsRequest request.old }
+    ensures { Goes m request shrink_in (numbers_in m.old).page (λ c s k o q. ask_store c (digest_store c) s k o
+        q (numbers_in m.old).page fetched.now) result }
 {
     let g = Guard::load(m);
     let size = memory::node_size(m, g.node);
@@ -71,9 +71,9 @@ fn store_page(m: &mut [u8], fetched: &[u8], request: &mut [u8]) -> outcomes::Out
 
 // The pending truncation asks for its first page, or, on a page's edge, for the cut.
 fn start(m: &mut [u8], request: &mut [u8]) -> outcomes::Outcome
-    requires { Shrinking (numbers_in m).call × IsMemory m × HoldsRequest request }
-    ensures { Moves m request (λ c s. pages_from c (digest_store c) s (numbers_in m.entry).node
-        (numbers_in m.entry).opened (shrink_in m.old) ((numbers_in m.entry).size / PAGE_BYTES)) result }
+    requires { Shrinking (numbers_in m.old).call × IsMemory m.old × HoldsRequest request.old }
+    ensures { Moves m request (λ c s. pages_from c (digest_store c) s (numbers_in m.old).node
+        (numbers_in m.old).opened (shrink_in m.old) ((numbers_in m.old).size / PAGE_BYTES)) result }
 {
     let g = Guard::load(m);
     if g.size % Guard::PAGE_BYTES == 0 {
@@ -95,9 +95,9 @@ fn ask_growth(
     size: usize,
     request: &mut [u8],
 ) -> outcomes::Outcome
-    requires { (opened < open_rows) × (node < NODES) × (size ≤ FILE_BYTES) × IsMemory m × HoldsRequest request }
+    requires { (opened < open_rows) × (node < NODES) × (size ≤ FILE_BYTES) × IsMemory m.old × HoldsRequest request.old }
     ensures { Asks m request (cutting node opened (growing size))
-        (cut_request (open_at (was m).opens opened).descriptor size) result }
+        (cut_request (open_at (was m.old).opens opened).descriptor size) result }
 {
     let d = memory::open_descriptor(m, opened);
     guard_state::wait_truncate(m, guard_state::calls::GROWING, node, opened, size);
@@ -113,7 +113,7 @@ fn truncate_at(
     size: usize,
     request: &mut [u8],
 ) -> outcomes::Outcome
-    requires { (opened < open_rows) × (size ≤ FILE_BYTES) × IsMemory m × HoldsRequest request }
+    requires { (opened < open_rows) × (size ≤ FILE_BYTES) × IsMemory m.old × HoldsRequest request.old }
     ensures { StartsAt m request (λ handle. truncate handle size) opened node result }
 {
     // no valid table has such a place
@@ -137,7 +137,7 @@ fn truncate_at(
 
 // truncate: the open file with this handle has this size.
 pub fn begin_truncate(m: &mut [u8], handle: u64, size: u64, request: &mut [u8]) -> outcomes::Outcome
-    requires { IsMemory m × HoldsRequest request }
+    requires { IsMemory m.old × HoldsRequest request.old }
     ensures { Begins m request (truncate handle size) result }
 {
     let g = Guard::load(m);
@@ -158,8 +158,8 @@ pub fn begin_truncate(m: &mut [u8], handle: u64, size: u64, request: &mut [u8]) 
 
 // The page that the truncation fetched came.
 pub fn accept_fetched(m: &mut [u8], reply: &[u8], request: &mut [u8]) -> outcomes::Outcome
-    requires { ((numbers_in m).call ≡ SHRINK_FETCHING) × IsMemory m × HoldsRequest request }
-    ensures { AcceptsAsking m reply request result }
+    requires { ((numbers_in m.old).call ≡ SHRINK_FETCHING) × IsMemory m.old × HoldsRequest request.old }
+    ensures { AcceptsAsking m reply.now request result }
 {
     let b = page_changes::judge_fetched(m, reply);
     if b != 0 {
@@ -170,8 +170,8 @@ pub fn accept_fetched(m: &mut [u8], reply: &[u8], request: &mut [u8]) -> outcome
 
 // The page that the truncation stored is taken: the file is cut.
 pub fn accept_stored(m: &mut [u8], reply: &[u8], request: &mut [u8]) -> outcomes::Outcome
-    requires { ((numbers_in m).call ≡ SHRINK_STORING) × IsMemory m × HoldsRequest request }
-    ensures { AcceptsAsking m reply request result }
+    requires { ((numbers_in m.old).call ≡ SHRINK_STORING) × IsMemory m.old × HoldsRequest request.old }
+    ensures { AcceptsAsking m reply.now request result }
 {
     let b = replies::judge_status(reply, Guard::PAGE_BYTES as i32);
     if b != 0 {
@@ -183,8 +183,8 @@ pub fn accept_stored(m: &mut [u8], reply: &[u8], request: &mut [u8]) -> outcomes
 // The file is cut to more bytes: its added pages are zero, the cursor stays, the truncation is done; or the disk is
 // full.
 pub fn accept_growth(m: &mut [u8], reply: &[u8]) -> outcomes::Outcome
-    requires { ((numbers_in m).call ≡ GROWING) × IsMemory m }
-    ensures { Accepts m reply result }
+    requires { ((numbers_in m.old).call ≡ GROWING) × IsMemory m.old }
+    ensures { Accepts m reply.now result }
 {
     let b = replies::judge_status(reply, 0);
     if b != 0 {
@@ -207,8 +207,8 @@ pub fn accept_growth(m: &mut [u8], reply: &[u8]) -> outcomes::Outcome
 
 // The file is cut to fewer bytes: the truncation is done.
 pub fn accept_cut(m: &mut [u8], reply: &[u8]) -> outcomes::Outcome
-    requires { ((numbers_in m).call ≡ CUTTING) × IsMemory m }
-    ensures { Accepts m reply result }
+    requires { ((numbers_in m.old).call ≡ CUTTING) × IsMemory m.old }
+    ensures { Accepts m reply.now result }
 {
     let b = replies::judge_status(reply, 0);
     if b != 0 {

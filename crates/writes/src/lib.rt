@@ -28,7 +28,7 @@ const FILE_PAGES: usize = Guard::FILE_BYTES / Guard::PAGE_BYTES;
 
 // write: 9 without right 2, 27, 28.
 fn judge_write(m: &[u8], n: usize, o: usize, handle: u64, bytes: &[u8]) -> handle_calls::Handled
-    requires { (n ≤ NODES) × (o ≤ open_rows) × IsMemory m }
+    requires { (n ≤ NODES) × (o ≤ open_rows) × IsMemory m.now }
     ensures { Judgement m.now n o handle (write handle bytes.now) result }
 {
     let k = tables::find_handle(m, o, handle);
@@ -68,8 +68,8 @@ fn is_fetched(position: usize, end: usize, size: usize, page: usize) -> bool
 
 // A page of the pending write goes out, made from the one that was fetched or from none.
 fn store_page(m: &mut [u8], page: usize, fetched: &[u8], request: &mut [u8]) -> outcomes::Outcome
-    requires { Writing (numbers_in m).call × ((numbers_in m).digests < new_digests) × (page ≤ file_pages)
-        × (length fetched.now ≤ PAGE_BYTES) × IsMemory m × HoldsRequest request }
+    requires { Writing (numbers_in m.old).call × ((numbers_in m.old).digests < new_digests) × (page ≤ file_pages)
+        × (length fetched.now ≤ PAGE_BYTES) × IsMemory m.old × HoldsRequest request.old }
     ensures { Goes m request write_in page (λ c s k o q. ask_store c (digest_store c) s k o q page
         fetched.now) result }
 {
@@ -85,10 +85,10 @@ fn store_page(m: &mut [u8], page: usize, fetched: &[u8], request: &mut [u8]) -> 
 
 // The pending write is done with its bytes before `end`: the file's size, the digests of `count` pages and the cursor.
 fn end_write(m: &mut [u8], end: usize, count: usize) -> outcomes::Outcome
-    requires { ((numbers_in m).position ≤ end) × (end ≤ FILE_BYTES + DATA_BYTES) × IsMemory m }
+    requires { ((numbers_in m.old).position ≤ end) × (end ≤ FILE_BYTES + DATA_BYTES) × IsMemory m.old }
     ensures sends { (c : Config) (d : List ℕ) → EndsAt c m.old d end count → (b : List ℕ)
         → Sends c (finish_change c (digest_store c) (trimmed c (digest_store c) (state_of c m.old) count)
-        (numbers_in m.entry).node (numbers_in m.entry).opened (writing (numbers_in m.entry).position d)) result
+        (numbers_in m.old).node (numbers_in m.old).opened (writing (numbers_in m.old).position d)) result
         m.new b b }
     ensures keeps_length { KeepsLength m }
 {
@@ -110,11 +110,11 @@ fn end_write(m: &mut [u8], end: usize, count: usize) -> outcomes::Outcome
 // The disk is full where a page of the pending write was to be stored: the write is done with the pages before it, and
 // without one it is refused.
 fn keep_pages(m: &mut [u8]) -> outcomes::Outcome
-    requires { ((numbers_in m).call ≡ STORING) × IsMemory m }
+    requires { ((numbers_in m.old).call ≡ STORING) × IsMemory m.old }
     ensures sends { (c : Config) → Consistent c (state_of c m.old) → (b : List ℕ)
         → Sends c (apply c (digest_store c) (state_of c m.old) (full_action
-        (storing (numbers_in m.entry).node (numbers_in m.entry).opened (write_in m.old)
-        (numbers_in m.entry).page))) result m.new b b }
+        (storing (numbers_in m.old).node (numbers_in m.old).opened (write_in m.old)
+        (numbers_in m.old).page))) result m.new b b }
     ensures keeps_length { KeepsLength m }
 {
     let g = Guard::load(m);
@@ -127,8 +127,8 @@ fn keep_pages(m: &mut [u8]) -> outcomes::Outcome
 
 // A page of the pending write: it is fetched, or goes out at once.
 fn on_page(m: &mut [u8], page: usize, request: &mut [u8]) -> outcomes::Outcome
-    requires { Writing (numbers_in m).call × ((numbers_in m).digests < new_digests) × (page ≤ file_pages) × IsMemory m
-        × HoldsRequest request }
+    requires { Writing (numbers_in m.old).call × ((numbers_in m.old).digests < new_digests) × (page ≤ file_pages) × IsMemory m.old
+        × HoldsRequest request.old }
     ensures { Goes m request write_in page (λ c s k o q. on_page c (digest_store c) s k o q page) result }
 {
     let g = Guard::load(m);
@@ -142,7 +142,7 @@ fn on_page(m: &mut [u8], page: usize, request: &mut [u8]) -> outcomes::Outcome
 
 // The pending write goes on with this page, or is done. No consistent write has more digests than there is room for.
 fn carry_on(m: &mut [u8], page: usize, request: &mut [u8]) -> outcomes::Outcome
-    requires { Writing (numbers_in m).call × (page ≤ file_pages) × IsMemory m × HoldsRequest request }
+    requires { Writing (numbers_in m.old).call × (page ≤ file_pages) × IsMemory m.old × HoldsRequest request.old }
     ensures { Goes m request write_in page (λ c s k o q. pages_from c (digest_store c) s k o q page) result }
 {
     let g = Guard::load(m);
@@ -163,7 +163,7 @@ fn write_at(
     bytes: &[u8],
     request: &mut [u8],
 ) -> outcomes::Outcome
-    requires { (opened < open_rows) × (length bytes.now ≤ DATA_BYTES) × IsMemory m × HoldsRequest request }
+    requires { (opened < open_rows) × (length bytes.now ≤ DATA_BYTES) × IsMemory m.old × HoldsRequest request.old }
     ensures { StartsAt m request (λ handle. write handle bytes.now) opened node result }
 {
     if bytes.len() == 0 {
@@ -187,7 +187,7 @@ fn write_at(
 
 // write: these bytes at the cursor of the open file with this handle.
 pub fn begin_write(m: &mut [u8], handle: u64, bytes: &[u8], request: &mut [u8]) -> outcomes::Outcome
-    requires { (length bytes.now ≤ DATA_BYTES) × IsMemory m × HoldsRequest request }
+    requires { (length bytes.now ≤ DATA_BYTES) × IsMemory m.old × HoldsRequest request.old }
     ensures { Begins m request (write handle bytes.now) result }
 {
     let g = Guard::load(m);
@@ -202,8 +202,8 @@ pub fn begin_write(m: &mut [u8], handle: u64, bytes: &[u8], request: &mut [u8]) 
 
 // The page that the write fetched came.
 pub fn accept_fetched(m: &mut [u8], reply: &[u8], request: &mut [u8]) -> outcomes::Outcome
-    requires { ((numbers_in m).call ≡ FETCHING) × IsMemory m × HoldsRequest request }
-    ensures { AcceptsAsking m reply request result }
+    requires { ((numbers_in m.old).call ≡ FETCHING) × IsMemory m.old × HoldsRequest request.old }
+    ensures { AcceptsAsking m reply.now request result }
 {
     let b = page_changes::judge_fetched(m, reply);
     if b != 0 {
@@ -215,8 +215,8 @@ pub fn accept_fetched(m: &mut [u8], reply: &[u8], request: &mut [u8]) -> outcome
 
 // The page that the write stored is taken: 1,024 bytes of it; or the disk is full.
 pub fn accept_stored(m: &mut [u8], reply: &[u8], request: &mut [u8]) -> outcomes::Outcome
-    requires { ((numbers_in m).call ≡ STORING) × IsMemory m × HoldsRequest request }
-    ensures { AcceptsAsking m reply request result }
+    requires { ((numbers_in m.old).call ≡ STORING) × IsMemory m.old × HoldsRequest request.old }
+    ensures { AcceptsAsking m reply.now request result }
 {
     let b = replies::judge_status(reply, Guard::PAGE_BYTES as i32);
     if b != 0 {

@@ -1,4 +1,6 @@
 // The digest of a page of zeros, worked out once: a file that grows gets such pages, and nothing is hashed for them.
+#![tactic(auto)]
+
 ghost use Rattle.std.specs.Prelude.{◌≡◌};
 ghost use Rattle.digest.specs.Sha256.{sha256};
 ghost use Rattle.zero_page.specs.ZeroPage.{zero_page};

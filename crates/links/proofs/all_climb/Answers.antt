@@ -1,0 +1,41 @@
+-- `links::all_climb` meets its contract. The invariant: the places before k reach place 0. Assumes nothing.
+use native.Mathlib.Omega.{arith}
+use Rattle.links.specs.laws.ClimbLaws.{same_alike, alike-after, reached_first, reached_next}
+use Rattle.links.proofs.all_climb.Goals as goal
+
+pub loop-k-init : goal.loop-k-init
+loop-k-init c =
+    let a = c.args in
+    (c.requires, same_alike a.to.now a.far.now, reached_first a.to.now a.far.now)
+
+-- TODO Need-same-length
+-- same_length : tie.Need-same-length invariant-loop decreases-loop
+-- same_length c =
+--     let p = c.before.before.before.before.before.before.before.before.requires in
+--     c.before.before.before.before.before.loop.invariant.0.to_size ∙ sym p.to_size
+
+-- TODO Need-same-length-2
+-- same-length-2 : tie.Need-same-length-2 invariant-loop decreases-loop
+-- same-length-2 c =
+--     let p = c.before.before.before.before.before.before.before.before.requires in
+--     c.before.before.before.before.before.loop.invariant.0.far_size ∙ sym p.far_size
+
+pub loop-k-preserved : goal.loop-k-preserved
+loop-k-preserved c =
+    let shorten = c.shorten in
+    let climb = c.climb-total in
+    let l = c.loop-k in (
+      shorten.ensures.0,
+      alike-after l.invariant.1 shorten.ensures.1,
+      reached_next l.invariant.2 (omega arith) (l.invariant.1.1 _ _ (climb.ensures.0 (omega arith))),
+    )
+
+-- TODO Need-same-length-3
+-- same-length-3 : tie.Need-same-length-3 invariant-loop decreases-loop
+-- same-length-3 c = let p = c.before.before.before.before.requires in
+--     c.before.loop.invariant.0.to_size ∙ sym p.to_size
+
+-- TODO Need-same-length-4
+-- same-length-4 : tie.Need-same-length-4 invariant-loop decreases-loop
+-- same-length-4 c = let p = c.before.before.before.before.requires in
+--     c.before.loop.invariant.0.far_size ∙ sym p.far_size

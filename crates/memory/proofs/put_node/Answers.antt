@@ -1,0 +1,13 @@
+-- `memory::put_node` meets its contract. Assumes nothing.
+use native.Mathlib.Omega.{arith}
+use mathlib.Core.Path.{ap, ◌∙◌}
+use Rattle.memory.specs.Layout.{mem_of}
+use Rattle.memory.specs.laws.MemLaws.{mem_node}
+use borrow.Author.Rules.{rules}
+use Rattle.memory.proofs.put_node.Goals as goal
+
+pub returns : goal.returns
+returns c =
+    let a = c.args in
+    let e = c.put.ensures in
+    (ap mem_of e ∙ mem_node a.m.now a.row (omega arith) a.i (search rules) (omega arith), omega arith)
