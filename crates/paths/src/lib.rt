@@ -244,8 +244,8 @@ fn is_deep(path: &[u8], end: usize) -> bool
 // say
 // nothing.
 fn places_for(m: &[u8], n: usize, deep: bool) -> [u8; limits::NODES]
-    requires { (n ≤ NODES) × IsMemory m }
-    ensures { FirstPlaces (was m).nodes n result }
+    requires { (n ≤ NODES) × IsMemory m.now }
+    ensures { FirstPlaces (was m.now).nodes n result }
 {
     if deep {
         return tables::first_places(m, n);

@@ -1,5 +1,7 @@
 // The guard's tables: searches and changes of nodes, open files and page digests, each equal to its definition.
 // Contracts are over the rows in use (specs/View.antt); where a row stands is the memory crate's.
+#![tactic(auto)]
+
 ghost use Rattle.std.specs.Prelude.{true, false, List, [], ◌≡◌, ℕ, ◌+◌, ◌-◌, ◌*◌, ◌≤◌, ◌<◌, eqb, length, get_or, take, replicate};
 ghost use Rattle.lists.specs.Equal.{equal};
 ghost use Rattle.lists.specs.Parts.{overwrite};
@@ -171,8 +173,8 @@ fn first_child(m: &[u8], n: usize, parent: u64) -> usize
 
 // Where the children of each parent may begin, by the hash of its id; 255 where no node has such a parent.
 pub fn first_places(m: &[u8], n: usize) -> [u8; limits::NODES]
-    requires { (n ≤ NODES) × IsMemory m }
-    ensures { FirstPlaces (was m).nodes n result }
+    requires { (n ≤ NODES) × IsMemory m.now }
+    ensures { FirstPlaces (was m.now).nodes n result }
 {
     let mut firsts = [255u8; limits::NODES];
     let mut k = n;

@@ -1,0 +1,19 @@
+-- `tables::is_place` meets its contract. Assumes nothing.
+use native.Mathlib.Omega.{arith}
+use mathlib.Core.Path.{◌≡◌, sym, ap, ◌∙◌}
+use borrow.Author.Tests.{eqb-true}
+use lib.ListN.{length, take}
+use Rattle.memory.specs.Layout.{mem_of}
+use Rattle.tables.specs.laws.RowsInUse.{count-nodes, node_front_lem}
+use Rattle.filesystem.specs.Tables.{Node}
+use Rattle.filesystem.specs.Sound.{to_sound, place_with_id}
+use Rattle.tables.proofs.is_place.Goals as goal
+
+pub returns : goal.returns
+returns c e w v =
+    let a = c.args in
+    let ns = take a.n (mem_of a.m.now).nodes in
+    let l : length ns ≡ a.n = count-nodes a.m.now a.n (omega arith) in
+    let g = node_front_lem a.n (mem_of a.m.now).nodes a.k (omega arith) in
+    place_with_id ns a.k a.id (to_sound w ns v) (omega arith) (ap (λ (y : Node). y.id) g
+    ∙ sym c.node_id.ensures ∙ eqb-true _ _ e)
