@@ -1,5 +1,7 @@
 // A call read from its bytes, once: its kind and its fields by value, or that the form is wrong. A path's own form is
 // judged with the path.
+#![tactic(auto)]
+
 ghost use Rattle.std.specs.Prelude.{true, ◌≡◌, ℕ, ◌<◌, ◌≤◌, leb, length, get_or, drop};
 ghost use Rattle.lists.specs.All.{Bytes};
 ghost use Rattle.filesystem.specs.Tables.{ID_BYTES, DATA_BYTES};

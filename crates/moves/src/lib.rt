@@ -1,4 +1,6 @@
 // The tests of a move: a node that gets another directory and another name.
+#![tactic(auto)]
+
 ghost use Rattle.std.specs.Prelude.{true, not, ◌||◌, ◌≡◌, ℕ, ◌≤◌, ◌<◌, length};
 ghost use Rattle.lists.specs.Pick.{pick};
 ghost use Rattle.filesystem.specs.Image.{sound_nodes, length_in};

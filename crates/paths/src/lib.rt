@@ -1,5 +1,7 @@
 // Rights and paths: whether a mode covers rights, the form of a path on its bytes, and the walk along one in the
 // guard's memory.
+#![tactic(auto)]
+
 ghost use Rattle.std.specs.Prelude.{◌||◌, ◌≡◌, ◌+◌, ◌-◌, ◌*◌, ◌<◌, ◌≤◌, ltb, length, drop};
 ghost use Rattle.lists.specs.Search.{place};
 ghost use Rattle.filesystem.specs.Paths.{split};

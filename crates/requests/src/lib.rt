@@ -1,5 +1,7 @@
 // Host requests written over the front of the caller's request buffer (SPECIFICATION 5.1), the page of a store among
 // them.
+#![tactic(auto)]
+
 ghost use Rattle.std.specs.Prelude.{◌∷◌, ◌++◌, ◌≡◌, ◌+◌, ◌/◌, ◌≤◌, length};
 ghost use Rattle.lists.specs.LittleEndian.{encode};
 ghost use Rattle.filesystem.specs.Tables.{PAGE_BYTES, FILE_BYTES, PATH_BYTES};

@@ -97,6 +97,7 @@ module _ (ns : List Node) (s : List ℕ) (d at end : ℕ) (reach : end ≡ at + 
     where
       go : (p : Path) → Some p → placed_from ns (length s) d p ≡ refused_place k
       go (c ∷ cs) some = placed_stop ns (length s) d c cs k e z
+      go [] x' = elim x' [ ]
 
   module _ (more : end < length s) where
     pub step-absent : 0 ≡ search_number ns d → length ns ≤ child_at ns d (take (end - at) (drop at s))
@@ -106,6 +107,7 @@ module _ (ns : List Node) (s : List ℕ) (d at end : ℕ) (reach : end ≡ at + 
       where
         go : (p : Path) → Some p → placed_from ns (length s) d (take (end - at) (drop at s) ∷ p) ≡ refused_place 2
         go (c ∷ cs) some = placed-absent ns (length s) d (take (end - at) (drop at s)) c cs e h
+        go [] x' = elim x' [ ]
 
     pub step_on : 0 ≡ search_number ns d → child_at ns d (take (end - at) (drop at s)) < length ns
         → placed_from ns (length s) d (split (drop at s)) ≡ placed_from ns (length s)
@@ -117,6 +119,7 @@ module _ (ns : List Node) (s : List ℕ) (d at end : ℕ) (reach : end ≡ at + 
             → placed_from ns (length s) d (take (end - at) (drop at s) ∷ p) ≡ placed_from ns (length s)
             (child_at ns d (take (end - at) (drop at s))) p
         go (c ∷ cs) some = placed_on ns (length s) d (take (end - at) (drop at s)) c cs e h
+        go [] x' = elim x' [ ]
 
   -- the last
   pub step-last : length s ≤ end → 0 ≡ search_number ns d → placed_from ns (length s) d (split (drop at s)) ≡ In d at
@@ -138,6 +141,7 @@ module _ (ns : List Node) (s : List ℕ) where
     where
       go : (p : Path) → Some p → placed_in ns (length s) p ≡ placed_from ns (length s) 0 p
       go (c ∷ cs) some = unfold placed_in in refl
+      go [] x' = elim x' [ ]
 
 -- a child of node d among the first n nodes
 pub child_front : (n : ℕ) (ns : List Node) (d id k : ℕ) (c : List ℕ) → d < n → id ≡ (node_at ns d).id

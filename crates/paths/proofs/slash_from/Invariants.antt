@@ -1,0 +1,14 @@
+-- `paths::slash_from` meets its contract. The invariant: the search from `at` is the search from i. Assumes nothing.
+use Prim.Native.Nat.{◌+◌, ◌≤◌, ◌-◌}
+use mathlib.Core.Path.{◌≡◌}
+use lib.ListN.{length, drop}
+use Rattle.lists.specs.Search.{place}
+use Rattle.paths.specs.Parts.{is_slash}
+use Rattle.paths.proofs.slash_from.Given as goal
+
+abbrev pub invariant-loop-i : goal.invariant-loop-i
+invariant-loop-i l = (l.at ≤ l.i) × (l.i ≤ length l.path)
+    × (l.at + place is_slash (drop l.at l.path) ≡ l.i + place is_slash (drop l.i l.path))
+
+abbrev pub decreases-loop-i : goal.decreases-loop-i
+decreases-loop-i l = length l.path - l.i
