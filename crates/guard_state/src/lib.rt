@@ -1,6 +1,8 @@
 // The guard's numbers in the memory's header, the memory as the machine's state, and the pending call: one begins to
 // wait for a reply, is
 // done, or the guard stops. Contracts are over the machine's states (specs/State.antt).
+#![tactic(auto)]
+
 ghost use Rattle.std.specs.Prelude.{[], ◌∷◌, ◌++◌, ◌≡◌, ◌+◌, ◌%◌, ◌<◌, ◌≤◌, length, get_or, take};
 ghost use Rattle.filesystem.specs.Tables.{NODES, NAME_BYTES, FILE_BYTES, DATA_BYTES};
 ghost use Rattle.rules.specs.Pages.{writing};

@@ -8,23 +8,14 @@ use Rattle.filesystem.specs.Tables.{FILE_BYTES}
 use Rattle.rules.specs.Requests.{asked, mapping}
 use Rattle.guard_state.specs.State.{numbers_of, cleared_head, pendings, pending_in, gathered_in, gathered_none}
 use Rattle.guard_state.specs.laws.WaitLaws.{kept, waits_as}
-use borrow.Author.Rules.{rules}
-use Rattle.guard_state.proofs.wait_map.Statement.{statement}
-use Rattle.guard_state.proofs.wait_map.Tie as tie
+use Rattle.guard_state.proofs.wait_map.Goals as goal
 
-returns : tie.Need-returns
+pub returns : goal.returns
 unfolding cleared_head numbers_of pendings pending_in gathered_in
 returns c =
-    let p2 = c.before.before in
-    let p1 = p2.before.before.before.before in
-    let k = p1.before.before.before.before in
-    let a = k.before.before.before.args in
+    let a = c.args in
     let z = mem_of a.m.now in
     let e : mem_of _ ≡ with_head (set (set (cleared_head z.head) 3 15) 12 a.size) z =
-    p2.put-head2.ensures.0 ∙ rw (p1.put-head.ensures.0, k.clear.ensures.0) in
+    c.put_head-2.ensures.0 ∙ rw (c.put_head.ensures.0, c.clear.ensures.0) in
     let f = ap (λ (n : ℕ). asked (mapping n)) (kept a.size (FILE_BYTES + 1) (omega arith)) in
     (λ q. waits_as q a.m.now _ _ e refl refl refl (asked (mapping a.size)) gathered_none refl f refl, omega arith)
-
-pub wait-map-spec : {M : Type 1} → statement M
-wait-map-spec = tie.close (tie.spec (λ c κs. search rules) (λ c κs. search rules) (λ c κs. search rules)
-    (λ c. search rules) returns)

@@ -1,5 +1,4 @@
 -- `guard_state::wait_page` meets its contract. Assumes nothing.
-
 use native.Mathlib.Omega.{arith}
 use mathlib.Core.Path.{◌≡◌, refl, ap, ◌∙◌}
 use mathlib.Core.List.{◌++◌}
@@ -14,41 +13,31 @@ use Rattle.guard_state.specs.State.{numbers_of, cleared_head, pendings, pending_
 use Rattle.guard_state.specs.State.{staged_bytes, file_pages}
 use Rattle.guard_state.specs.laws.StageLaws.{bytes-more}
 use Rattle.guard_state.specs.laws.WaitLaws.{kept, staged_waits}
-use borrow.Author.Rules.{rules}
-use Rattle.guard_state.proofs.wait_page.Statement.{statement}
-use Rattle.guard_state.proofs.wait_page.Tie as tie
+use Rattle.guard_state.proofs.wait_page.Goals as goal
 
-returns : tie.Need-returns
+pub returns : goal.returns
 unfolding cleared_head numbers_of pendings pending_in gathered_in staged_bytes
 returns c =
-    let p = c.before.before in
-    let r = p.before.before.before.before in
-    let t = r.before.before.before.before in
-    let b = t.before.before.before.before in
-    let a = b.args in
+    let a = c.args in
     let z = mem_of a.m.now in
     let y = overwrite z.staged a.bytes a.more.now in
     let e : mem_of _ ≡ with_head
     (set (set (set (set (set (set (set (cleared_head z.head) 3 8) 4 a.node) 5 a.opened) 10 a.position) 11
     a.count) 13 a.page) 14 (a.bytes + length a.more.now)) (with_staged y z) =
-    p.put-head.ensures.0 ∙ rw (r.put-read.ensures.0, t.stage.ensures.0) in
+    c.put_head.ensures.0 ∙ rw (c.put_read.ensures.0, c.stage.ensures.0) in
     let n = kept a.node NODES (omega arith) in
     let o = kept a.opened open_rows (omega arith) in
     let s = kept a.position (FILE_BYTES + 1) (omega arith) in
     let l = kept a.count (DATA_BYTES + 1) (omega arith) in
     let g = kept a.page (file_pages + 1) (omega arith) in
     let h : (a.bytes + length a.more.now) % (DATA_BYTES + 1) ≡ a.bytes + length a.more.now = kept _
-    (DATA_BYTES + 1) (omega (arith, b.requires.5)) in
+    (DATA_BYTES + 1) (omega (arith, c.requires.5)) in
     let x : take (a.bytes + length a.more.now) y ≡ take a.bytes z.staged
     ++ a.more.now = bytes-more z.staged (length-staged a.m.now (omega arith)) a.more.now a.bytes
-    (omega (arith, b.requires.5)) in
+    (omega (arith, c.requires.5)) in
     let w = ap (λ (i : ℕ). gathered_read (take i y)) h ∙ ap gathered_read x in (
       λ q. staged_waits q a.m.now _ _ y e refl refl refl (reading a.node a.opened a.position a.count
           a.page) (gathered_read (take a.bytes z.staged ++ a.more.now)) refl
           (λ i. reading (n i) (o i) (s i) (l i) (g i)) w,
       omega arith,
     )
-
-pub wait-page-spec : {M : Type 1} → statement M
-wait-page-spec = tie.close (tie.spec (λ c. search rules) (λ c κs. search rules) (λ c κs. search rules)
-    (λ c κs. search rules) (λ c. search rules) returns)
