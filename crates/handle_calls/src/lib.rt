@@ -1,5 +1,7 @@
 // What calls by handle share: the open file and its node found, its rights, and what its file's size allows
 // (SPECIFICATION 7.8).
+#![tactic(auto)]
+
 ghost use Rattle.std.specs.Prelude.{true, ◌≡◌, ℕ, ◌<◌, ◌≤◌};
 ghost use Rattle.filesystem.specs.Image.{sound_nodes};
 ghost use Rattle.filesystem.specs.Tables.{NODES, node_at, find_id};

@@ -1,6 +1,8 @@
 // What comes back of an event: exactly one of four things. `answer_in` (specs/Values.antt) says which answer of the
 // machine an outcome and the
 // caller's buffers are.
+#![tactic(auto)]
+
 ghost use Rattle.std.specs.Prelude.{◌≡◌};
 ghost use Rattle.outcomes.specs.Values.{value_of};
 

@@ -1,4 +1,6 @@
 // What calls by path share: the walk judged (SPECIFICATION 7.4), and a call on a node that is there begun.
+#![tactic(auto)]
+
 ghost use Rattle.std.specs.Prelude.{◌≡◌, ℕ, ◌<◌, ◌≤◌, length};
 ghost use Rattle.filesystem.specs.Tables.{NODES, PATH_BYTES};
 ghost use Rattle.rules.specs.Calls.{stat};

@@ -1,4 +1,6 @@
 // Replies that calls share judged: the stop reason, or 0 where the reply is right; and a call ended by a full disk.
+#![tactic(auto)]
+
 ghost use Rattle.std.specs.Prelude.{List, [], ◌≡◌, ℕ, ◌<◌, ◌≤◌, length, get_or};
 ghost use Rattle.filesystem.specs.Image.{divide};
 ghost use Rattle.filesystem.specs.Tables.{NODES, node_at, PAGES, PAGE_BYTES, pages_for, page_total};

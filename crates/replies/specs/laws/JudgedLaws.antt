@@ -99,20 +99,21 @@ module _ (r : List ℕ) where
     status_same (pos n) e = passed (is_number n) ∙ check_last (λ i. i) 2 _ _ (ap not (number_yes n s e))
     status_same (negsuc n) e = passed (is_negative n) ∙ check_last (λ i. i) 2 _ _ (ap not (negative_yes n s e))
 
+  full_same : (z : ℤ) → is_full z ≡ is_negative 27 z
+  unfolding is_full is_negative
+  full_same (pos n) = refl
+  full_same (negsuc n) = refl
+
   -- -28, where nothing speaks against it
   pub full-status : says_full 4 r ≡ eqb (status_of r (negsuc 27)) 0
-  unfolding says_full is_full is_negative decide pick
-  full-status = go (is (eqb (length r) 4)) (is (is_negative 27 (signed_of r)))
+  unfolding says_full decide pick
+  full-status = rw (full_same (signed_of r)) (go (is (eqb (length r) 4)) (is (is_negative 27 (signed_of r))))
     where
-      same : (z : ℤ) → is_full z ≡ is_negative 27 z
-      same (pos n) = refl
-      same (negsuc n) = refl
-
       go : Is (eqb (length r) 4) → Is (is_negative 27 (signed_of r))
-          → (eqb (length r) 4 && is_full (signed_of r)) ≡ eqb (status_of r (negsuc 27)) 0
+          → (eqb (length r) 4 && is_negative 27 (signed_of r)) ≡ eqb (status_of r (negsuc 27)) 0
       go (is_f e) _ = rw e
-      go (is_t e) (is_f f) = rw (e, same (signed_of r) ∙ f, f)
-      go (is_t e) (is_t f) = rw (e, same (signed_of r) ∙ f, f)
+      go (is_t e) (is_f f) = rw (e, f)
+      go (is_t e) (is_t f) = rw (e, f)
 
   -- a right status does not say it
   pub right_not_full : (n : ℕ) → 0 ≡ status_reason r n → (b : Bool) → (b && says_full 4 r) ≡ false

@@ -9,25 +9,20 @@ use Rattle.memory.specs.Layout.{mem_of}
 use Rattle.filesystem.specs.Tables.{OpenFile}
 use Rattle.handle_calls.specs.laws.HandledLaws.{lacks_absent, lacks_there}
 use Rattle.tables.specs.laws.RowsInUse.{count-opens, open_front}
-use borrow.Author.Rules.{rules}
-use Rattle.handle_calls.proofs.lacks_right.Statement.{statement}
-use Rattle.handle_calls.proofs.lacks_right.Tie as tie
+use Rattle.handle_calls.proofs.lacks_right.Goals as goal
 
-returns : tie.Need-returns
-returns c =
-    let a = c.before.before.args in
+pub returns-then-o-k : goal.returns-then-o-k
+returns-then-o-k c =
+    let a = c.args in
     let os = take a.o (mem_of a.m.now).opens in
     let e : length os ≡ a.o = count-opens a.m.now a.o (omega arith) in
     sym (lacks_absent os a.right a.k (omega arith))
 
-returns-2 : tie.Need-returns-2
-returns-2 c =
-    let a = c.before.before.before.args in
+pub returns : goal.returns
+returns c =
+    let a = c.args in
     let os = take a.o (mem_of a.m.now).opens in
     let e : length os ≡ a.o = count-opens a.m.now a.o (omega arith) in
-    let q = c.open-rights.ensures
+    let q = c.open_rights.ensures
     ∙ ap (λ (x : OpenFile). x.rights) (sym (open_front a.o (mem_of a.m.now).opens a.k (omega arith))) in
     ap (λ x. not (eqb (x / a.right % 2) 1)) q ∙ sym (lacks_there os a.right a.k (omega arith))
-
-pub lacks-right-spec : {M : Type 1} → statement M
-lacks-right-spec = tie.close (tie.spec returns (λ c κs. search rules) (λ c. search rules) returns-2)
