@@ -1,4 +1,6 @@
 // create and mkdir: a new name judged, the host asked for the node, its id judged, the node added.
+#![tactic(auto)]
+
 ghost use Rattle.std.specs.Prelude.{List, ◌≡◌, ℕ, ◌<◌, ◌≤◌, length, drop};
 ghost use Rattle.filesystem.specs.Tables.{NODES, NAME_BYTES, PATH_BYTES, node_at};
 ghost use Rattle.rules.specs.Calls.{create};

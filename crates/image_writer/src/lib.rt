@@ -1,4 +1,6 @@
 // The image that is saved (SPECIFICATION 8.4): how long it is, written into a caller's buffer, and its SHA-256.
+#![tactic(auto)]
+
 ghost use Rattle.std.specs.Prelude.{◌++◌, ◌≡◌, ℕ, ◌+◌, ◌*◌, ◌≤◌, ◌<◌, length};
 ghost use Rattle.lists.specs.Equal.{equal};
 ghost use Rattle.lists.specs.Form.{put_all};

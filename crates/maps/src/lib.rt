@@ -1,5 +1,7 @@
 // Calls on maps: the host hands out zeroed memory and the guard judges the address. A reply is judged where it lies;
 // only address and size are kept.
+#![tactic(auto)]
+
 ghost use Rattle.std.specs.Prelude.{true, ◌&&◌, ◌≡◌, ◌+◌, ◌<◌, ◌≤◌, eqb, ltb, length, take, drop};
 ghost use Rattle.lists.specs.Search.{any, every};
 ghost use Rattle.filesystem.specs.MemoryMaps.{MAPS, MAP_BYTES, map_at};

@@ -1,5 +1,7 @@
 // What a write and a truncation share: a page is asked for, a page goes out, and the change ends when its last reply
 // came.
+#![tactic(auto)]
+
 ghost use Rattle.std.specs.Prelude.{List, [], ◌∷◌, ◌++◌, ◌≡◌, ℕ, ◌<◌, ◌≤◌};
 ghost use Rattle.lists.specs.Parts.{part};
 ghost use Rattle.filesystem.specs.Tables.{PAGE_BYTES};

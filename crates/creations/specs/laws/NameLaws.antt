@@ -56,6 +56,7 @@ module _ (ns : List Node) (s : List ℕ) where
 
   child_last : (p : Path) → Some p → walk ns 0 p ≡ child_at ns (parent_of ns 0 p) (last_of p)
   child_last (c ∷ cs) some = walk-last ns 0 c cs
+  child_last [] x' = elim x' [ ]
 
   pub new_goes : (d at : ℕ) → Holds ns s d at → new_own ns s ≡ name_own ns d at (drop at s)
   unfolding new_own name_own

@@ -1,0 +1,40 @@
+-- `maps::find` meets its contract. The invariant: the place is i and the place in what remains. Assumes nothing.
+use native.Mathlib.Omega.{arith}
+use mathlib.Core.Path.{◌≡◌, sym, ◌∙◌}
+use lib.ListN.{length}
+use borrow.Author.Tests.{eq-eqb, ne_eqb}
+use Rattle.filesystem.specs.MemoryMaps.{no_map, map_at}
+use Rattle.memory.specs.Layout.{mem_of}
+use Rattle.memory.specs.laws.MemLaws.{length_maps}
+use Rattle.rules.specs.MapRules.{starts_at, find_map}
+use Rattle.tables.specs.laws.SearchLaws.{place_hit, place_miss, place_end}
+use Rattle.maps.proofs.find.Goals as goal
+
+pub returns-then-map_address-address : goal.returns-then-map_address-address
+unfolding find_map map_at
+returns-then-map_address-address c =
+    let a = c.args in
+    let l = c.loop-i in
+    let f : length (mem_of a.m.now).maps ≡ _ = length_maps a.m.now in
+    sym (place_hit no_map (mem_of a.m.now).maps a.n l.i (omega arith) (starts_at a.address) l.invariant.1
+    (omega arith) (eq-eqb _ _ (sym c.map_address.ensures ∙ c.if-map_address-address.true)))
+
+pub loop-i-preserved : goal.loop-i-preserved
+unfolding map_at
+loop-i-preserved c =
+    let a = c.args in
+    let l = c.loop-i in
+    let f : length (mem_of a.m.now).maps ≡ _ = length_maps a.m.now in (
+      omega arith,
+      place_miss no_map (mem_of a.m.now).maps a.n l.i (omega arith) (starts_at a.address) l.invariant.1
+          (omega arith) (ne_eqb _ _ (λ q. c.if-map_address-address.false (c.map_address.ensures ∙ q))),
+    )
+
+pub returns : goal.returns
+unfolding find_map
+returns c =
+    let a = c.args in
+    let l = c.loop-i in
+    let f : length (mem_of a.m.now).maps ≡ _ = length_maps a.m.now in
+    sym (place_end no_map (mem_of a.m.now).maps a.n l.i (omega arith) (starts_at a.address) l.invariant.1
+    (omega arith))
