@@ -1,5 +1,7 @@
 // An image's records by their places, in any layout (SPECIFICATION 8.4): their fields, where they end, and what is
 // judged of each by itself. `w` and `maker` are the layout: the bytes of an id, and those of a record's maker, 0 or 1.
+#![tactic(auto)]
+
 ghost use Rattle.std.specs.Prelude.{◌&&◌, ◌||◌, ◌≡◌, ◌+◌, ◌*◌, ◌≤◌, eqb, leb, length};
 ghost use Rattle.lists.specs.Pick.{pick};
 ghost use Rattle.lists.specs.Search.{every};

@@ -1,4 +1,6 @@
 // open, close and seek: judged, the host asked for a descriptor or told of the close; a seek is done at once.
+#![tactic(auto)]
+
 ghost use Rattle.std.specs.Prelude.{◌≡◌, ℕ, ◌<◌, ◌≤◌};
 ghost use Rattle.filesystem.specs.Tables.{NODES, open_at};
 ghost use Rattle.rules.specs.Calls.{open_as, close, seek};

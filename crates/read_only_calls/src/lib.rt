@@ -1,4 +1,6 @@
 // The calls that a read-only guard takes, and why it refuses the others. No table is read here.
+#![tactic(auto)]
+
 ghost use Rattle.std.specs.Prelude.{true, false, ◌≡◌, ◌<◌, ◌≤◌, length, get_or};
 ghost use Rattle.call_reader.specs.Meaning.{meant, NumberFits, Ranges};
 ghost use Rattle.read_only_calls.specs.Refusals.{takes_by_path, takes_parsed, number_of_form};

@@ -1,4 +1,6 @@
 // remove and rmdir: judged, the host told, the node taken out.
+#![tactic(auto)]
+
 ghost use Rattle.std.specs.Prelude.{◌≡◌, ℕ, ◌<◌, ◌≤◌};
 ghost use Rattle.filesystem.specs.Tables.{NODES};
 ghost use Rattle.rules.specs.Calls.{remove, rmdir};

@@ -1,0 +1,45 @@
+-- `image_writer::write_records` meets its contract. The invariant says what remains to be done. Assumes nothing.
+use native.Mathlib.Omega.{arith}
+use Prim.Native.Nat.{◌≤◌, ◌<◌}
+use mathlib.Core.Path.{◌∙◌}
+use Rattle.filesystem.specs.Tables.{NODES}
+use Rattle.filesystem.specs.Layouts.{layout}
+use Rattle.image_writer.specs.laws.Written.{records_in, records_end_lem, record_next, records_done}
+use Rattle.image_writer.proofs.write_records.Goals as goal
+
+pub write_record-next-requires : goal.write_record-next-requires
+write_record-next-requires c =
+    let a = c.args in
+    let l = c.loop-i in
+    let y = layout a.w a.maker in
+    let p = records_in a.m.now a.n (omega arith) y l.i (omega arith) in
+    (omega arith, omega arith, (omega arith, omega arith), omega (arith, p, l.invariant.3, l.invariant.1))
+
+pub loop-i-preserved : goal.loop-i-preserved
+loop-i-preserved c =
+    let a = c.args in
+    let l = c.loop-i in
+    let r = c.write_record-next in
+    let y = layout a.w a.maker in
+    let h : a.n ≤ NODES = omega arith in
+    let i : l.i < a.n = omega arith in
+    let p = records_in a.m.now a.n h y l.i i in (
+      omega arith,
+      omega arith,
+      record_next a.m.now a.n h y l.i i l.out l.next (omega (arith, p, l.invariant.3, l.invariant.1))
+          r.ensures.0 r.ensures.1
+          ∙ l.invariant.2,
+      omega (arith, p, l.invariant.3, r.ensures.1),
+    )
+
+pub returns : goal.returns
+returns c =
+    let a = c.args in
+    let l = c.loop-i in
+    let y = layout a.w a.maker in
+    let h : a.n ≤ NODES = omega arith in
+    let p = records_end_lem a.m.now a.n h y l.i (omega arith) in record {
+      out_after = records_done a.m.now a.n h y l.i (omega arith) l.out l.next
+          ∙ l.invariant.2;
+      value = omega (arith, p, l.invariant.3);
+    }
