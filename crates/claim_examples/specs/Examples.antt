@@ -12,7 +12,7 @@ use Rattle.rules.specs.Rules.{judge, saving}
 use Rattle.machine.specs.Machine.{State, files, image_of, apply, step, fresh, outcomes, final, guard}
 use Rattle.machine.specs.Tree.{tree, digests_of, guard_of}
 use Rattle.machine.specs.Claim.{Fit, NoStop, HonestAt, Honest, Agrees, SecondHalf}
-use Rattle.machine.specs.HonestRun.{second_half}
+use Rattle.machine.proofs.HonestRun.{second_half}
 use Rattle.claim_examples.specs.Computed.{moved, moved_answers, moved_image}
 use Rattle.claim_examples.specs.Computed.{cheap, constant, written, honest, honest_answers, image, guard_then, tree_then, forged, answers_of, last_answer, computed}
 

@@ -8,12 +8,12 @@ use Rattle.rules.specs.Rules.{judge, saving}
 use Rattle.machine.specs.Machine.{Store, State, files, image_of, apply, step, fresh, outcomes, final, guard}
 use Rattle.machine.specs.Tree.{tree}
 use Rattle.machine.specs.Claim.{is_done, OfLatest, Honest, HonestAt}
-use Rattle.machine.specs.StateProperties.{always_holds}
-use Rattle.machine.specs.LoadLaws.{load_restores}
+use Rattle.machine.proofs.StateProperties.{always_holds}
+use Rattle.machine.proofs.LoadLaws.{load_restores}
 use Rattle.machine.specs.Seen.{Seen, shown, HonestIn, HonestSeen}
-use Rattle.machine.specs.SeenLaws.{shown-answers, shown-events, honest-shown}
+use Rattle.machine.proofs.SeenLaws.{shown-answers, shown-events, honest-shown}
 use Rattle.machine.specs.Restart.{Begins, BeginsWith, Restarts, BytesSeen, Quiet, OfFresh, restarted, tree_after, AgreeLives, HonestLives, SecondHalfOfLives}
-use Rattle.machine.specs.RestartRun.{second_half_of_lives}
+use Rattle.machine.proofs.RestartRun.{second_half_of_lives}
 use Rattle.claim_examples.specs.Computed.{cheap, written, image, guard_then, tree_then, computed}
 use Rattle.claim_examples.specs.Examples.{cheap_fit, are_bytes, written-bytes, saved-image, honest-then}
 

@@ -20,7 +20,7 @@ use Rattle.machine.specs.Restart.{BytesSeen, Quiet, Restarts, HonestLives}
 use Rattle.read_only.specs.ReadOnly.{takes_call, takes, length_checks, form_checks, read_only_checks, read_only_step}
 use Rattle.read_only.specs.ReadOnly.{read_only_outcomes}
 use Rattle.read_only.specs.Lives.{Life, taken_seen, all_kept, OfFresh, AgreeLives, SecondHalfOfLives}
-use Rattle.read_only.specs.laws.LifeLaws.{second_half_with_readers}
+use Rattle.read_only.proofs.laws.LifeLaws.{second_half_with_readers}
 use Rattle.claim_examples.specs.Computed.{cheap, image, c}
 use Rattle.claim_examples.specs.Examples.{cheap_fit}
 use Rattle.claim_examples.specs.Lives.{start, seed, digest, before, afterwards, life, of_fresh, in_bytes}

@@ -14,7 +14,6 @@ pub mod Climb
 pub mod SoundLaws
 pub mod LongestImage
 pub mod WalkLaws
-pub mod LayoutsApart
 pub mod RenamedWays
 pub mod Renaming
 pub mod RenamedWalks

@@ -16,14 +16,14 @@ use Rattle.rules.specs.Pages.{writing}
 use Rattle.rules.specs.Requests.{Pending}
 use Rattle.rules.specs.Skeleton.{Event, reply, Answer, done, ask, refused, stopped, plain}
 use Rattle.rules.specs.Rules.{Move, send, finish, add, delete, read_page, call_checks, tells_full, event_checks, gives_up}
-use Rattle.rules.specs.Outcomes.{create-full as create-is-full, mkdir-full as mkdir-is-full, open_full as open-is-full}
+use Rattle.rules.proofs.Outcomes.{create-full as create-is-full, mkdir-full as mkdir-is-full, open_full as open-is-full}
 use Rattle.configuration.specs.Delivered.{delivered}
 use Rattle.machine.specs.Machine.{Result, gave_up, apply, finish_change, guard as digest_store}
-use Rattle.machine.specs.StepOutcomes.{GivesUp, step_refused_exactly, refused_unchanged, given_up, after_stop}
-use Rattle.machine.specs.EventLaws.{is_done_answer, Unchanged, stop_checks, only_done_changes, stopped_exactly, finished}
-use Rattle.machine.specs.EventLaws.{added, deleted, requested}
-use Rattle.machine.specs.PartialRuns.{MeetsFull, ComesToPart, guard_partial_write}
-use Rattle.machine.specs.PosixLaws.{read_moves, write_moves}
+use Rattle.machine.proofs.StepOutcomes.{GivesUp, step_refused_exactly, refused_unchanged, given_up, after_stop}
+use Rattle.machine.proofs.EventLaws.{is_done_answer, Unchanged, stop_checks, only_done_changes, stopped_exactly, finished}
+use Rattle.machine.proofs.EventLaws.{added, deleted, requested}
+use Rattle.machine.proofs.PartialRuns.{MeetsFull, ComesToPart, guard_partial_write}
+use Rattle.machine.proofs.PosixLaws.{read_moves, write_moves}
 use Rattle.guard.specs.Promise.{GuardState, step_of}
 
 abbrev answer_of : GuardState → Event → Answer

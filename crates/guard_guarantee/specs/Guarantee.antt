@@ -4,14 +4,14 @@ use Rattle.std.proofs.Common.{arith}
 use Rattle.configuration.specs.Delivered.{delivered}
 use Rattle.digest.specs.laws.Laws.{length-sha256, bytes-sha256}
 use Rattle.machine.specs.Claim.{Fit, FirstHalf, SecondHalf}
-use Rattle.machine.specs.Run.{first_half}
-use Rattle.machine.specs.HonestRun.{second_half}
+use Rattle.machine.proofs.Run.{first_half}
+use Rattle.machine.proofs.HonestRun.{second_half}
 use Rattle.machine.specs.Restart.{FirstHalfOfLives, SecondHalfOfLives}
-use Rattle.machine.specs.RestartRun.{first-half_of-lives, second_half_of_lives}
+use Rattle.machine.proofs.RestartRun.{first-half_of-lives, second_half_of_lives}
 use Rattle.read_only.specs.Claim.{ReadOnlyClaim}
 use Rattle.read_only.specs.Lives.{FirstHalfOfLives as FirstWithReaders, SecondHalfOfLives as SecondWithReaders}
-use Rattle.read_only.specs.laws.ClaimLaws.{read_only_claim}
-use Rattle.read_only.specs.laws.LifeLaws.{first_half_with_readers, second_half_with_readers}
+use Rattle.read_only.proofs.laws.ClaimLaws.{read_only_claim}
+use Rattle.read_only.proofs.laws.LifeLaws.{first_half_with_readers, second_half_with_readers}
 
 pub delivered_fit : Fit delivered
 unfolding delivered

@@ -1,4 +1,3 @@
 pub mod ReadOnly
 pub mod Claim
 pub mod Lives
-pub mod laws

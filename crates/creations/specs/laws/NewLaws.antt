@@ -18,7 +18,7 @@ use Rattle.rules.specs.Calls.{create, call_bytes}
 use Rattle.rules.specs.Requests.{asked, creating}
 use Rattle.rules.specs.Skeleton.{Config, at_front}
 use Rattle.rules.specs.Rules.{Move, refuse, send, call_checks, call_action, new_checks, reach_parent}
-use Rattle.rules.specs.Lengths.{path_short}
+use Rattle.rules.proofs.Lengths.{path_short}
 use Rattle.machine.specs.Machine.{State, guard as digest_store}
 use Rattle.paths.specs.laws.FormAnswers.{read_components}
 use Rattle.paths.specs.laws.WalkAnswers.{last-start}

@@ -9,7 +9,8 @@ use Rattle.memory.specs.Layout.{memory_size}
 use Rattle.digest.specs.laws.Laws.{length-sha256, bytes-sha256}
 use Rattle.rules.specs.Skeleton.{Event, call, reply, save, load, EventBytes, Buffers}
 use Rattle.configuration.specs.Delivered.{delivered}
-use Rattle.machine.specs.Consistent.{Consistent, step_consistent, fresh_consistent}
+use Rattle.machine.specs.Consistent.{Consistent}
+use Rattle.machine.proofs.ConsistentLaws.{step_consistent, fresh_consistent}
 use Rattle.outcomes.specs.declared.Outcome.{Outcome}
 use Rattle.guard.specs.Promise.{Kept, held, stepped, Ready, Promise, FreshPromise, SavePromise, LoadPromise}
 

@@ -15,7 +15,7 @@ use Rattle.rules.specs.Rules.{call_or, is_none, is_idle}
 use Rattle.configuration.specs.Delivered.{delivered}
 use Rattle.machine.specs.Machine.{guard as digest_store}
 use Rattle.read_only.specs.ReadOnly.{takes_call, takes, length_checks, form_checks, read_only_checks, refusal, read_only_step}
-use Rattle.read_only.specs.laws.StepLaws.{as_guard}
+use Rattle.read_only.proofs.laws.StepLaws.{as_guard}
 use Rattle.read_only_calls.specs.Refusals.{form_number, Refuses}
 use Rattle.outcomes.specs.declared.Outcome.{Outcome}
 use Rattle.outcomes.specs.declared.Outcome.TheVariants.{Refused}

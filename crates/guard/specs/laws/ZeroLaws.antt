@@ -9,7 +9,7 @@ use Rattle.lists.specs.Pick.{pick_true}
 use Rattle.rules.specs.Skeleton.{Event, call, reply, save, load, refused, plain}
 use Rattle.configuration.specs.Delivered.{delivered}
 use Rattle.machine.specs.Machine.{guard as digest_store}
-use Rattle.machine.specs.StepOutcomes.{after_stop}
+use Rattle.machine.proofs.StepOutcomes.{after_stop}
 use Rattle.guard_state.specs.laws.Zeros.{Zeros, zeros_stopped}
 use Rattle.guard.specs.Promise.{GuardState, held, step_of, first_of, Ready}
 

@@ -20,15 +20,15 @@ use Rattle.machine.specs.Machine.{outcomes, final, fresh, guard as digest_store}
 use Rattle.machine.specs.Consistent.{Consistent}
 use Rattle.machine.specs.History.{Collision}
 use Rattle.machine.specs.Seen.{Seen, events, answers, pages_seen, images_seen}
-use Rattle.machine.specs.SeenLaws.{NoSave, no_save_bare, save_ind}
+use Rattle.machine.proofs.SeenLaws.{NoSave, no_save_bare, save_ind}
 use Rattle.machine.specs.Restart.{Restarts, pages_of_lives, images_of_lives, LoadsOfLives, HonestLives, BytesSeen, Quiet}
 use Rattle.machine.specs.Restart.{restarted}
 use Rattle.read_only.specs.ReadOnly.{takes, read_only_checks, refusal, read_only_step, read_only_outcomes, read_only_final}
 use Rattle.read_only.specs.Lives.{Life as LifeSeen, step_as, outcomes_of, final_of, taken_seen, all_kept, OfFresh, tree_left}
 use Rattle.read_only.specs.Lives.{AgreeLives as SameLives, FirstHalfOfLives as FirstOfMachine}
 use Rattle.read_only.specs.Lives.{SecondHalfOfLives as SecondOfMachine}
-use Rattle.read_only.specs.laws.StepLaws.{as_guard, not_taken}
-use Rattle.read_only.specs.laws.LifeLaws.{first-outcome, first-left, step_either, taken-bytes, saves_as_loaded}
+use Rattle.read_only.proofs.laws.StepLaws.{as_guard, not_taken}
+use Rattle.read_only.proofs.laws.LifeLaws.{first-outcome, first-left, step_either, taken-bytes, saves_as_loaded}
 use Rattle.guard_guarantee.specs.Guarantee.{delivered_fit, agreement_with_readers, no_stop_with_readers}
 use Rattle.outcomes.specs.declared.Outcome.{Outcome}
 use Rattle.outcomes.specs.declared.Outcome.TheVariants.{Done, Ask, Refused, Stopped}

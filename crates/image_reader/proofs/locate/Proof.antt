@@ -3,7 +3,8 @@ use native.Mathlib.Omega.{arith}
 use mathlib.Core.Path.{◌≡◌, ◌∙◌, sym}
 use Prim.Native.Nat.{ℕ, ◌+◌, ◌*◌, ◌-◌, ◌≤◌, ◌<◌}
 use lib.ListN.{length, get_or, length-set}
-use Rattle.filesystem.specs.Layouts.{layout, maker_length}
+use Rattle.filesystem.specs.Layouts.{layout}
+use Rattle.filesystem.proofs.LayoutLaws.{maker_length}
 use Rattle.filesystem.specs.Tables.{NODES}
 use Rattle.image_records.specs.Records.{end_from}
 use Rattle.image_records.specs.laws.RecordLaws.{end-last, record_in_place}

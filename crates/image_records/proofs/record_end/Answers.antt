@@ -3,7 +3,8 @@ use native.Mathlib.Omega.{arith}
 use mathlib.Core.Path.{◌≡◌, ap}
 use Prim.Native.Nat.{ℕ, ◌+◌, ◌-◌, ◌*◌}
 use lib.ListN.{get_or}
-use Rattle.filesystem.specs.Layouts.{layout, maker_length}
+use Rattle.filesystem.specs.Layouts.{layout}
+use Rattle.filesystem.proofs.LayoutLaws.{maker_length}
 use Rattle.image_records.specs.Records.{size_at, record_end}
 use Rattle.image_records.proofs.record_end.Goals as goal
 

@@ -4,7 +4,8 @@ use mathlib.Core.Path.{◌≡◌, ap₂, ◌∙◌}
 use Prim.Native.Nat.{ℕ, ◌+◌, ◌-◌, ◌*◌}
 use Rattle.lists.specs.Parts.{part}
 use Rattle.filesystem.specs.Image.{front_length}
-use Rattle.filesystem.specs.Layouts.{layout, maker_length}
+use Rattle.filesystem.specs.Layouts.{layout}
+use Rattle.filesystem.proofs.LayoutLaws.{maker_length}
 use Rattle.image_records.specs.Records.{record_end}
 use Rattle.image_records.specs.laws.RecordLaws.{record_least}
 use Rattle.image_records.specs.laws.TestLaws.{name-part}

@@ -4,7 +4,8 @@ use mathlib.Core.Path.{◌≡◌, ap, ◌∙◌}
 use Prim.Native.Nat.{ℕ, ◌+◌, ◌*◌}
 use Rattle.lists.specs.LittleEndian.{decode}
 use Rattle.lists.specs.Parts.{part}
-use Rattle.filesystem.specs.Layouts.{layout, maker_length}
+use Rattle.filesystem.specs.Layouts.{layout}
+use Rattle.filesystem.proofs.LayoutLaws.{maker_length}
 use Rattle.image_records.specs.Records.{size_at, record_at}
 use Rattle.image_records.proofs.record_size.Goals as goal
 

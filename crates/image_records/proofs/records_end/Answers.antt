@@ -1,7 +1,8 @@
 -- `image_records::records_end` meets its contract. The invariant says what remains to be done. Assumes nothing.
 use native.Mathlib.Omega.{arith}
 use mathlib.Core.Path.{◌≡◌, ap, ap₂, sym, ◌∙◌}
-use Rattle.filesystem.specs.Layouts.{layout, maker_length}
+use Rattle.filesystem.specs.Layouts.{layout}
+use Rattle.filesystem.proofs.LayoutLaws.{maker_length}
 use Rattle.image_records.specs.Records.{end_from}
 use Prim.Native.Nat.{◌+◌, ◌-◌}
 use Rattle.image_records.specs.laws.RecordLaws.{no_end, an_end, cut_front, cut_record, end-next, end-last}

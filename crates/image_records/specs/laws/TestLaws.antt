@@ -14,7 +14,8 @@ use Rattle.lists.specs.Parts.{part}
 use Rattle.filesystem.specs.Paths.{slash, dot, component_form}
 use Rattle.paths.specs.PathForms.{is_name}
 use Rattle.filesystem.specs.Image.{Layout, maker_bytes, front_length}
-use Rattle.filesystem.specs.Layouts.{layout, no_maker, one_maker}
+use Rattle.filesystem.specs.Layouts.{layout, no_maker}
+use Rattle.filesystem.proofs.LayoutLaws.{one_maker}
 use Rattle.image_records.specs.Records.{maker_at, record_at, record_end, is_marked, marked_from, plain_byte}
 
 or-false : (b : Bool) → (b || false) ≡ b

@@ -3,7 +3,7 @@ use native.Mathlib.Omega.{arith}
 use mathlib.Core.Path.{ap}
 use lib.ListN.{length}
 use Rattle.filesystem.specs.Layouts.{layout}
-use Rattle.filesystem.specs.Layouts.{maker_length}
+use Rattle.filesystem.proofs.LayoutLaws.{maker_length}
 use Rattle.image_writer.specs.laws.Written.{records_in, records_end_lem}
 use Rattle.image_writer.proofs.records_length.Goals as goal
 

@@ -5,7 +5,7 @@ use lib.ListN.{length}
 use Rattle.filesystem.specs.Tables.{node_at}
 use Rattle.memory.specs.Layout.{mem_of}
 use Rattle.filesystem.specs.Layouts.{layout}
-use Rattle.filesystem.specs.Layouts.{maker_length}
+use Rattle.filesystem.proofs.LayoutLaws.{maker_length}
 use Rattle.image_writer.specs.laws.Written.{record_made}
 use Rattle.image_writer.proofs.write_record.Goals as goal
 

@@ -14,7 +14,8 @@ use Rattle.filesystem.specs.Image.{Layout, node_form, image_form, maker_bytes, f
 use Rattle.filesystem.specs.ImageLaws.{length_record, length-records}
 use Rattle.memory.specs.Layout.{mem_of}
 use Rattle.memory.specs.laws.MemLaws.{length-nodes, length_digests}
-use Rattle.filesystem.specs.Layouts.{layout, maker_encoded}
+use Rattle.filesystem.specs.Layouts.{layout}
+use Rattle.filesystem.proofs.LayoutLaws.{maker_encoded}
 use Rattle.image_writer.specs.Images.{nodes_in, image_in, record_length, middle}
 
 -- A part written behind another.

@@ -1,7 +1,7 @@
 -- `maps::begin_map` meets its contract. Assumes nothing.
 use native.Mathlib.Omega.{arith}
 use mathlib.Core.Path.{refl}
-use Rattle.rules.specs.MapLaws.{size_fits}
+use Rattle.rules.proofs.MapLaws.{size_fits}
 use Rattle.guard_state.specs.State.{state_of}
 use Rattle.maps.specs.laws.AnsweredLaws.{maps_count, map_refused, map_sends}
 use Rattle.maps.proofs.begin_map.Goals as goal

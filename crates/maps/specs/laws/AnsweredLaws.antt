@@ -14,7 +14,7 @@ use Rattle.filesystem.specs.MemoryMaps.{Map, MAPS}
 use Rattle.memory.specs.Layout.{Mem, mem_of, with_maps}
 use Rattle.memory.specs.laws.MemLaws.{length_maps}
 use Rattle.rules.specs.MapRules.{map_in, find_map, begins, ends, maps_after, map_number, map_faults}
-use Rattle.rules.specs.MapMoves.{MapFits}
+use Rattle.rules.specs.ValidMaps.{MapFits}
 use Rattle.rules.specs.Calls.{map_memory, unmap, call_bytes}
 use Rattle.rules.specs.Requests.{Pending, asked, mapping, unmapping, store_length}
 use Rattle.rules.specs.Skeleton.{Config, at_front}

@@ -9,7 +9,7 @@ use Rattle.filesystem.specs.Tables.{PAGE_BYTES, node_at, open_at}
 use Rattle.tables.specs.laws.ChangeLaws.{over_all}
 use Rattle.rules.specs.Pages.{Change, fill, size_sent}
 use Rattle.rules.specs.Requests.{storing, fetch_request, store_request, store_length}
-use Rattle.rules.specs.Lengths.{store_length_lem, page_long}
+use Rattle.rules.proofs.Lengths.{store_length_lem, page_long}
 use Rattle.rules.specs.Skeleton.{Config, at_front}
 use Rattle.requests.specs.laws.Heads.{behind_store}
 use Rattle.machine.specs.Machine.{State, asking, ask_store, guard as digest_store}

@@ -11,7 +11,7 @@ use Rattle.lists.specs.RowLaws.{length-rows}
 use Rattle.memory.specs.Layout.{mem_of, digest_width, new_digests}
 use Rattle.tables.specs.View.{view_of, staged_digests}
 use Rattle.rules.specs.Pages.{Change, first, last, size_after, cursor_after, number_of}
-use Rattle.rules.specs.PageLaws.{first-last}
+use Rattle.rules.proofs.PageLaws.{first-last}
 use Rattle.rules.specs.Requests.{Pending, fetching, storing, cutting}
 use Rattle.rules.specs.Skeleton.{Config}
 use Rattle.rules.specs.Valid.{PendingFits, ChangeFits, PageFits, FetchFits}

@@ -16,7 +16,7 @@ use Rattle.rules.specs.Calls.{Call}
 use Rattle.rules.specs.Requests.{asked}
 use Rattle.rules.specs.Skeleton.{Config, at_front}
 use Rattle.rules.specs.Rules.{Move, refuse, send, call_checks, call_action, reach}
-use Rattle.rules.specs.Lengths.{path_short}
+use Rattle.rules.proofs.Lengths.{path_short}
 use Rattle.machine.specs.Machine.{State, guard as digest_store}
 use Rattle.paths.specs.declared.Walked.{Walked}
 use Rattle.paths.specs.declared.Walked.TheVariants.{Node as node, Refused as refused_node}

@@ -26,7 +26,8 @@ use Rattle.rules.specs.Requests.{Pending, reading}
 use Rattle.rules.specs.Skeleton.{Config}
 use Rattle.rules.specs.Rules.{halt, read_page, reply_checks, map_reasons, reasons, reply_action, tells_full, full_action}
 use Rattle.rules.specs.Valid.{PendingFits, ReadingFits}
-use Rattle.rules.specs.Lengths.{Gathers, gather_more}
+use Rattle.rules.specs.Modest.{Gathers}
+use Rattle.rules.proofs.Lengths.{gather_more}
 use Rattle.machine.specs.Machine.{State, Result, Gathered, read_on, apply, guard as digest_store}
 use Rattle.machine.specs.Consistent.{Consistent}
 use Rattle.guard_state.specs.Calls.{READING}

@@ -21,7 +21,7 @@ use Rattle.filesystem.specs.Image.{length_in, sound_nodes}
 use Rattle.filesystem.specs.SoundLaws.{root_parent_length}
 use Rattle.rules.specs.Calls.{rename}
 use Rattle.rules.specs.Rules.{call_checks, is_none}
-use Rattle.rules.specs.Lengths.{path_short}
+use Rattle.rules.proofs.Lengths.{path_short}
 use Rattle.paths.specs.Parts.{components_of}
 use Rattle.paths.specs.PathForms.{forms_of}
 use Rattle.paths.specs.Walks.{walked, placed}

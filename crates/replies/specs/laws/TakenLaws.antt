@@ -20,8 +20,8 @@ use Rattle.rules.specs.Rules.{cut_done, keep_pages, give_up, saving, loading, le
 use Rattle.rules.specs.Rules.{map_reasons, reasons, tells_full, full_action}
 use Rattle.filesystem.specs.MemoryMaps.{Map}
 use Rattle.rules.specs.Valid.{ValidNodes}
-use Rattle.rules.specs.ReplyLaws.{listing_right}
-use Rattle.rules.specs.Lengths.{listing_length}
+use Rattle.rules.proofs.ReplyLaws.{listing_right}
+use Rattle.rules.proofs.Lengths.{listing_length}
 use Rattle.machine.specs.Machine.{State, Result, gave_up, apply, guard as digest_store}
 use Rattle.guard_state.specs.State.{state_of}
 use Rattle.guard_state.specs.Waits.{ends}

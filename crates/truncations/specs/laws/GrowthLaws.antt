@@ -20,7 +20,7 @@ use Rattle.rules.specs.Rules.{cut_done}
 use Rattle.rules.specs.Valid.{PendingFits, ChangeFits}
 use Rattle.machine.specs.Machine.{Result, Gathered, ending, apply, zero_digest, guard as digest_store}
 use Rattle.machine.specs.Consistent.{Consistent}
-use Rattle.machine.specs.GrowthLaws.{growth_leaves}
+use Rattle.machine.proofs.GrowthLaws.{growth_leaves}
 use Rattle.guard_state.specs.Calls.{GROWING}
 use Rattle.guard_state.specs.declared.Guard.{Guard}
 use Rattle.guard_state.specs.State.{numbers_of, state_in, state_of, gathered_none}

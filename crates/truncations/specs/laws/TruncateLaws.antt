@@ -16,7 +16,7 @@ use Rattle.rules.specs.Skeleton.{Config, at_front}
 use Rattle.rules.specs.Rules.{Move, begin, file, call_checks, call_action}
 use Rattle.machine.specs.Machine.{State, Result, asking, pages_from, apply, descriptor_at, guard as digest_store}
 use Rattle.machine.specs.Consistent.{Consistent}
-use Rattle.machine.specs.GrowthLaws.{growth_asks}
+use Rattle.machine.proofs.GrowthLaws.{growth_asks}
 use Rattle.handle_calls.specs.Passed.{PassedAt}
 use Rattle.guard_state.specs.Calls.{SHRINK_FETCHING}
 use Rattle.guard_state.specs.declared.Guard.{Guard}

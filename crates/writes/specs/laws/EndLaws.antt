@@ -12,7 +12,7 @@ use Rattle.filesystem.specs.Tables.{PAGE_BYTES, Node, node_at, pages_for}
 use Rattle.memory.specs.Layout.{mem_of, memory_size, new_digests}
 use Rattle.memory.specs.laws.MemLaws.{length-staged}
 use Rattle.rules.specs.Pages.{page_at, writing, first, last, size_after, cursor_after, number_of, before}
-use Rattle.rules.specs.FullLaws.{before_change}
+use Rattle.rules.proofs.FullLaws.{before_change}
 use Rattle.rules.specs.Requests.{storing}
 use Rattle.rules.specs.Rules.{full_action}
 use Rattle.rules.specs.Skeleton.{Config}

@@ -13,13 +13,13 @@ use Rattle.filesystem.specs.Sound.{to_sound}
 use Rattle.memory.specs.Layout.{mem_of}
 use Rattle.rules.specs.Calls.{write}
 use Rattle.rules.specs.Pages.{page_at, writing, first, last, size_after}
-use Rattle.rules.specs.PageLaws.{first-last}
+use Rattle.rules.proofs.PageLaws.{first-last}
 use Rattle.rules.specs.Requests.{fetching}
 use Rattle.rules.specs.Skeleton.{Config}
 use Rattle.rules.specs.Rules.{Move, begin, file_place, opened as open_file, file, write_end, no_room, call_checks}
 use Rattle.rules.specs.Rules.{call_action}
 use Rattle.rules.specs.Valid.{ChangeFits}
-use Rattle.rules.specs.FitLaws.{grow_fits}
+use Rattle.rules.proofs.FitLaws.{grow_fits}
 use Rattle.machine.specs.Machine.{State, Result, pages_from, apply, guard as digest_store}
 use Rattle.machine.specs.Consistent.{Consistent}
 use Rattle.handle_calls.specs.Passed.{PassedAt}

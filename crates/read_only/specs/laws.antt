@@ -1,5 +1,0 @@
-pub mod StepLaws
-pub mod RunLaws
-pub mod ClaimLaws
-pub mod OutcomeLaws
-pub mod LifeLaws

@@ -1,0 +1,12 @@
+pub mod CallLaws
+pub mod FitLaws
+pub mod FullLaws
+pub mod Lengths
+pub mod MapLaws
+pub mod MapMoves
+pub mod Outcomes
+pub mod PageLaws
+pub mod Positions
+pub mod RenameLaws
+pub mod ReplyLaws
+pub mod TableLaws
