@@ -4,7 +4,7 @@ use Rattle.std.proofs.Common.{◌≡◌, ℕ, zero, suc, ◌+◌, ◌-◌, ◌<�
 use lib.ListN.{get_or-append}
 use lib.Seq.{get_or_at}
 use Rattle.compression.proofs.Congruence.{window-equal}
-use Rattle.compression.specs.Compression.{K, sum, word, block, next_word, schedule, rounds, compress}
+use Rattle.compression.specs.Compression.{K, sum, block, next_word, schedule, rounds, compress}
 use Rattle.compression.specs.Windows.{window, loaded, mixed, slid, slid_four, sixteen, later, Rolling}
 use Rattle.compression.specs.declared.State.{State}
 use Rattle.compression.specs.declared.Window.{Window}

@@ -14,7 +14,7 @@ use Rattle.lists.specs.Pick.{pick}
 use Rattle.lists.specs.Equal.{Is, is_t, is_f, is, equal, equal_true, equal_yes, and_fst, and_snd, and_both}
 use Rattle.lists.specs.All.{both}
 use Rattle.lists.specs.Checks.{Passed}
-use Rattle.lists.specs.Search.{every, any, unique, place, place-passes, without}
+use Rattle.lists.specs.Search.{every, any, unique, place-passes, without}
 use Rattle.lists.specs.Places.{none_place, select_none, none_select, skip, skip-before, skip_mono, skip_below, unskip, length_without, get_or-without}
 use Rattle.filesystem.specs.Tables.{NODES, PAGES, FILE_BYTES, NAME_BYTES, PATH_BYTES, Node, no_node, root, new_node, with_mode, with_size, is_file, is_directory, has_id, is_child, node_at, find_id, find_child, has_parent, children, pages_for, page_total, set_mode, set_size}
 use Rattle.filesystem.specs.Paths.{Path, joined, component_form, child_at, walk, walk_checks, parent_checks, parent_of, last_of}

@@ -1,5 +1,6 @@
 // Numbers from bytes and into bytes, the least significant byte first; the smaller and the larger of two.
 #![tactic(auto)]
+
 ghost use Rattle.std.specs.Prelude.{◌≡◌, ◌+◌, ◌-◌, ◌<◌, ◌≤◌, min, max, length};
 ghost use Rattle.lists.specs.LittleEndian.{encode, decode};
 ghost use Rattle.lists.specs.Parts.{part};

@@ -10,7 +10,7 @@ use Rattle.std.proofs.Math.Option.{Option, some, none}
 use Rattle.std.proofs.Math.ListN.{length, length-append, length-map}
 use borrow.Author.Tests.{eqb-true, eqb-false, eq-eqb, ne_eqb, ltb-true, lt-ltb, le-leb, not-false}
 use Rattle.lists.specs.Pick.{pick_ind, pick_true}
-use Rattle.lists.specs.Equal.{is, equal_true, equal_refl, equal_yes, and_fst, and_snd, and_both, or_fst, or_snd, or_both}
+use Rattle.lists.specs.Equal.{equal_true, equal_refl, equal_yes, and_fst, and_snd, and_both, or_fst, or_snd, or_both}
 use Rattle.lists.specs.All.{All, both, none as all_none, Bytes, all_get}
 use Rattle.lists.specs.Search.{select, unique}
 use Rattle.lists.specs.Places.{place_none, none_place, at_all, same_unique}

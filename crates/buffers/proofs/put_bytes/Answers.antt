@@ -1,11 +1,8 @@
 -- `buffers::put_bytes` meets its contract. Assumes nothing.
-use native.Mathlib.Omega.{arith}
-use mathlib.Core.Path.{◌≡◌}
 use native.Mathlib.Nat.{add-sub_cancel_left}
-use lib.ListN.{length, take, drop, length-drop}
-use lib.Seq.{length-take-le, drop-drop}
+use lib.ListN.{length}
+use lib.Seq.{drop-drop}
 use Rattle.lists.specs.Parts.{overwrite}
-use Rattle.lists.specs.PartLaws.{copied}
 use Rattle.buffers.proofs.put_bytes.Goals as goal
 
 pub returns : goal.returns
