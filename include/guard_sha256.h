@@ -3,7 +3,7 @@
  * Writes the 32 bytes of the digest of the `length` bytes at `message` to `out`. Any length is allowed; with length 0 the
  * message pointer is not read and may be null. `out` may not overlap the message. Nothing is kept between calls.
  *
- * Link with the archive that `rt staticlib digest` writes: target/staticlib/libdigest.a. */
+ * Link with the archive that `./run archive digest` makes: target/staticlib/libdigest.a. */
 #ifndef GUARD_SHA256_H
 #define GUARD_SHA256_H
 

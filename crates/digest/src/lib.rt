@@ -64,9 +64,8 @@ pub fn sha256(message: &[u8]) -> [u8; 32]
     finish(initial(), message, message.len())
 }
 
-// The digest of a message, for programs in other languages: include/guard_sha256.h.
-#[unsafe(no_mangle)]
-pub extern "C" fn guard_sha256(message: &[u8], out: &mut [u8; 32])
+// The digest of a message, into an array that is there; digest_c exports it for programs in other languages.
+pub fn guard_sha256(message: &[u8], out: &mut [u8; 32])
     ensures { out.new ≡ sha256 message.now }
 {
     *out = sha256(message);

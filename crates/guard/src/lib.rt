@@ -236,7 +236,7 @@ pub fn on_fresh(memory: &mut [u8]) -> outcomes::Outcome
     }
 }
 
-// ---- for C
+// ---- as C sees them; guard_c exports these
 
 // What is neither done nor a request has no bytes.
 fn ended(o: outcomes::Outcome) -> GuardOutcome
@@ -284,16 +284,14 @@ fn shown(o: outcomes::Outcome) -> GuardOutcome
     }
 }
 
-#[unsafe(no_mangle)]
-pub extern "C" fn guard_entry_fresh(memory: &mut [u8]) -> GuardOutcome
+pub fn guard_entry_fresh(memory: &mut [u8]) -> GuardOutcome
     ensures { Shown (MadeFresh memory) result }
 {
     let o = on_fresh(memory);
     shown(o)
 }
 
-#[unsafe(no_mangle)]
-pub extern "C" fn guard_entry_call(
+pub fn guard_entry_call(
     memory: &mut [u8],
     bytes: &[u8],
     answer: &mut [u8],
@@ -305,8 +303,7 @@ pub extern "C" fn guard_entry_call(
     shown(o)
 }
 
-#[unsafe(no_mangle)]
-pub extern "C" fn guard_entry_reply(
+pub fn guard_entry_reply(
     memory: &mut [u8],
     bytes: &[u8],
     answer: &mut [u8],
@@ -318,8 +315,7 @@ pub extern "C" fn guard_entry_reply(
     shown(o)
 }
 
-#[unsafe(no_mangle)]
-pub extern "C" fn guard_entry_save(
+pub fn guard_entry_save(
     memory: &mut [u8],
     image: &mut [u8],
     digest: &mut [u8; Guard::DIGEST_BYTES],
@@ -330,8 +326,7 @@ pub extern "C" fn guard_entry_save(
     shown(o)
 }
 
-#[unsafe(no_mangle)]
-pub extern "C" fn guard_entry_load(memory: &mut [u8], image: &[u8], digest: &[u8]) -> GuardOutcome
+pub fn guard_entry_load(memory: &mut [u8], image: &[u8], digest: &[u8]) -> GuardOutcome
     ensures { Shown (Loaded memory image.now digest.now) result }
 {
     let o = on_load(memory, image, digest);

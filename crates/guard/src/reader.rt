@@ -35,8 +35,7 @@ pub fn on_call(
 }
 
 // By the guard's entry and not by `on_call`, so that the guard's code stands once in the archive.
-#[unsafe(no_mangle)]
-pub extern "C" fn guard_entry_reader_call(
+pub fn guard_entry_reader_call(
     memory: &mut [u8],
     bytes: &[u8],
     answer: &mut [u8],
