@@ -57,7 +57,7 @@ returns-then-n-k c v k o q =
     let (i, j, z, t, g) = l.invariant in
     let (p, f) = there-end ID_BYTES s l.at _ c.entry_end-end.ensures
     c.if-end-eq0.false in
-    let h = c.entry_is_place.ensures v in
+    let h = c.entry_place-k.ensures v in
     sym (listing_stops (tables_in a.n o (mem_of a.m.now)) s k a.id q (listing_missing ns a.id s l.seen
     l.at g (omega arith) f (omega arith) v))
 
@@ -73,7 +73,7 @@ returns-then-seen-k-ne0 c v k o q =
     let (p, f) = there-end ID_BYTES s l.at _ c.entry_end-end.ensures
     c.if-end-eq0.false in
     sym (listing_stops (tables_in a.n o (mem_of a.m.now)) s k a.id q (listing_twice ns a.id s l.seen
-    l.at g (omega arith) f _ (c.entry_is_place.ensures v) (omega arith) c.if-seen-k-ne0.true v))
+    l.at g (omega arith) f _ (c.entry_place-k.ensures v) (omega arith) c.if-seen-k-ne0.true v))
 
 pub loop-at-smaller : goal.loop-at-smaller
 loop-at-smaller c =
@@ -99,8 +99,8 @@ loop-at-preserved c =
     let (p, f) = there-end ID_BYTES s l.at _ c.entry_end-end.ensures
     c.if-end-eq0.false in
     let m = end-front ID_BYTES s l.at in
-    let k = c.entry_is_place.result in
-    let h = c.entry_is_place.ensures in (
+    let k = c.entry_place-k.result in
+    let h = c.entry_place-k.ensures in (
       omega arith,
       omega arith,
       length-set l.seen k _ ∙ z,
