@@ -1,4 +1,6 @@
 // chmod and stat: judged, the host told or asked; a mode is set, a stat compared with the tables and handed on.
+#![tactic(auto)]
+
 ghost use Rattle.std.specs.Prelude.{◌∷◌, ◌++◌, ◌≡◌, ℕ, ◌<◌, ◌≤◌};
 ghost use Rattle.lists.specs.LittleEndian.{encode};
 ghost use Rattle.filesystem.specs.Tables.{NODES, ID_BYTES};

@@ -1,4 +1,6 @@
 // readdir: judged, the host asked for the listing; each child must have one entry, and nothing else may.
+#![tactic(auto)]
+
 ghost use Rattle.std.specs.Prelude.{true, ◌≡◌, ℕ, ◌<◌, ◌≤◌, length};
 ghost use Rattle.filesystem.specs.Image.{sound_nodes};
 ghost use Rattle.filesystem.specs.Tables.{NODES, node_at, ID_BYTES};

@@ -1,4 +1,6 @@
 // rename: both paths judged, the host told, the node's parent and name changed.
+#![tactic(auto)]
+
 ghost use Rattle.std.specs.Prelude.{true, ◌≡◌, ℕ, ◌<◌, ◌≤◌, length, drop};
 ghost use Rattle.filesystem.specs.Tables.{NODES, NAME_BYTES, PATH_BYTES, node_at, is_directory};
 ghost use Rattle.filesystem.specs.Image.{length_in, sound_nodes};

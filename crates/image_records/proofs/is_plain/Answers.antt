@@ -13,13 +13,13 @@ pub returns-then-name-i-eq47 : goal.returns-then-name-i-eq47
 returns-then-name-i-eq47 c =
     let n = c.args.name.now in let l =
     c.loop-i in sym
-    (sym l.inv.1 ∙ plain-slash n l.i (omega arith) c.if-name-i-eq47.true)
+    (sym l.invariant.1 ∙ plain-slash n l.i (omega arith) c.if-name-i-eq47.true)
 
 pub loop-i-preserved : goal.loop-i-preserved
 loop-i-preserved c =
     let n = c.args.name.now in let l =
     c.loop-i in
-    (omega arith, sym (plain-next n l.i (omega arith) c.if-name-i-eq0.false c.if-name-i-eq47.false) ∙ l.inv.1)
+    (omega arith, sym (plain-next n l.i (omega arith) c.if-name-i-eq0.false c.if-name-i-eq47.false) ∙ l.invariant.1)
 
 pub returns : goal.returns
 returns c = let n = c.args.name.now in let l = c.loop-i in sym (sym l.invariant.1

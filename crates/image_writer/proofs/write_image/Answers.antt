@@ -36,8 +36,9 @@ pub returns : goal.returns
 unfolding image_length
 returns c =
     let a = c.args in
-    image-written (layout a.w a.maker) a.n a.out.now a.m.now a.at c.write_records-behind.result
+    let w = image-written (layout a.w a.maker) a.n a.out.now a.m.now a.at c.write_records-behind.result
     c.first_page-pages.result c.digests.result.now
     (omega arith) (omega arith) (omega arith) c.write_records-behind.ensures.value c.first_page-pages.ensures.0
     c.digests.ensures.0 c.digests.ensures.1
-    c.put_number.ensures c.write_records-behind.ensures.out_after c.put_number-2.ensures c.put.ensures
+    c.put_number.ensures c.write_records-behind.ensures.out_after c.put_number-2.ensures c.put.ensures in
+    record { out_after = w.0; value = w.1 }

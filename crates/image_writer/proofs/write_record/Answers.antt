@@ -17,7 +17,7 @@ write_middle-requires c =
 pub put-requires : goal.put-requires
 put-requires c =
     let k = maker_length c.args.w c.args.maker (omega arith) in
-    omega (arith, k, ap length c.node_name-name.ensures.0, c.pre)
+    omega (arith, k, ap length c.node_name-name.ensures.0, c.requires)
 
 pub returns : goal.returns
 returns c =

@@ -27,9 +27,9 @@ loop-i-preserved c =
       omega arith,
       omega arith,
       record_next a.m.now a.n h y l.i i l.out l.next (omega (arith, p, l.invariant.3, l.invariant.1))
-          r.ensures.0 r.ensures.1
+          r.ensures.out_after r.ensures.value
           ∙ l.invariant.2,
-      omega (arith, p, l.invariant.3, r.ensures.1),
+      omega (arith, p, l.invariant.3, r.ensures.value),
     )
 
 pub returns : goal.returns

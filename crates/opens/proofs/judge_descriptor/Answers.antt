@@ -25,7 +25,7 @@ returns-then-d-lt0 c k rights n =
     let a = c.args in
     sym (descriptor_negative (tables_in n a.o (mem_of a.m.now)) a.reply.now k rights
     (to_z w32 (of_z w32 c.i32_at-d.result))
-    (to_z-of_z (search rules) ∙ c.i32_at-d.ensures) (omega arith) c.if-d-lt0.true)
+    (to_z-of_z {w = w32} (search rules) ∙ c.i32_at-d.ensures) (omega arith) c.if-d-lt0.true)
 
 pub returns-then-d : goal.returns-then-d
 unfolding tables_in
@@ -33,7 +33,7 @@ returns-then-d c k rights n =
     let a = c.args in
     sym (descriptor_high (tables_in n a.o (mem_of a.m.now)) a.reply.now k rights
     (to_z w32 (of_z w32 c.i32_at-d.result))
-    (to_z-of_z (search rules) ∙ c.i32_at-d.ensures) (omega arith) c.if-d.true)
+    (to_z-of_z {w = w32} (search rules) ∙ c.i32_at-d.ensures) (omega arith) c.if-d.true)
 
 pub returns-then-find_descriptor-o : goal.returns-then-find_descriptor-o
 unfolding tables_in
@@ -42,7 +42,7 @@ returns-then-find_descriptor-o c k rights n =
     let e : length (take a.o (mem_of a.m.now).opens) ≡ a.o = count-opens a.m.now a.o (omega arith) in
     sym (descriptor_held (tables_in n a.o (mem_of a.m.now)) a.reply.now k rights
     (to_z w32 (of_z w32 c.i32_at-d.result))
-    (to_z-of_z (search rules) ∙ c.i32_at-d.ensures) (omega arith)
+    (to_z-of_z {w = w32} (search rules) ∙ c.i32_at-d.ensures) (omega arith)
     c.if-d-lt0.false _ c.find_descriptor.ensures (omega arith))
 
 pub returns : goal.returns
@@ -52,6 +52,6 @@ returns c k rights n =
     let e : length (take a.o (mem_of a.m.now).opens) ≡ a.o = count-opens a.m.now a.o (omega arith) in
     sym (descriptor_new (tables_in n a.o (mem_of a.m.now)) a.reply.now k rights
     (to_z w32 (of_z w32 c.i32_at-d.result))
-    (to_z-of_z (search rules) ∙ c.i32_at-d.ensures) (omega arith)
+    (to_z-of_z {w = w32} (search rules) ∙ c.i32_at-d.ensures) (omega arith)
     c.if-d-lt0.false _ c.find_descriptor.ensures
     c.if-d.false (omega arith))

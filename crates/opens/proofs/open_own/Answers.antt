@@ -30,7 +30,7 @@ returns-then-not-covers c =
     let f = no-folder a.n ns a.k (omega arith) _ c.node_kind.ensures
     c.if-node_kind-eq-DIRECTORY.false in
     let g = ap not (sym (covers-front a.n ns a.k (omega arith) _ _ a.rights
-    c.node_mode.ensures c.covers.ensures)) ∙ c.if-not-covers.true in
+    c.node_mode.ensures c.covers.ensures) ∙ c.if-not-covers.true) in
     sym (check_passes refused_node 21 _ _ _ f ∙ check_stops refused_node 13 _ _ _ g)
 
 pub returns-then-find_handle-o : goal.returns-then-find_handle-o
@@ -45,7 +45,7 @@ returns-then-find_handle-o c =
     let ns = (mem_of a.m.now).nodes in
     let f = no-folder a.n ns a.k (omega arith) _ node-kind.ensures if1.false in
     let g = ap not (sym (covers-front a.n ns a.k (omega arith) _ _ a.rights node-mode.ensures
-    covers.ensures)) ∙ if2.false in
+    covers.ensures) ∙ if2.false) in
     let h = is_open_lem a.m.now a.n a.o a.k (omega arith) (omega arith) _ _
     c.node_id.ensures
     c.find_handle.ensures (omega arith) in
@@ -65,7 +65,7 @@ returns-then-o-ge-OPEN_FILES c =
     let os = take a.o (mem_of a.m.now).opens in
     let f = no-folder a.n ns a.k (omega arith) _ node-kind.ensures if1.false in
     let g = ap not (sym (covers-front a.n ns a.k (omega arith) _ _ a.rights node-mode.ensures
-    covers.ensures)) ∙ if2.false in
+    covers.ensures) ∙ if2.false) in
     let h = not_open a.m.now a.n a.o a.k (omega arith) (omega arith) _ _ node-id.ensures
     c.find_handle.ensures
     (omega arith) in
@@ -87,7 +87,7 @@ returns c =
     let os = take a.o (mem_of a.m.now).opens in
     let f = no-folder a.n ns a.k (omega arith) _ node-kind.ensures if1.false in
     let g = ap not (sym (covers-front a.n ns a.k (omega arith) _ _ a.rights node-mode.ensures
-    covers.ensures)) ∙ if2.false in
+    covers.ensures) ∙ if2.false) in
     let h = not_open a.m.now a.n a.o a.k (omega arith) (omega arith) _ _ node-id.ensures
     c.find_handle.ensures
     (omega arith) in

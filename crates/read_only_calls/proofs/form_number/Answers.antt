@@ -1,14 +1,10 @@
 -- `read_only_calls::form_number` meets its contract. Assumes nothing.
-use mathlib.Core.Path.{◌≡◌, ap, sym, ◌∙◌, subst}
-use mathlib.Core.List.{[], ◌∷◌}
+use mathlib.Core.Path.{◌≡◌, refl, ap, sym, ◌∙◌, subst}
 use native.Mathlib.Omega.{arith}
 use Prim.Native.Nat.{ℕ, ◌<◌}
-use types.Run.{OneOf, miss}
-use denote.Enum.Declared.{tag_of}
 use Rattle.call_reader.specs.declared.ParsedCall.{ParsedCall}
 use Rattle.call_reader.specs.declared.ParsedCall.TheVariants.{ByPath, Close, Seek, Read, Write, Truncate}
 use Rattle.call_reader.specs.declared.ParsedCall.TheVariants.{Map, Unmap, Rename, Malformed}
-use Rattle.call_reader.specs.contracts.ParsedCall as parsed
 use Rattle.call_reader.specs.Meaning.{meant, Ranges}
 use Rattle.read_only_calls.specs.Refusals.{takes_parsed, number_of_form, form_number}
 use Rattle.read_only_calls.specs.laws.RefusalLaws.{NoPath, other_refused, path_refused, rename_refused}
@@ -16,17 +12,17 @@ use Rattle.read_only_calls.specs.laws.RefusalLaws.{form_positive}
 use Rattle.read_only_calls.proofs.form_number.Goals as goal
 
 -- a call with no path
-no_path : (p : ParsedCall) → OneOf (1 ∷ 2 ∷ 3 ∷ 4 ∷ 5 ∷ 6 ∷ 7 ∷ 9 ∷ []) (tag_of parsed.the_type p) → NoPath p
-no_path (ByPath k n start) h = miss (1 ∷ 2 ∷ 3 ∷ 4 ∷ 5 ∷ 6 ∷ 7 ∷ 9 ∷ []) 0 tt h
-no_path (Close x) h = tt
-no_path (Seek x n) h = tt
-no_path (Read x n) h = tt
-no_path (Write x start) h = tt
-no_path (Truncate x n) h = tt
-no_path (Map n) h = tt
-no_path (Unmap a) h = tt
-no_path (Rename second) h = miss (1 ∷ 2 ∷ 3 ∷ 4 ∷ 5 ∷ 6 ∷ 7 ∷ 9 ∷ []) 8 tt h
-no_path Malformed h = tt
+no_path : (p : ParsedCall) → ((k n start : ℕ) → p ≡ ByPath k n start → ⊥) → ((second : ℕ) → p ≡ Rename second → ⊥) → NoPath p
+no_path (ByPath k n start) h r = h k n start refl
+no_path (Close x) h r = tt
+no_path (Seek x n) h r = tt
+no_path (Read x n) h r = tt
+no_path (Write x start) h r = tt
+no_path (Truncate x n) h r = tt
+no_path (Map n) h r = tt
+no_path (Unmap a) h r = tt
+no_path (Rename second) h r = r second refl
+no_path Malformed h r = tt
 
 -- the ranges of a call that a match told
 ranged : (p z : ParsedCall) (size : ℕ) → Ranges p size → p ≡ z → Ranges z size
@@ -36,6 +32,7 @@ pub returns-in-ByPath : goal.returns-in-ByPath
 unfolding takes_parsed
 returns-in-ByPath c =
     let s = c.args.call.now in
+    let e = c.in-ByPath.is in
     let n = c.number_of.ensures ∙ ap number_of_form c.form.ensures in (
       n ∙ path_refused _ _ (sym (ap takes_parsed e) ∙ c.requires.0) _ s
           ∙ sym (ap (λ (z : ParsedCall). form_number (meant z s)) e),
@@ -52,4 +49,4 @@ returns-in-Rename c =
 
 pub returns-in_default : goal.returns-in_default
 returns-in_default c =
-    (other_refused c.args.p c.args.call.now c.requires.0 (no_path c.args.p c.in_default.keys3), omega arith)
+    (other_refused c.args.p c.args.call.now c.requires.0 (no_path c.args.p c.in_default.not-ByPath c.in_default.not-Rename), omega arith)

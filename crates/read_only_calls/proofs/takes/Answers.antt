@@ -51,4 +51,4 @@ other (Rename second) h = absurd (miss (1 ∷ 2 ∷ 3 ∷ 9 ∷ []) 8 tt h)
 other Malformed h = refl
 
 pub returns-in_default : goal.returns-in_default
-returns-in_default c = other c.args.p c.in_default.keys7
+returns-in_default c = other c.args.p c.in_default.in_default-own.keys7

@@ -22,5 +22,5 @@ returns-in-13 c = let a = c.args in sym (ap (λ k. takes_by_path k a.number) c.i
 pub returns-in_default : goal.returns-in_default
 returns-in_default c =
     let a = c.args in
-    let r = c.in_default.rest in
+    let r = c.in_default.in_default-own.rest in
     sym (others_refused a.kind a.number c.requires r.0.0.1 r.0.1 r.1)

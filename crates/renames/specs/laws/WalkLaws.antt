@@ -66,6 +66,7 @@ module _ (ns : List Node) (k from : ℕ) (t : List ℕ) where
 
   child_last : (p : Path) → Some p → walk ns 0 p ≡ child_at ns (parent_of ns 0 p) (last_of p)
   child_last (c ∷ cs) more = walk-last ns 0 c cs
+  child_last [] x' = elim x' [ ]
 
   pub second_goes : (d at : ℕ) → Holds ns t d at → second_own ns k from t ≡ name_own ns k from d at (drop at t)
   unfolding second_own name_own
@@ -90,6 +91,7 @@ module _ (ns : List Node) (k from : ℕ) (t : List ℕ) where
     where
       go : (p : Path) → Some p → Passed (parent_checks ns 0 p) → parent_of ns 0 p ≡ d → is_directory (node_at ns d) ≡ true
       go (c ∷ cs) more a e = subst (λ i. is_directory (node_at ns i) ≡ true) e (parent_place ns 0 c cs a l).1
+      go [] x3 a e = elim x3 [ ]
 
   pub path_fits : (w d at : ℕ) → sound_nodes w ns ≡ true → Holds ns t d at → Short t
       → length_in ns d (drop at t) ≤ PATH_BYTES
@@ -102,6 +104,7 @@ module _ (ns : List Node) (k from : ℕ) (t : List ℕ) where
           let y : length (joined (c ∷ cs)) ≤ PATH_BYTES = unfold path_bytes in path_short (c ∷ cs) b in
           subst (λ i. length_in ns i (drop at t) ≤ PATH_BYTES) e
           (subst (λ (n : List ℕ). length_in ns (parent_of ns 0 (c ∷ cs)) n ≤ PATH_BYTES) l (omega arith))
+      go [] x5 a e l b = elim x5 [ ]
 
 pub root_refuses : (k i j x : ℕ) → root_name k ≡ Move i j x → ⊥
 unfolding root_name pick

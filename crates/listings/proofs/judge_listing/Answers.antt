@@ -1,0 +1,137 @@
+-- `listings::judge_listing` meets its contract. The loop's invariant: the children without a mark are to be found in
+-- what remains of the reply,
+-- and the count has the others. The measure is what remains. Assumes nothing.
+use native.Mathlib.Omega.{arith}
+use mathlib.Core.Path.{◌≡◌, refl, sym, ◌∙◌}
+use lib.ListN.{length, take, replicate, length-set}
+use Rattle.memory.specs.Layout.{mem_of}
+use Rattle.tables.specs.View.{tables_in}
+use Rattle.tables.specs.laws.RowsInUse.{count-nodes}
+use mathlib.Core.Bool.{true}
+use Rattle.filesystem.specs.Tables.{ID_BYTES, NODES}
+use Rattle.lists.specs.Cells.{zeros}
+use Rattle.listings.specs.laws.ListingLaws.{left-first, count-first, left-next, count_next}
+use Rattle.listings.specs.laws.ListingLaws.{cut-end, there-end, end-front, listing_cut, listing_missing}
+use Rattle.listings.specs.laws.ListingLaws.{listing_twice, listing_few, listing_whole, listing_stops}
+use Rattle.listings.specs.laws.ListingLaws.{listing_passes}
+use Rattle.listings.proofs.judge_listing.Goals as goal
+
+pub loop-at-init : goal.loop-at-init
+loop-at-init c =
+    let a = c.args in
+    let ns = take a.n (mem_of a.m.now).nodes in (
+      omega arith,
+      omega arith,
+      refl,
+      λ v. count-first ns a.id a.reply.now (replicate NODES 0) (zeros NODES),
+      left-first ns a.id a.reply.now (replicate NODES 0) (zeros NODES),
+    )
+
+pub returns-then-end-eq0 : goal.returns-then-end-eq0
+unfolding tables_in
+returns-then-end-eq0 c v k o q =
+    let a = c.args in
+    let l = c.loop-at in
+    let s = a.reply.now in
+    let ns = take a.n (mem_of a.m.now).nodes in
+    let e : length ns ≡ a.n = count-nodes a.m.now a.n (omega arith) in
+    let (i, j, z, t, g) = l.invariant in
+    sym (listing_stops (tables_in a.n o (mem_of a.m.now)) s k a.id q (listing_cut ns a.id s l.seen l.at
+    g (omega arith) (cut-end ID_BYTES s l.at _ c.entry_end-end.ensures c.if-end-eq0.true) v))
+
+pub entry_place-k-requires : goal.entry_place-k-requires
+entry_place-k-requires c =
+    let (p, q) = there-end ID_BYTES c.args.reply.now
+    c.loop-at.at _ c.entry_end-end.ensures
+    c.if-end-eq0.false in
+    (omega arith, omega arith, p, omega arith)
+
+pub returns-then-n-k : goal.returns-then-n-k
+unfolding tables_in
+returns-then-n-k c v k o q =
+    let a = c.args in
+    let l = c.loop-at in
+    let s = a.reply.now in
+    let ns = take a.n (mem_of a.m.now).nodes in
+    let e : length ns ≡ a.n = count-nodes a.m.now a.n (omega arith) in
+    let (i, j, z, t, g) = l.invariant in
+    let (p, f) = there-end ID_BYTES s l.at _ c.entry_end-end.ensures
+    c.if-end-eq0.false in
+    let h = c.entry_place-k.ensures v in
+    sym (listing_stops (tables_in a.n o (mem_of a.m.now)) s k a.id q (listing_missing ns a.id s l.seen
+    l.at g (omega arith) f (omega arith) v))
+
+pub returns-then-seen-k-ne0 : goal.returns-then-seen-k-ne0
+unfolding tables_in
+returns-then-seen-k-ne0 c v k o q =
+    let a = c.args in
+    let l = c.loop-at in
+    let s = a.reply.now in
+    let ns = take a.n (mem_of a.m.now).nodes in
+    let e : length ns ≡ a.n = count-nodes a.m.now a.n (omega arith) in
+    let (i, j, z, t, g) = l.invariant in
+    let (p, f) = there-end ID_BYTES s l.at _ c.entry_end-end.ensures
+    c.if-end-eq0.false in
+    sym (listing_stops (tables_in a.n o (mem_of a.m.now)) s k a.id q (listing_twice ns a.id s l.seen
+    l.at g (omega arith) f _ (c.entry_place-k.ensures v) (omega arith) c.if-seen-k-ne0.true v))
+
+pub loop-at-smaller : goal.loop-at-smaller
+loop-at-smaller c =
+    let a = c.args in
+    let l = c.loop-at in
+    let s = a.reply.now in
+    let ns = take a.n (mem_of a.m.now).nodes in
+    let e : length ns ≡ a.n = count-nodes a.m.now a.n (omega arith) in
+    let (i, j, z, t, g) = l.invariant in
+    let (p, f) = there-end ID_BYTES s l.at _ c.entry_end-end.ensures
+    c.if-end-eq0.false in
+    let m = end-front ID_BYTES s l.at in
+    omega arith
+
+pub loop-at-preserved : goal.loop-at-preserved
+loop-at-preserved c =
+    let a = c.args in
+    let l = c.loop-at in
+    let s = a.reply.now in
+    let ns = take a.n (mem_of a.m.now).nodes in
+    let e : length ns ≡ a.n = count-nodes a.m.now a.n (omega arith) in
+    let (i, j, z, t, g) = l.invariant in
+    let (p, f) = there-end ID_BYTES s l.at _ c.entry_end-end.ensures
+    c.if-end-eq0.false in
+    let m = end-front ID_BYTES s l.at in
+    let k = c.entry_place-k.result in
+    let h = c.entry_place-k.ensures in (
+      omega arith,
+      omega arith,
+      length-set l.seen k _ ∙ z,
+      λ v. count_next ns a.id s l.seen l.at g (omega arith) f k (h v) (omega arith) c.if-seen-k-ne0.false
+          (omega arith) l.count _ (t v),
+      rw p (λ v. left-next ns a.id s l.seen l.at g (omega arith) f k (h v) (omega arith) c.if-seen-k-ne0.false
+          (omega arith) v),
+    )
+
+pub returns-then-count-count_children : goal.returns-then-count-count_children
+unfolding tables_in
+returns-then-count-count_children c v k o q =
+    let a = c.args in
+    let l = c.loop-at in
+    let s = a.reply.now in
+    let ns = take a.n (mem_of a.m.now).nodes in
+    let e : length ns ≡ a.n = count-nodes a.m.now a.n (omega arith) in
+    let (i, j, z, t, g) = l.invariant in
+    let h = c.count_children.ensures in
+    sym (listing_stops (tables_in a.n o (mem_of a.m.now)) s k a.id q (listing_few ns a.id s l.seen l.at
+    l.count g (omega arith) (t v) (λ y. c.if-count-count_children.true (y ∙ sym h)) v))
+
+pub returns : goal.returns
+unfolding tables_in
+returns c v k o q =
+    let a = c.args in
+    let l = c.loop-at in
+    let s = a.reply.now in
+    let ns = take a.n (mem_of a.m.now).nodes in
+    let e : length ns ≡ a.n = count-nodes a.m.now a.n (omega arith) in
+    let (i, j, z, t, g) = l.invariant in
+    let h = c.count_children.ensures in
+    sym (listing_passes (tables_in a.n o (mem_of a.m.now)) s k a.id q (listing_whole ns a.id s l.seen
+    l.at l.count g (omega arith) (t v) (c.if-count-count_children.false ∙ h) v))
