@@ -1,4 +1,6 @@
 // One line of the program `deskrun`: read, and the answer's line written (SPECIFICATION 12).
+#![tactic(auto)]
+
 ghost use Rattle.std.specs.Prelude.{◌++◌, ◌≡◌, ◌+◌, ◌*◌, ◌≤◌, length, take};
 ghost use Rattle.rules.specs.Skeleton.{done, ask};
 ghost use Rattle.outcomes.specs.Values.{answer_in};

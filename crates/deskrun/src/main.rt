@@ -3,7 +3,7 @@
 ghost use Rattle.std.specs.Prelude.{◌+◌, ◌*◌, ◌≤◌, length};
 ghost use Rattle.desk_lines.specs.Lines.{most_bytes};
 
-use libc::{STDIN_FILENO, STDOUT_FILENO};
+use std::io::Read;
 
 // A line that is longer than any good one is bad, whatever follows: of such a line this much is kept.
 const TOO_LONG: usize = desk_lines::LINE_READ + 1;
@@ -17,45 +17,51 @@ struct Rest {
     open: bool,
 }
 
-fn say(out: &[u8], n: usize) {
-    io::write_all(STDOUT_FILENO, desk_lines::first(out, n));
+fn say(rt: &impl Print, out: &[u8], n: usize) {
+    let _ = rt.write_all(desk_lines::first(out, n));
 }
 
 // Every line that ends in the text: the place behind the last.
-fn answer_all(memory: &mut [u8], text: &[u8]) -> usize
+fn answer_all(rt: &impl Print, memory: &mut [u8], text: &[u8]) -> usize
     ensures { result ≤ length text.now }
 {
-    let mut out = io::large_buffer();
+    let mut out = [0u8; 65536];
     let mut at = 0;
     while at < text.len() {
         let a = desk::answer_lines(memory, &text[at..], &mut out);
         if a.at == 0 {
             return at;
         }
-        say(&out, a.filled);
+        say(rt, &out, a.filled);
         at += a.at;
     }
     at
 }
 
 // The last line, where no line feed ends it; it is one if it has a byte.
-fn answer_last(memory: &mut [u8], text: &[u8]) {
+fn answer_last(rt: &impl Print, memory: &mut [u8], text: &[u8]) {
     if text.len() == 0 {
         return;
     }
-    let mut out = io::large_buffer();
+    let mut out = [0u8; 65536];
     let n = desk::answer_line(memory, text, &mut out);
-    say(&out, n);
+    say(rt, &out, n);
 }
 
 // One read, and what it brings answered.
-fn turn(memory: &mut [u8], text: &mut [u8], kept: usize) -> Rest
+fn turn<R: Read>(
+    rt: &impl Print,
+    input: &mut R,
+    memory: &mut [u8],
+    text: &mut [u8],
+    kept: usize,
+) -> Rest
     requires { kept ≤ length text.old }
     ensures { result.kept ≤ 3 + 2 * most_bytes }
 {
-    let n = line_input::read_on(STDIN_FILENO, text, kept);
+    let n = line_input::read_on(input, text, kept);
     if n == 0 {
-        answer_last(memory, line_input::front(text, kept));
+        answer_last(rt, memory, line_input::front(text, kept));
         return Rest {
             kept: 0,
             open: false,
@@ -69,14 +75,15 @@ fn turn(memory: &mut [u8], text: &mut [u8], kept: usize) -> Rest
             open: true,
         };
     }
-    let at = answer_all(memory, line_input::front(text, end));
+    let at = answer_all(rt, memory, line_input::front(text, end));
     Rest {
         kept: line_input::keep(text, at, end, TOO_LONG),
         open: true,
     }
 }
 
-fn main() {
+fn main(rt: HostRuntime) {
+    let mut input = rt.stdin();
     let mut memory = [0u8; memory::SIZE];
     guard::on_fresh(&mut memory);
     let mut text = [0u8; TEXT];
@@ -86,7 +93,7 @@ fn main() {
     };
     let mut turns = u64::MAX;
     while turns > 0 && rest.open {
-        rest = turn(&mut memory, &mut text, rest.kept);
+        rest = turn(&rt, &mut input, &mut memory, &mut text, rest.kept);
         turns -= 1;
     }
 }

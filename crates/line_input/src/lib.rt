@@ -1,26 +1,21 @@
 // Lines of an input of any length, read through one buffer: what is not yet a whole line stands at its front.
+#![tactic(auto)]
+
 ghost use Rattle.std.specs.Prelude.{◌≡◌, ◌≤◌, ◌+◌, ◌-◌, min, length, take};
 ghost use Rattle.lists.specs.Parts.{part, overwrite};
 
-// How many bytes of the buffer from `at` on a read filled.
-fn came(got: isize, buffer: &[u8], at: usize) -> usize
-    requires { at ≤ length buffer.now }
-    ensures { at + result ≤ length buffer.now }
-{
-    io::count(got, &buffer[at..])
-}
+use std::io::Read;
 
 // One read into the buffer from `at` on: how many bytes came, whatever they are; 0 at the end of the input, and where
 // the read failed.
 // What stands before `at` is kept.
-pub fn read_on(fd: i32, buffer: &mut [u8], at: usize) -> usize
+pub fn read_on<R: Read>(input: &mut R, buffer: &mut [u8], at: usize) -> usize
     requires { at ≤ length buffer.old }
     ensures { (at + result ≤ length buffer.new)
         × (length buffer.new ≡ length buffer.old)
         × (take at buffer.new ≡ take at buffer.old) }
 {
-    let got = libc::read(fd, &mut buffer[at..]);
-    came(got, buffer, at)
+    input.read(&mut buffer[at..]).unwrap_or(0)
 }
 
 // The first n bytes of the buffer.

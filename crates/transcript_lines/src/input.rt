@@ -1,6 +1,8 @@
 // The lines of an input of any length, one after the other, through one buffer.
 ghost use Rattle.std.specs.Prelude.{◌≤◌, length};
 
+use std::io::Read;
+
 // The most of a line that is kept: one that is longer is cut.
 const LINE: usize = 131200;
 
@@ -28,18 +30,18 @@ pub fn nowhere(filled: usize, open: bool) -> Place
 }
 
 // What is not yet a line moved to the front, and more read behind it.
-fn read_more(fd: i32, buffer: &mut [u8], from: usize, filled: usize) -> Place
+fn read_more<R: Read>(input: &mut R, buffer: &mut [u8], from: usize, filled: usize) -> Place
     requires { (from ≤ filled) × (filled ≤ length buffer.old) }
     ensures { (result.from ≤ result.to) × (result.to ≤ length buffer.new) × (result.next ≤ result.filled)
         × (result.filled ≤ length buffer.new) }
 {
     let kept = line_input::keep(buffer, from, filled, LINE);
-    let n = line_input::read_on(fd, buffer, kept);
+    let n = line_input::read_on(input, buffer, kept);
     nowhere(kept + n, n != 0)
 }
 
 // The next line, an empty one where more had to be read first.
-pub fn next(fd: i32, buffer: &mut [u8], p: Place) -> Place
+pub fn next<R: Read>(input: &mut R, buffer: &mut [u8], p: Place) -> Place
     requires { (p.next ≤ p.filled) × (p.filled ≤ length buffer.old) }
     ensures { (result.from ≤ result.to) × (result.to ≤ length buffer.new) × (result.next ≤ result.filled)
         × (result.filled ≤ length buffer.new) }
@@ -48,7 +50,7 @@ pub fn next(fd: i32, buffer: &mut [u8], p: Place) -> Place
     let filled = p.filled;
     let to = text::line::end(line_input::front(buffer, filled), from);
     if to == filled {
-        return read_more(fd, buffer, from, filled);
+        return read_more(input, buffer, from, filled);
     }
     Place {
         from,

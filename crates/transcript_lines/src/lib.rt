@@ -1,4 +1,6 @@
 // The lines of a list of events: a letter, a blank and fields with a blank between them.
+#![tactic(auto)]
+
 ghost use Rattle.std.specs.Prelude.{◌≤◌, length};
 
 use text::decimal::Decimal;

@@ -1,45 +1,44 @@
 // What is printed: differences, answers that are shown, and what was counted.
 use super::counts::Counts;
-use libc::STDOUT_FILENO;
 
-fn say(text: &[u8]) {
-    io::write_all(STDOUT_FILENO, text);
+fn say(rt: &impl Print, text: &[u8]) {
+    let _ = rt.write_all(text);
 }
 
-fn say_difference(line: &[u8], answer: &[u8]) {
-    say(b"stored   ");
-    say(super::behind(line));
-    say(b"\nanswered ");
-    say(answer);
-    say(b"\n");
+fn say_difference(rt: &impl Print, line: &[u8], answer: &[u8]) {
+    say(rt, b"stored   ");
+    say(rt, super::behind(line));
+    say(rt, b"\nanswered ");
+    say(rt, answer);
+    say(rt, b"\n");
 }
 
 // An answer that is stored, and the one that came: whether they are the same.
-pub fn judge(line: &[u8], answer: &[u8]) -> bool {
+pub fn judge(rt: &impl Print, line: &[u8], answer: &[u8]) -> bool {
     let is_same = buffers::same(super::behind(line), answer);
     if !is_same {
-        say_difference(line, answer);
+        say_difference(rt, line, answer);
     }
     is_same
 }
 
 // An answer that is shown: the words behind `p `, and the answer up to its number.
-pub fn show(line: &[u8], answer: &[u8]) {
-    say(super::behind(line));
-    say(b": ");
-    say(super::first_two(answer));
-    say(b"\n");
+pub fn show(rt: &impl Print, line: &[u8], answer: &[u8]) {
+    say(rt, super::behind(line));
+    say(rt, b": ");
+    say(rt, super::first_two(answer));
+    say(rt, b"\n");
 }
 
-fn count(n: u64, of: &[u8]) {
-    io::print_decimal(STDOUT_FILENO, n);
-    say(of);
+fn count(rt: &impl Print, n: u64, of: &[u8]) {
+    let _ = print!(rt; "{n}");
+    say(rt, of);
 }
 
-pub fn counts(c: Counts, path: &[u8]) {
-    count(c.lists, b" lists, ");
-    count(c.answers, b" answers, ");
-    count(c.different, b" different in ");
-    say(path);
-    say(b"\n");
+pub fn counts(rt: &impl Print, c: Counts, path: &[u8]) {
+    count(rt, c.lists, b" lists, ");
+    count(rt, c.answers, b" answers, ");
+    count(rt, c.different, b" different in ");
+    say(rt, path);
+    say(rt, b"\n");
 }

@@ -3,6 +3,9 @@
 ghost use Rattle.std.specs.Prelude.{◌≤◌, length};
 ghost use Rattle.transcript_lines.specs.Room.{answer_line};
 
+use std::fs::File;
+use std::io::Read;
+use std::rt::Files;
 use transcript_lines::counts::Counts;
 
 // More than the longest line, of which 131,200 bytes are kept.
@@ -14,13 +17,14 @@ struct Progress {
     counts: Counts,
 }
 
-fn count_answer(line: &[u8], said: &[u8], p: Progress) -> Progress
+fn count_answer(rt: &impl Print, line: &[u8], said: &[u8], p: Progress) -> Progress
     requires { p.counts.different ≤ p.counts.answers }
     ensures { result.counts.different ≤ result.counts.answers }
 {
     let settings = p.settings;
     let before = p.counts;
     let is_same = transcript_lines::said::judge(
+        rt,
         line,
         transcript_lines::answers::last(said, settings.said),
     );
@@ -51,25 +55,32 @@ fn feed(memory: &mut [u8], line: &[u8], said: &mut [u8], p: Progress) -> Progres
     Progress { settings, counts }
 }
 
-fn replay_line(memory: &mut [u8], line: &[u8], said: &mut [u8], p: Progress) -> Progress
+fn replay_line(
+    rt: &impl Print,
+    memory: &mut [u8],
+    line: &[u8],
+    said: &mut [u8],
+    p: Progress,
+) -> Progress
     requires { (answer_line ≤ length said.old) × (p.counts.different ≤ p.counts.answers) }
     ensures { result.counts.different ≤ result.counts.answers }
 {
     let letter = transcript_lines::letter(line);
     if letter == b'=' {
-        return count_answer(line, said, p);
+        return count_answer(rt, line, said, p);
     }
     if letter == b'p' {
         let s = p.settings;
-        transcript_lines::said::show(line, transcript_lines::answers::last(said, s.said));
+        transcript_lines::said::show(rt, line, transcript_lines::answers::last(said, s.said));
         return p;
     }
     feed(memory, line, said, p)
 }
 
 // Every line of a file, through one buffer.
-fn replay_lines(
-    fd: i32,
+fn replay_lines<R: Read>(
+    rt: &impl Print,
+    input: &mut R,
     memory: &mut [u8],
     text: &mut [u8],
     said: &mut [u8],
@@ -82,41 +93,58 @@ fn replay_lines(
     let mut place = transcript_lines::input::nowhere(0, true);
     let mut turns = u64::MAX;
     while turns > 0 && place.open {
-        place = transcript_lines::input::next(fd, text, place);
+        place = transcript_lines::input::next(input, text, place);
         let from = place.from;
         let to = place.to;
-        progress = replay_line(memory, &text[from..to], said, progress);
+        progress = replay_line(rt, memory, &text[from..to], said, progress);
         turns -= 1;
     }
     progress.counts
 }
 
 // A fresh guard, and every line of a file.
-fn replay_in(fd: i32, memory: &mut [u8], text: &mut [u8], said: &mut [u8]) -> Counts
+fn replay_in<R: Read>(
+    rt: &impl Print,
+    input: &mut R,
+    memory: &mut [u8],
+    text: &mut [u8],
+    said: &mut [u8],
+) -> Counts
     requires { answer_line ≤ length said.old }
     ensures { result.different ≤ result.answers }
 {
     let settings = super::fresh(memory, false);
     let counts = transcript_lines::counts::none();
-    replay_lines(fd, memory, text, said, Progress { settings, counts })
+    replay_lines(rt, input, memory, text, said, Progress { settings, counts })
 }
 
-fn replay(fd: i32) -> Counts
+fn replay<R: Read>(rt: &impl Print, input: &mut R) -> Counts
     ensures { result.different ≤ result.answers }
 {
     let mut memory = [0u8; memory::SIZE];
     let mut text = [0u8; TEXT];
     let mut said = [0u8; transcript_lines::answers::ANSWER_LINE];
-    replay_in(fd, &mut memory, &mut text, &mut said)
+    replay_in(rt, input, &mut memory, &mut text, &mut said)
+}
+
+// A file's lists; one that cannot be opened has none.
+fn replay_file(rt: &(impl Files + Print), path: &[u8]) -> Counts
+    ensures { result.different ≤ result.answers }
+{
+    let Ok(name) = std::str::from_utf8(path) else {
+        return transcript_lines::counts::none();
+    };
+    match File::open(rt, name) {
+        Ok(mut file) => replay(rt, &mut file),
+        Err(_) => transcript_lines::counts::none(),
+    }
 }
 
 // Every list of a file: what was counted, which is said too.
-pub fn run(path: &[u8]) -> Counts
+pub fn run(rt: &(impl Files + Print), path: &[u8]) -> Counts
     ensures { result.different ≤ result.answers }
 {
-    let fd = os::open_read(path);
-    let c = replay(fd);
-    libc::close(fd);
-    transcript_lines::said::counts(c, path);
+    let c = replay_file(rt, path);
+    transcript_lines::said::counts(rt, c, path);
     c
 }

@@ -1,4 +1,4 @@
 // The trials (SPECIFICATION 11.1), run: each with its answer.
-fn main() {
-    transcripts::file::run(b"trials");
+fn main(rt: HostRuntime) {
+    transcripts::file::run(&rt, b"trials");
 }

@@ -1,6 +1,6 @@
 -- The Monte Carlo test of NIST's SHA validation system (SHAVS, July 2014), §6.4: digests of digests.
 -- Assumes nothing.
-use Rattle.std.specs.Prelude.{ℕ, zero, suc, ◌+◌, List, ◌++◌}
+use Rattle.std.specs.Prelude.{ℕ, zero, suc, List, ◌++◌}
 use Rattle.digest.specs.Sha256.{sha256}
 
 -- MD i of a seed: the first three are the seed, each further one is the digest of the three before it

@@ -1,8 +1,11 @@
 // Runs NIST's response files for SHA-256 and counts the cases whose digest is the published one. Any other digest is
 // printed; whatever
 // else is damaged changes the digest, or the count. A file of damaged cases comes first.
-use libc::STDOUT_FILENO;
-use std::num::wrapping_add_usize;
+#![tactic(auto)]
+
+use std::fs::File;
+use std::os::unix::fs::FileExt;
+use std::rt::Files;
 use text::decimal::Decimal;
 
 mod monte;
@@ -16,8 +19,8 @@ struct Progress {
     right: usize,
 }
 
-fn say(text: &[u8]) {
-    io::write_all(STDOUT_FILENO, text);
+fn say(rt: &impl Print, text: &[u8]) {
+    let _ = rt.write_all(text);
 }
 
 // The first n bytes of a text, or all.
@@ -86,42 +89,46 @@ fn computed(line: &[u8], bytes: usize, before: [u8; 32]) -> [u8; 32] {
 }
 
 // 1 where a line publishes the digest d. Another that is published is printed.
-fn judged(line: &[u8], d: [u8; 32]) -> usize {
+fn judged(rt: &impl Print, line: &[u8], d: [u8; 32]) -> usize {
     let published = value(line, b"MD = ");
     let mut digits = [0u8; 64];
     text::hex::encode(&d, &mut digits);
-    if check::same(&digits, published) {
+    if buffers::same(&digits, published) {
         return 1;
     }
     if 0 < published.len() {
-        say(b"wrong: ");
-        say(line);
-        say(b"\n");
+        say(rt, b"wrong: ");
+        say(rt, line);
+        say(rt, b"\n");
     }
     0
 }
 
 // One line, which is read from where it starts: the longest of NIST's has 12,806 bytes.
-fn turn(fd: i32, p: Progress) -> Progress {
+fn turn(rt: &impl Print, file: &File, p: Progress) -> Progress {
     let mut buffer = [0u8; 16384];
-    let got = libc::pread(fd, &mut buffer, (p.at % 1048576) as i64);
-    let text = first(&buffer, io::count(got, &buffer));
+    let n = file
+        .read_at(&mut buffer, (p.at % 1048576) as u64)
+        .unwrap_or(0);
+    let text = first(&buffer, n);
     let end = text::line::end(text, 0);
     let line = trimmed(first(text, end));
     let bytes = stated(line, p.bytes);
     let before = p.digest;
     let digest = computed(line, bytes, before);
     Progress {
-        at: wrapping_add_usize(wrapping_add_usize(p.at, end), 1),
+        at: p.at.wrapping_add(end).wrapping_add(1),
         bytes,
         digest,
-        right: wrapping_add_usize(p.right, judged(line, digest)),
+        right: p.right.wrapping_add(judged(rt, line, digest)),
     }
 }
 
 // How many cases are right in the first thousand lines of a file; one that cannot be read has none.
-fn right_in(path: &[u8]) -> usize {
-    let fd = os::open_read(path);
+fn right_in(rt: &(impl Files<File = File> + Print), path: &str) -> usize {
+    let Ok(file) = File::open(rt, path) else {
+        return 0;
+    };
     let mut p = Progress {
         at: 0,
         bytes: 0,
@@ -130,23 +137,20 @@ fn right_in(path: &[u8]) -> usize {
     };
     let mut i: usize = 0;
     while i < 1000 {
-        p = turn(fd, p);
+        p = turn(rt, &file, p);
         i += 1;
     }
-    libc::close(fd);
     p.right
 }
 
-fn run(path: &[u8]) {
-    io::print_decimal(STDOUT_FILENO, right_in(path) as u64);
-    say(b" right in ");
-    say(path);
-    say(b"\n");
+fn run(rt: &(impl Files<File = File> + Print), path: &str) {
+    let right = right_in(rt, path);
+    let _ = println!(rt; "{right} right in {path}");
 }
 
-fn main() {
-    run(b"damaged.rsp");
-    run(b"SHA256ShortMsg.rsp");
-    run(b"SHA256LongMsg.rsp");
-    run(b"SHA256Monte.rsp");
+fn main(rt: HostRuntime) {
+    run(&rt, "damaged.rsp");
+    run(&rt, "SHA256ShortMsg.rsp");
+    run(&rt, "SHA256LongMsg.rsp");
+    run(&rt, "SHA256Monte.rsp");
 }

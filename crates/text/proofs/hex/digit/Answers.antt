@@ -1,0 +1,14 @@
+-- `text::hex::digit` meets its contract.
+-- Assumes nothing.
+use borrow.Author.Tests.{lt-ltb, le-ltb}
+use Rattle.lists.specs.Pick.{pick}
+use Rattle.text.specs.Hex.{digit_of}
+use Rattle.text.proofs.hex.digit.Goals as goal
+
+pub returns-then-n-lt10 : goal.returns-then-n-lt10
+unfolding digit_of pick
+returns-then-n-lt10 c = rw (lt-ltb _ _ c.if-n-lt10.true)
+
+pub returns : goal.returns
+unfolding digit_of pick
+returns c = rw (le-ltb _ _ c.if-n-lt10.false)

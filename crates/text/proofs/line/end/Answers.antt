@@ -1,0 +1,34 @@
+-- `text::line::end` meets its contract. No byte before i is a newline.
+-- Assumes nothing.
+use native.Mathlib.Omega.{arith}
+use borrow.Author.Tests.{eq-eqb, ne_eqb}
+use Rattle.lists.specs.Scans.{scan-here, scan_on, scan-end}
+use Rattle.text.specs.Line.{is_newline}
+use Rattle.text.proofs.line.end.Goals as goal
+
+pub returns-then-text-i-eq10 : goal.returns-then-text-i-eq10
+returns-then-text-i-eq10 c =
+    let l = c.loop-i in
+    let s = c.args.text.now in
+    record {
+      found = scan-here is_newline 0 _ s l.i l.invariant.2 (omega arith) (eq-eqb _ 10 c.if-text-i-eq10.true);
+      after = omega arith;
+      inside = omega arith;
+    }
+
+pub loop-i-preserved : goal.loop-i-preserved
+loop-i-preserved c =
+    let l = c.loop-i in
+    let s = c.args.text.now in
+    (omega arith, omega arith, scan_on is_newline 0 _ s l.i l.invariant.2 (omega arith) (ne_eqb _ 10 c.if-text-i-eq10.false))
+
+pub returns : goal.returns
+returns c =
+    let l = c.loop-i in
+    let s = c.args.text.now in
+    record {
+      found = scan-end is_newline 0 _ s l.i l.invariant.2 (omega arith);
+      after = omega arith;
+      inside = omega
+          arith;
+    }
