@@ -28,7 +28,7 @@ ROOTS = {
     "read_only/Lives": ("FirstHalfOfLives", "SecondHalfOfLives"),
 }
 
-USE = re.compile(r"use Rattle·(\w+?)(?:·specs)?\.specs\.(?:laws\.)?(declared\.)?(\w+)(?:\.\w[\w-]*)?\.\{(.*)\}")
+USE = re.compile(r"use Rattle\.(?!std\b)(\w+)\.specs\.(?:laws\.)?(declared\.)?(\w+)(?:\.\w[\w-]*)?\.\{(.*)\}")
 SIGNATURE = re.compile(r" *(?:unfoldable |abbrev )?(?:pub )?([^\s(){}:]+(?: [^\s(){}:]+)*)(?: \{ℓ\})? : ")
 DATA = re.compile(r" *(?:pub )?(?:record|data) ([^\s(){}:]+)")
 MODULE = re.compile(r" *module _ (.*)where")
