@@ -1,6 +1,6 @@
 -- A message that comes in parts: its whole blocks are absorbed, and what is left finishes it.
 -- Assumes nothing.
-use Rattle.std.specs.Prelude.{List, ◌∷◌, ◌++◌, ℕ, ◌+◌, ◌-◌, ◌*◌, ◌/◌, ◌%◌, length, replicate}
+use Rattle.std.specs.Prelude.{List, ◌∷◌, ◌++◌, ℕ, ◌-◌, ◌*◌, ◌/◌, ◌%◌, length, replicate}
 use Rattle.lists.specs.BigEndian.{big_endian}
 use Rattle.compression.specs.declared.State.{State}
 use Rattle.digest.specs.Sha256.{hash, bytes}

@@ -1,6 +1,6 @@
 -- The parts between slashes, one after the other from the front; a path's components for any bytes.
 -- Assumes nothing.
-use Rattle.std.specs.Prelude.{Bool, ◌||◌, List, [], ◌∷◌, ℕ, ◌-◌, eqb}
+use Rattle.std.specs.Prelude.{Bool, ◌||◌, List, [], ◌∷◌, ℕ, eqb}
 use Rattle.filesystem.specs.Paths.{Path, slash, split}
 
 -- the components of any bytes: the parts behind the first byte, and none where there is nothing behind it

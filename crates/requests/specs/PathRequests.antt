@@ -3,7 +3,6 @@
 -- Assumes nothing.
 use Rattle.std.specs.Prelude.{Bool, ◌||◌, List, ◌∷◌, ◌++◌, ℕ, eqb, leb, length}
 use Rattle.lists.specs.Pick.{pick}
-use Rattle.rules.specs.Calls.{create, mkdir, chmod}
 
 -- create, mkdir and chmod have a mode, open has rights
 unfoldable pub has_number : ℕ → Bool

@@ -15,22 +15,20 @@ unfolding meant
 returns-then-s-eq0 c = (kind_missing ID_BYTES c.args.s.now c.if-s-eq0.true, tt)
 
 pub read_by_handle-requires : goal.read_by_handle-requires
-read_by_handle-requires c =
-    (
-      omega arith,
-      bytes_of c.args.s.now (λ i. omega (arith, c.type_inv.s i)),
-      omega arith,
-      omega arith,
-    )
+read_by_handle-requires c = (
+  omega arith,
+  bytes_of c.args.s.now (λ i. omega (arith, c.type_inv.s i)),
+  omega arith,
+  omega arith,
+)
 
 pub read_on_maps-requires : goal.read_on_maps-requires
-read_on_maps-requires c =
-    (
-      omega arith,
-      bytes_of c.args.s.now (λ i. omega (arith, c.type_inv.s i)),
-      omega arith,
-      omega arith,
-    )
+read_on_maps-requires c = (
+  omega arith,
+  bytes_of c.args.s.now (λ i. omega (arith, c.type_inv.s i)),
+  omega arith,
+  omega arith,
+)
 
 pub returns-in-16 : goal.returns-in-16
 unfolding read_fields pick

@@ -22,9 +22,8 @@ returns-then-is_map_size c =
 
 pub returns : goal.returns
 unfolding meant
-returns c =
-    (
-      alone_refused 4 is_map_size map_memory c.args.s.now c.requires.0 _ c.u32_at-size.ensures
-          c.if-s.false (sym c.is_map_size.ensures ∙ c.if-is_map_size.false),
-      tt,
-    )
+returns c = (
+  alone_refused 4 is_map_size map_memory c.args.s.now c.requires.0 _ c.u32_at-size.ensures
+      c.if-s.false (sym c.is_map_size.ensures ∙ c.if-is_map_size.false),
+  tt,
+)

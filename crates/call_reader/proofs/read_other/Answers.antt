@@ -25,13 +25,12 @@ read_truncate-requires c =
     (omega arith, bytes_of s (λ i. omega (arith, c.type_inv.s i)))
 
 pub read_on_maps-requires : goal.read_on_maps-requires
-read_on_maps-requires c =
-    (
-      omega arith,
-      bytes_of c.args.s.now (λ i. omega (arith, c.type_inv.s i)),
-      omega arith,
-      omega arith,
-    )
+read_on_maps-requires c = (
+  omega arith,
+  bytes_of c.args.s.now (λ i. omega (arith, c.type_inv.s i)),
+  omega arith,
+  omega arith,
+)
 
 pub returns-in-7 : goal.returns-in-7
 unfolding read_fields pick

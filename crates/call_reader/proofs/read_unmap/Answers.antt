@@ -14,8 +14,7 @@ returns-then-s c =
 
 pub returns : goal.returns
 unfolding meant
-returns c =
-    (
-      alone_allowed 8 (λ a. true) unmap c.args.s.now c.requires.0 _ c.u64_at-address.ensures c.if-s.false refl,
-      number_below 8 1 c.args.s.now _ c.requires.1 (omega arith) c.u64_at-address.ensures,
-    )
+returns c = (
+  alone_allowed 8 (λ a. true) unmap c.args.s.now c.requires.0 _ c.u64_at-address.ensures c.if-s.false refl,
+  number_below 8 1 c.args.s.now _ c.requires.1 (omega arith) c.u64_at-address.ensures,
+)

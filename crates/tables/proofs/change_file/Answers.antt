@@ -27,9 +27,9 @@ returns c =
       );
       m_unchanged = λ x. absurd (true≢false x);
       keeps_length = omega (
-          arith,
-          c.set_size.ensures.1,
-          c.keep_digests.ensures.1,
-          c.move_digests.ensures.1,
-        );
+        arith,
+        c.set_size.ensures.1,
+        c.keep_digests.ensures.1,
+        c.move_digests.ensures.1,
+      );
     }

@@ -1,7 +1,6 @@
 -- `tables::count_children` meets its contract. The loop's invariant: the count is that so far and the count in what
 -- remains. Assumes nothing.
 use mathlib.Core.Path.{◌≡◌, sym, ◌∙◌}
-use mathlib.Core.Logic.{⊎_elim}
 use native.Mathlib.Omega.{arith}
 use lib.ListN.{length}
 use borrow.Author.Tests.{eq-eqb, ne_eqb}
@@ -20,13 +19,13 @@ loop-i-preserved c =
     let ns = (mem_of a.m.now).nodes in
     let f : length ns ≡ _ = length-nodes a.m.now in
     elim c.if-node_parent-parent.branch [
-      then-node_parent-parent w ↦ (
+      | then-node_parent-parent w ↦ (
         omega arith,
         omega arith,
         rw w.c-is (count_hit no_node ns a.n l.i (omega arith) (has_parent a.parent)
             l.c l.invariant.2 (omega arith) (eq-eqb _ _ (sym c.node_parent.ensures ∙ w.if-node_parent-parent.true))),
       )
-    | else-node_parent-parent w ↦ (
+      | else-node_parent-parent w ↦ (
         omega arith,
         omega arith,
         rw w.c-is (count_miss no_node ns a.n l.i (omega arith) (has_parent a.parent)

@@ -50,9 +50,9 @@ returns c =
       );
       m_unchanged = λ x. absurd (true≢false x);
       keeps_length = omega (
-          arith,
-          c.set_size-2.ensures.1,
-          c.put_rows.ensures.1,
-          c.move_digests.ensures.1,
-        );
+        arith,
+        c.set_size-2.ensures.1,
+        c.put_rows.ensures.1,
+        c.move_digests.ensures.1,
+      );
     }
