@@ -74,7 +74,8 @@ def rattle(verb, name, folder, uses, *more):
     """The command that checks or builds a crate over the libraries that lie in crates/*/out."""
     crates, at = listed(), kit()
     every = dict.fromkeys(it for use in uses if use in crates for it in [*below(use, crates), use])
-    words = ["rattle", verb, "--crate-name", name, "src/lib.rt"]
+    root = next(it for it in ("src/main.rt", "src/lib.rt") if (pathlib.Path(folder) / it).is_file())
+    words = ["rattle", verb, "--crate-name", name, root]
     for it in ["std", *(use for use in uses if use not in crates)]:
         words += ["--extern", f"{it}={at}/rlibs/{it}.rlib"]
     words += ["-L", f"dependency={at}/rlibs"]
