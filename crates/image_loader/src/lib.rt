@@ -1,5 +1,7 @@
 // The tables of a sound image, in any layout, put into the memory. `w` and `maker` are the layout: the bytes of an id,
 // and those of a record's maker.
+#![tactic(auto)]
+
 ghost use Rattle.std.specs.Prelude.{true, ◌≡◌, ◌+◌, ◌*◌, ◌≤◌, ◌<◌, length, drop, set};
 ghost use Rattle.lists.specs.LittleEndian.{decode};
 ghost use Rattle.lists.specs.Parts.{overwrite, part};

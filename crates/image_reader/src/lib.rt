@@ -1,5 +1,7 @@
 // An image of any bytes, in any layout (SPECIFICATION 8.6): whether it is sound, whatever the order of its records.
 // `w` and `maker` are the layout: the bytes of an id, and those of a record's maker.
+#![tactic(auto)]
+
 ghost use Rattle.std.specs.Prelude.{true, ◌&&◌, ◌≡◌, ◌+◌, ◌*◌, ◌%◌, ◌≤◌, ◌<◌, length};
 ghost use Rattle.filesystem.specs.Image.{in_limits, is_named, same_child, sound_nodes, parse};
 ghost use Rattle.filesystem.specs.Layouts.{layout, IsLayout};

@@ -1,5 +1,7 @@
 // A read by handle: begun, done at once or waiting for its first page; and a page that came, judged, staged or put into
 // the answer buffer.
+#![tactic(auto)]
+
 ghost use Rattle.std.specs.Prelude.{true, List, ◌++◌, ◌≡◌, ℕ, ◌<◌, ◌≤◌, ◌+◌, ◌*◌, length, take};
 ghost use Rattle.filesystem.specs.Tables.{NODES, node_at, open_at, PAGE_BYTES, FILE_BYTES, DATA_BYTES};
 ghost use Rattle.rules.specs.Calls.{read};

@@ -13,12 +13,6 @@ bounds-image-front c =
     let a = c.args in
     omega (arith, maker_length a.w a.maker c.requires.0.1)
 
--- TODO Need-overflow-cast-result
--- cast-result : tie.Need-overflow-cast-result
--- cast-result c =
---     let a = c.before.args in
---     omega (arith, c.shared-slice-known.given (a.at + 2 * a.w + a.maker + 7 - 1))
-
 pub returns : goal.returns
 unfolding record_end
 returns c =

@@ -14,10 +14,6 @@ returns-then-reply-at-lt-ENTRY_FRONT c =
     let f = end-front ID_BYTES a.reply.now a.at in
     end_cut ID_BYTES a.reply.now a.at (omega arith)
 
--- TODO Need-overflow-cast-size
--- cast-size : tie.Need-overflow-cast-size
--- cast-size c = omega (arith, c.shared-slice-known.given (c.before.before.args.at + ID_BYTES + 1))
-
 pub returns-then-reply-end : goal.returns-then-reply-end
 unfolding entry_end
 returns-then-reply-end c = let a = c.args in end_cut ID_BYTES a.reply.now a.at (omega arith)
