@@ -12,7 +12,6 @@ use Rattle.filesystem.specs.Tables.{Node, present}
 use Rattle.filesystem.specs.Paths.{child_at}
 use Rattle.moves.specs.Moves.{move_number}
 use Rattle.renames.specs.Judged.{by_number, own_checks, own_answer, name_own}
-use Rattle.renames.specs.declared.Renaming.{Renaming}
 use Rattle.renames.specs.declared.Renaming.TheVariants.{Move, Same, Refused}
 
 pub number_refuses : (k d at b : ℕ) → (b ≡ 0 → ⊥) → by_number k d at b ≡ Refused b

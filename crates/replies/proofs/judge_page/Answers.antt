@@ -6,10 +6,10 @@ use Rattle.replies.proofs.judge_page.Goals as goal
 
 pub returns-then-reply-ne-PAGE_BYTES : goal.returns-then-reply-ne-PAGE_BYTES
 returns-then-reply-ne-PAGE_BYTES c = record {
-      value = λ h f g. page_short _ c.args.reply.now c.if-reply-ne-PAGE_BYTES.true;
-      reply_len = λ e. absurd
+  value = λ h f g. page_short _ c.args.reply.now c.if-reply-ne-PAGE_BYTES.true;
+  reply_len = λ e. absurd
       (omega arith);
-    }
+}
 
 pub returns-then-is_page : goal.returns-then-is_page
 returns-then-is_page c =
