@@ -1,5 +1,7 @@
 // Saves and loads, once the guard is known to be running and idle: the numbers that are left, in their order, and the
 // work.
+#![tactic(auto)]
+
 ghost use Rattle.std.specs.Prelude.{◌≡◌, ◌≤◌, length};
 ghost use Rattle.filesystem.specs.Image.{saved, print, image_length};
 ghost use Rattle.filesystem.specs.Tables.{ID_BYTES, NODES, PAGES, DIGEST_BYTES, page_total};

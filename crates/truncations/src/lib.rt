@@ -1,6 +1,8 @@
 // A truncation by handle. To fewer bytes: inside a page that page is fetched, stored with zeros from the new end on,
 // then the file is cut; on a page's edge it is only cut. To more bytes it is only cut, wherever its old end lies. To
 // the same size it is done at once.
+#![tactic(auto)]
+
 ghost use Rattle.std.specs.Prelude.{◌≡◌, ℕ, ◌<◌, ◌≤◌, ◌/◌, length};
 ghost use Rattle.filesystem.specs.Tables.{NODES, PAGE_BYTES, FILE_BYTES, open_at};
 ghost use Rattle.rules.specs.Calls.{truncate};

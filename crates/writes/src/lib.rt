@@ -1,5 +1,7 @@
 // A write by handle: begun, its pages fetched where a byte of them stays, made, stored in rising order; done when the
 // last status came, or with the pages that are stored where the disk is full.
+#![tactic(auto)]
+
 ghost use Rattle.std.specs.Prelude.{List, ◌≡◌, ℕ, ◌<◌, ◌≤◌, ◌+◌, length};
 ghost use Rattle.filesystem.specs.Tables.{NODES, PAGE_BYTES, FILE_BYTES, DATA_BYTES};
 ghost use Rattle.rules.specs.Calls.{write};
