@@ -2,4 +2,3 @@ pub mod Guarantee
 pub mod Demand1
 pub mod Demand2
 pub mod Chains
-pub mod laws

@@ -7,7 +7,6 @@ use lib.ListN.{length, take, replicate, length-set}
 use Rattle.memory.specs.Layout.{mem_of}
 use Rattle.tables.specs.View.{tables_in}
 use Rattle.tables.specs.laws.RowsInUse.{count-nodes}
-use mathlib.Core.Bool.{true}
 use Rattle.filesystem.specs.Tables.{ID_BYTES, NODES}
 use Rattle.lists.specs.Cells.{zeros}
 use Rattle.listings.specs.laws.ListingLaws.{left-first, count-first, left-next, count_next}

@@ -7,12 +7,12 @@ use Rattle.renames.proofs.by_number.Goals as goal
 
 pub returns-then-b-ne0 : goal.returns-then-b-ne0
 returns-then-b-ne0 c = record {
-      value = sym (number_refuses _ _ _ _ c.if-b-ne0.true);
-      moves = λ i j x e. absurd (let z : ◌≡◌ {A = ℕ} 0 1 = cc in omega arith);
-    }
+  value = sym (number_refuses _ _ _ _ c.if-b-ne0.true);
+  moves = λ i j x e. absurd (let z : ◌≡◌ {A = ℕ} 0 1 = cc in omega arith);
+}
 
 pub returns : goal.returns
 returns c = record {
-      value = sym (number_moves _ _ _ _ c.if-b-ne0.false);
-      moves = λ i j x e. (cc, cc, cc);
-    }
+  value = sym (number_moves _ _ _ _ c.if-b-ne0.false);
+  moves = λ i j x e. (cc, cc, cc);
+}
