@@ -2,7 +2,7 @@
 -- is what follows for a whole run, as types: a memory that was made fresh, then any entries in any order, whatever the
 -- host replies; calls are handed to the guard's entry throughout, or throughout to the read-only guard's. The claims
 -- speak of what C hands in, of what it gets back and finds in its buffers, and of the last memory; the history is made
--- of these too. Proofs stand in specs/laws/ChainLaws.antt.
+-- of these too. Proofs stand in proofs/laws/ChainLaws.antt.
 -- Assumes nothing.
 use Rattle.std.specs.Prelude.{◌≡◌, ◌⊎◌, Bool, true, false, List, [], ◌∷◌, map, ℕ, zero, suc, ◌≤◌, ℤ, pos, negsuc, length, take}
 use Rattle.lists.specs.All.{All}
