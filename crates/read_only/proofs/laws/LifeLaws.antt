@@ -1,5 +1,5 @@
 -- Both halves over lives of either kind, proved: a read-only life is a life of the guard over what it takes, and what
--- it refuses follows from that (specs/laws/OutcomeLaws.antt).
+-- it refuses follows from that (proofs/laws/OutcomeLaws.antt).
 -- Assumes nothing.
 use Rattle.std.specs.Prelude.{◌≡◌, Bool, ℕ}
 use Rattle.std.proofs.Math.Path.{refl, ap, sym, subst}
