@@ -1,5 +1,7 @@
 // A reply, whatever its bytes are, taken by the pending call: the guard stops, the next request goes out, or the call
 // is done.
+#![tactic(auto)]
+
 ghost use Rattle.std.specs.Prelude.{◌≡◌, ◌≤◌, length};
 ghost use Rattle.filesystem.specs.Tables.{DATA_BYTES};
 ghost use Rattle.memory.specs.Memories.{IsMemory};
