@@ -99,4 +99,3 @@ loop-i-preserved c =
       i.indexed u,
       n.indexed v,
     )
-

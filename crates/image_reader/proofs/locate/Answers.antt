@@ -47,4 +47,3 @@ loop-i-preserved c =
       omega (arith, k, e.2, l.invariant.3),
       places_next y a.image.now l.starts l.i l.at l.invariant.4 l.invariant.2 (omega (arith, l.invariant.1)),
     )
-

@@ -54,4 +54,3 @@ loop-k-preserved c =
           (omega (arith, p.2.few)) h ((f.ensures.0 h).0 ∙ c.record_parent.ensures)
           (f.ensures.0 h).1 (omega (arith, e)),
     )
-

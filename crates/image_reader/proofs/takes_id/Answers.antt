@@ -24,4 +24,3 @@ returns c =
       );
       indexed = λ t. subst (λ (x : List ℕ). Indexed x key (a.i + 1)) (sym e) d;
     }
-

@@ -10,16 +10,15 @@ pub open_descriptor-d-requires : goal.open_descriptor-d-requires
 open_descriptor-d-requires c = ((in_range _ _ c.load-g.ensures).opened, omega arith)
 
 pub wait_further-requires : goal.wait_further-requires
-wait_further-requires c =
-    (
-      omega (arith, c.requires.0.0),
-      c.requires.0.1,
-      omega arith,
-      omega arith,
-      (in_range _ _ c.load-g.ensures).page,
-      omega
-          arith,
-    )
+wait_further-requires c = (
+  omega (arith, c.requires.0.0),
+  c.requires.0.1,
+  omega arith,
+  omega arith,
+  (in_range _ _ c.load-g.ensures).page,
+  omega
+      arith,
+)
 
 pub overflow_cast-g : goal.overflow_cast-g
 overflow_cast-g c = record

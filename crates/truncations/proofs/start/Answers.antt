@@ -13,15 +13,14 @@ returns-then-g-eq0 c =
     )
 
 pub ask_page-requires : goal.ask_page-requires
-ask_page-requires c =
-    (
-      (omega (arith, c.requires.0.0), c.requires.0.1),
-      (omega arith, omega arith),
-      omega
-          (arith, (in_range _ _ c.load-g.ensures).size),
-      omega arith,
-      omega (arith, c.requires.2),
-    )
+ask_page-requires c = (
+  (omega (arith, c.requires.0.0), c.requires.0.1),
+  (omega arith, omega arith),
+  omega
+      (arith, (in_range _ _ c.load-g.ensures).size),
+  omega arith,
+  omega (arith, c.requires.2),
+)
 
 pub returns : goal.returns
 returns c =

@@ -20,16 +20,15 @@ write_store_cut-l-requires c =
     (c.requires.4, c.requires.2, r.size, r.page)
 
 pub send_store-requires : goal.send_store-requires
-send_store-requires c =
-    (
-      (omega (arith, c.requires.0.0), c.requires.0.1),
-      (omega arith, omega arith),
-      c.requires.1,
-      (in_range _ _
-          c.load-g.ensures).page,
-      omega arith,
-      omega (arith, c.requires.4),
-    )
+send_store-requires c = (
+  (omega (arith, c.requires.0.0), c.requires.0.1),
+  (omega arith, omega arith),
+  c.requires.1,
+  (in_range _ _
+      c.load-g.ensures).page,
+  omega arith,
+  omega (arith, c.requires.4),
+)
 
 pub returns : goal.returns
 returns c =

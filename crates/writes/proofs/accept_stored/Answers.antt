@@ -35,15 +35,14 @@ pub overflow_add-page : goal.overflow_add-page
 overflow_add-page c = record { fits = omega (arith, (in_range _ _ c.load-g.ensures).page) }
 
 pub returns-then-page-gt-FILE_PAGES : goal.returns-then-page-gt-FILE_PAGES
-returns-then-page-gt-FILE_PAGES c =
-    (
-      λ d u w h. absurd (omega (
-        arith,
-        next_most d c.args.m.now h _ c.load-g.ensures c.requires.0 _ refl,
-        c.if-page-gt-FILE_PAGES.true,
-      )),
-      refl,
-    )
+returns-then-page-gt-FILE_PAGES c = (
+  λ d u w h. absurd (omega (
+    arith,
+    next_most d c.args.m.now h _ c.load-g.ensures c.requires.0 _ refl,
+    c.if-page-gt-FILE_PAGES.true,
+  )),
+  refl,
+)
 
 pub returns : goal.returns
 returns c =

@@ -37,13 +37,12 @@ returns-then-cursor-gt-FILE_BYTES c =
     )
 
 pub carry_on-requires : goal.carry_on-requires
-carry_on-requires c =
-    (
-      write-call c.args.m.now _ _ _ _ _ c.wait_write.ensures.m_value,
-      omega (arith, c.if-cursor-gt-FILE_BYTES.false),
-      omega arith,
-      omega (arith, c.requires.3),
-    )
+carry_on-requires c = (
+  write-call c.args.m.now _ _ _ _ _ c.wait_write.ensures.m_value,
+  omega (arith, c.if-cursor-gt-FILE_BYTES.false),
+  omega arith,
+  omega (arith, c.requires.3),
+)
 
 pub returns : goal.returns
 returns c =
