@@ -1,6 +1,8 @@
 // The guard: one memory that the caller lends, and its entries. No entry requires anything; what each promises stands
 // in specs/Promise.antt.
 // Functions with `m` work on a memory of just the guard's size; the entries lend them the front of what they get.
+#![tactic(auto)]
+
 ghost use Rattle.std.specs.Prelude.{◌||◌, [], ◌≡◌, ltb, length};
 ghost use Rattle.filesystem.specs.Image.{current};
 ghost use Rattle.filesystem.specs.Tables.{DIGEST_BYTES};
