@@ -1,5 +1,7 @@
 // Where code and theorem meet: the entries are the links of the chains that the claims speak of (specs/Chains.antt).
 // Each function is one entry; its promise is the link, so that an entry which promised less would not be proved here.
+#![tactic(auto)]
+
 ghost use Rattle.std.specs.Prelude.{Bool, true, false, [], length};
 ghost use Rattle.filesystem.specs.Image.{current};
 ghost use Rattle.rules.specs.Skeleton.{call, reply, load};
