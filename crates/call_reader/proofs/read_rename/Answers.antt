@@ -10,10 +10,6 @@ pub returns-then-s-eq1 : goal.returns-then-s-eq1
 unfolding meant
 returns-then-s-eq1 c = (two_missing rename c.args.s.now (omega arith), tt)
 
--- TODO Need-overflow-cast-second
--- cast-second : tie.Need-overflow-cast-second
--- cast-second c = record { fits = omega (arith, c.shared-slice-known.given 1) }
-
 pub returns-then-s-second : goal.returns-then-s-second
 unfolding meant
 returns-then-s-second c =

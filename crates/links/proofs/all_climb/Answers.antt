@@ -8,18 +8,6 @@ loop-k-init c =
     let a = c.args in
     (c.requires, same_alike a.to.now a.far.now, reached_first a.to.now a.far.now)
 
--- TODO Need-same-length
--- same_length : tie.Need-same-length invariant-loop decreases-loop
--- same_length c =
---     let p = c.before.before.before.before.before.before.before.before.requires in
---     c.before.before.before.before.before.loop.invariant.0.to_size ∙ sym p.to_size
-
--- TODO Need-same-length-2
--- same-length-2 : tie.Need-same-length-2 invariant-loop decreases-loop
--- same-length-2 c =
---     let p = c.before.before.before.before.before.before.before.before.requires in
---     c.before.before.before.before.before.loop.invariant.0.far_size ∙ sym p.far_size
-
 pub loop-k-preserved : goal.loop-k-preserved
 loop-k-preserved c =
     let shorten = c.shorten in
@@ -29,13 +17,3 @@ loop-k-preserved c =
       alike-after l.invariant.1 shorten.ensures.1,
       reached_next l.invariant.2 (omega arith) (l.invariant.1.1 _ _ (climb.ensures.0 (omega arith))),
     )
-
--- TODO Need-same-length-3
--- same-length-3 : tie.Need-same-length-3 invariant-loop decreases-loop
--- same-length-3 c = let p = c.before.before.before.before.requires in
---     c.before.loop.invariant.0.to_size ∙ sym p.to_size
-
--- TODO Need-same-length-4
--- same-length-4 : tie.Need-same-length-4 invariant-loop decreases-loop
--- same-length-4 c = let p = c.before.before.before.before.requires in
---     c.before.loop.invariant.0.far_size ∙ sym p.far_size

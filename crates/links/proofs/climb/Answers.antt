@@ -6,10 +6,6 @@ use Rattle.links.specs.Climbs.{Leads, root}
 use Rattle.links.specs.laws.ClimbLaws.{onward-step, onward-long}
 use Rattle.links.proofs.climb.Goals as goal
 
--- TODO Need-overflow-cast-total
--- cast-total : tie.Need-overflow-cast-total invariant-loop decreases-loop
--- cast-total c = omega (arith, c.shared-slice-known.given c.before.before.loop.a)
-
 pub returns-then-total-gt-PATH_BYTES : goal.returns-then-total-gt-PATH_BYTES
 returns-then-total-gt-PATH_BYTES c =
     let a = c.args in
@@ -17,10 +13,6 @@ returns-then-total-gt-PATH_BYTES c =
       λ h. absurd (omega arith),
       onward-long a.to.now a.far.now a.k l.a l.total l.invariant.2 (omega arith),
     )
-
--- TODO Need-overflow-cast-a
--- cast-a : tie.Need-overflow-cast-a invariant-loop decreases-loop
--- cast-a c = omega (arith, c.shared-slice-known2.given c.before.before.before.before.loop.a)
 
 pub loop-a-preserved : goal.loop-a-preserved
 loop-a-preserved c =

@@ -7,14 +7,6 @@ use Rattle.links.specs.Climbs.{Leads}
 use Rattle.links.specs.laws.ClimbLaws.{step, alike-after, straight_alike, straight_linked}
 use Rattle.links.proofs.shorten.Goals as goal
 
--- TODO Need-overflow-cast-next
--- cast-next : tie.Need-overflow-cast-next invariant-loop decreases-loop
--- cast-next c = omega (arith, c.slice-known.given c.before.before.loop.a)
-
--- TODO Need-overflow-cast-step
--- cast-step : tie.Need-overflow-cast-step invariant-loop decreases-loop
--- cast-step c = omega (arith, c.slice-known2.given c.before.before.before.loop.a)
-
 pub loop-a-preserved : goal.loop-a-preserved
 loop-a-preserved c =
     let l = c.loop-a in
@@ -31,11 +23,3 @@ loop-a-preserved c =
       k.0 _ _ (subst (Leads l.to l.far (get_or l.to l.a 0)) q v),
       alike-after l.invariant.4 k,
     )
-
--- TODO Need-same-length
--- same_length : tie.Need-same-length invariant-loop decreases-loop
--- same_length c = let p = c.before.before.requires.2 in c.before.loop.invariant.2.to_size ∙ sym p.to_size
-
--- TODO Need-same-length-2
--- same-length-2 : tie.Need-same-length-2 invariant-loop decreases-loop
--- same-length-2 c = let p = c.before.before.requires.2 in c.before.loop.invariant.2.far_size ∙ sym p.far_size

@@ -31,11 +31,3 @@ loop-k-preserved c =
           (omega (arith, p.1)) f.ensures.0 q.is_parent (eqb-true _ 2 q.is_directory_lem)
           (omega (arith, named)),
     )
-
--- TODO Need-same-length
--- same_length : tie.Need-same-length invariant-loop decreases-loop
--- same_length c = c.before.loop.invariant.1.to_size ∙ sym c.before.before.before.before.before.requires.2
-
--- TODO Need-same-length-2
--- same-length-2 : tie.Need-same-length-2 invariant-loop decreases-loop
--- same-length-2 c = c.before.loop.invariant.1.far_size ∙ sym c.before.before.before.before.before.requires.3

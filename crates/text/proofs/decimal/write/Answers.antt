@@ -38,10 +38,6 @@ loop-rest-preserved c =
       λ k p. take-set-le k l.out l.i _ (omega arith) ∙ l.invariant.4 k (omega arith),
     )
 
--- TODO Need-same-length
--- same_length : tie.Need-same-length invariant-loop decreases-loop
--- same_length c = simp length-set (omega arith)
-
 pub returns : goal.returns
 returns c =
     let a = c.args in
