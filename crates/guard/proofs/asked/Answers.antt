@@ -1,6 +1,5 @@
 -- `guard::asked` meets its contract. Assumes nothing.
 use mathlib.Core.Path.{ap, sym}
-use Rattle.outcomes.specs.contracts.Outcome as outcome
 use Rattle.outcomes.specs.Values.{kind_of, value_of, length_of}
 use Rattle.guard.specs.Promise.{shown_as}
 use Rattle.guard.proofs.asked.Goals as goal
