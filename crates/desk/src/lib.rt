@@ -1,4 +1,6 @@
 // The desk: lines read, handed in to the guard, their answers' lines written (SPECIFICATION 12).
+#![tactic(auto)]
+
 ghost use Rattle.std.specs.Prelude.{◌+◌, ◌-◌, ◌*◌, ◌≤◌, length};
 ghost use Rattle.lists.specs.Parts.{part};
 ghost use Rattle.desk_lines.specs.Lines.{most_bytes, line_of, call_line, reply_line};

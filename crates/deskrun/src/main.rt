@@ -1,5 +1,7 @@
 // The program `deskrun` (SPECIFICATION 12): a fresh guard, lines from standard input, one line out for each. Before it
 // waits for input it has written every answer; it never holds more than one buffer of input and one of output.
+#![tactic(auto)]
+
 ghost use Rattle.std.specs.Prelude.{◌+◌, ◌*◌, ◌≤◌, length};
 ghost use Rattle.desk_lines.specs.Lines.{most_bytes};
 
