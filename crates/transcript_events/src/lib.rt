@@ -1,5 +1,7 @@
 // Events handed to a guard in hexadecimal digits: what comes back is the line of the answer, in deskrun's words, at the
 // front of the caller's buffer, and its length with the line feed.
+#![tactic(auto)]
+
 pub mod handed;
 pub mod images;
 

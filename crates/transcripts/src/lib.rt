@@ -10,6 +10,8 @@
 //     l IMAGE DIGEST      a load
 //     = ANSWER            the answer to the event above, in deskrun's words
 //     p WORDS             these words are printed, with the answer above
+#![tactic(auto)]
+
 ghost use Rattle.std.specs.Prelude.{◌≤◌, length};
 ghost use Rattle.transcript_lines.specs.Room.{answer_line};
 
