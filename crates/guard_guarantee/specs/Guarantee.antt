@@ -32,13 +32,13 @@ agreement_of_lives = first-half_of-lives delivered delivered_fit
 pub no_stop_of_lives : SecondHalfOfLives delivered
 no_stop_of_lives = second_half_of_lives delivered delivered_fit
 
--- and where guards and read_only guards take turns
+-- and where guards and read-only guards take turns
 pub agreement_with_readers : FirstWithReaders delivered
 agreement_with_readers = first_half_with_readers delivered delivered_fit
 
 pub no_stop_with_readers : SecondWithReaders delivered
 no_stop_with_readers = second_half_with_readers delivered delivered_fit
 
--- a read_only guard saves what it loaded
+-- a read-only guard saves what it loaded
 pub read_only : ReadOnlyClaim delivered
 read_only = read_only_claim delivered
