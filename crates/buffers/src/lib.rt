@@ -115,8 +115,12 @@ pub fn put_bytes(m: &mut [u8], at: usize, x: &[u8])
     requires { at + length x.now ≤ length m.old }
     ensures { Overwritten m at x.now }
 {
-    let end = at + x.len();
-    m[at..end].copy_from_slice(x);
+    let mut i = 0;
+    // the first i bytes are written
+    while i < x.len() {
+        m[at + i] = x[i];
+        i += 1;
+    }
 }
 
 // The same for eight to sixteen bytes: the first eight and the last eight.
