@@ -1,5 +1,3 @@
-#![tactic(auto)]
-
 // Replays stored lists of events, each with the answer that stands below it, and counts the answers that differ. A list
 // with a wrong answer
 // comes first.

@@ -1,5 +1,3 @@
-#![tactic(auto)]
-
 // The trials (SPECIFICATION 11.1), run: each with its answer.
 #![tactic(auto)]
 
