@@ -1,3 +1,4 @@
+pub mod FoundLaws
 pub mod SearchLaws
 pub mod ContentLaws
 pub mod ViewLaws

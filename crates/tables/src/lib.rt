@@ -15,33 +15,27 @@ ghost use Rattle.zero_page.specs.ZeroPage.{zero_page};
 ghost use Rattle.memory.specs.Layout.{mem_of, open_rows, with_digests};
 ghost use Rattle.memory.specs.Memories.{IsMemory, nodes_of, opens_of, was, Becomes};
 ghost use Rattle.memory.specs.Records.{node_of, open_of};
+ghost use Rattle.tables.specs.Found.{found};
 ghost use Rattle.tables.specs.View.{view_of, with_node, without_node, with_open, without_open, with_change};
 ghost use Rattle.tables.specs.View.{staged_digests, Changeable, Growable, Spans, Resizes, Bounded, Room};
 ghost use Rattle.tables.specs.View.{Others, FirstPlaces, hash_of};
 
 // ---- searches
 
-// The place of the node with this id, or n.
-pub fn find_id(m: &[u8], n: usize, id: u64) -> usize
+// The place of the node with this id.
+pub fn find_id(m: &[u8], n: usize, id: u64) -> Option<usize>
     requires { (n ≤ NODES) × IsMemory m.now }
-    ensures { result ≡ find_id (nodes_of n m.now) id }
+    ensures { result ≡ found n (find_id (nodes_of n m.now) id) }
 {
-    let mut i = 0;
-    // none before i has it
-    while i < n {
-        if memory::node_id(m, i) == id {
-            return i;
-        }
-        i += 1;
-    }
-    i
+    (0..n).find(|i| memory::node_id(m, *i) == id)
 }
 
 // Whether k is the place of the node with this id: ids differ among sound nodes, so where node k has it, the search
 // would find it too.
 fn is_place(m: &[u8], n: usize, id: u64, k: usize) -> bool
     requires { (n ≤ NODES) × IsMemory m.now }
-    ensures { result ≡ true → (w : ℕ) → sound_nodes w (nodes_of n m.now) ≡ true → k ≡ find_id (nodes_of n m.now) id }
+    ensures { result ≡ true → (w : ℕ) → sound_nodes w (nodes_of n m.now) ≡ true
+        → Some k ≡ found n (find_id (nodes_of n m.now) id) }
 {
     if n <= k {
         return false;
@@ -50,12 +44,12 @@ fn is_place(m: &[u8], n: usize, id: u64, k: usize) -> bool
 }
 
 // The search with a place that is tried first.
-pub fn find_node(m: &[u8], n: usize, id: u64, hint: usize) -> usize
+pub fn find_node(m: &[u8], n: usize, id: u64, hint: usize) -> Option<usize>
     requires { (n ≤ NODES) × IsMemory m.now }
-    ensures { (w : ℕ) → sound_nodes w (nodes_of n m.now) ≡ true → result ≡ find_id (nodes_of n m.now) id }
+    ensures { (w : ℕ) → sound_nodes w (nodes_of n m.now) ≡ true → result ≡ found n (find_id (nodes_of n m.now) id) }
 {
     if is_place(m, n, id, hint) {
-        return hint;
+        return Some(hint);
     }
     find_id(m, n, id)
 }
@@ -77,12 +71,10 @@ fn hash(id: u64) -> usize
 fn list_places(m: &[u8], n: usize, places: &mut [u8; PLACES])
     requires { (n ≤ NODES) × IsMemory m.now }
 {
-    let mut k = 0;
-    while k < n {
+    for k in 0..n {
         let h = hash(memory::node_id(m, k));
         places[limits::NODES + k] = places[h];
         places[h] = k as u8;
-        k += 1;
     }
     places[STEP] = 2;
 }
@@ -124,12 +116,18 @@ fn likely_place(m: &[u8], n: usize, id: u64, places: &mut [u8; PLACES]) -> usize
 }
 
 // find_node for many ids in any order: where the hint has another id, one of `places`, at first all 0, is tried.
-pub fn find_listed(m: &[u8], n: usize, id: u64, hint: usize, places: &mut [u8; PLACES]) -> usize
+pub fn find_listed(
+    m: &[u8],
+    n: usize,
+    id: u64,
+    hint: usize,
+    places: &mut [u8; PLACES],
+) -> Option<usize>
     requires { (n ≤ NODES) × IsMemory m.now }
-    ensures { (w : ℕ) → sound_nodes w (nodes_of n m.now) ≡ true → result ≡ find_id (nodes_of n m.now) id }
+    ensures { (w : ℕ) → sound_nodes w (nodes_of n m.now) ≡ true → result ≡ found n (find_id (nodes_of n m.now) id) }
 {
     if is_place(m, n, id, hint) {
-        return hint;
+        return Some(hint);
     }
     find_node(m, n, id, likely_place(m, n, id, places))
 }
@@ -158,17 +156,17 @@ fn first_child(m: &[u8], n: usize, parent: u64) -> usize
     requires { (n ≤ NODES) × IsMemory m.now }
     ensures { (result ≤ n) × Others (was m.now).nodes parent 0 result }
 {
-    let mut i = 0;
-    while i + 8 <= n {
+    let blocks = n / 8;
+    for block in 0..blocks {
+        let i = 8 * block;
         if !four_others(m, i, parent) {
             return i;
         }
         if !four_others(m, i + 4, parent) {
             return i + 4;
         }
-        i += 8;
     }
-    i
+    8 * blocks
 }
 
 // Where the children of each parent may begin, by the hash of its id; 255 where no node has such a parent.
@@ -177,36 +175,32 @@ pub fn first_places(m: &[u8], n: usize) -> [u8; limits::NODES]
     ensures { FirstPlaces (was m.now).nodes n result }
 {
     let mut firsts = [255u8; limits::NODES];
-    let mut k = n;
-    // those of the nodes from k on
-    while 0 < k {
-        k -= 1;
+    // those of the nodes behind k
+    for k in (0..n).rev() {
         firsts[hash(memory::node_parent(m, k))] = k as u8;
     }
     firsts
 }
 
-// The place of the node with this parent and this name, or the count of nodes, where no node before `start` has the
-// parent.
-fn find_child_from(m: &[u8], nodes: usize, parent: u64, name: &[u8], start: usize) -> usize
+// The place of the node with this parent and this name, where no node before `start` has the parent.
+fn find_child_from(
+    m: &[u8],
+    nodes: usize,
+    parent: u64,
+    name: &[u8],
+    start: usize,
+) -> Option<usize>
     requires { (start ≤ nodes) × (nodes ≤ NODES) × IsMemory m.now }
-    ensures { Others (was m.now).nodes parent 0 start → result ≡ find_child (nodes_of nodes m.now) parent name.now }
+    ensures { Others (was m.now).nodes parent 0 start
+        → result ≡ found nodes (find_child (nodes_of nodes m.now) parent name.now) }
 {
-    let mut i = start;
-    // none before i is it
-    while i < nodes {
-        if memory::is_child(m, i, parent, name) {
-            return i;
-        }
-        i += 1;
-    }
-    i
+    (start..nodes).find(|i| memory::is_child(m, *i, parent, name))
 }
 
 // The same, whatever stands where.
-pub fn find_child(m: &[u8], nodes: usize, parent: u64, name: &[u8]) -> usize
+pub fn find_child(m: &[u8], nodes: usize, parent: u64, name: &[u8]) -> Option<usize>
     requires { (nodes ≤ NODES) × IsMemory m.now }
-    ensures { result ≡ find_child (nodes_of nodes m.now) parent name.now }
+    ensures { result ≡ found nodes (find_child (nodes_of nodes m.now) parent name.now) }
 {
     find_child_from(m, nodes, parent, name, first_child(m, nodes, parent))
 }
@@ -218,15 +212,15 @@ pub fn find_child_by(
     parent: u64,
     name: &[u8],
     firsts: &[u8; limits::NODES],
-) -> usize
+) -> Option<usize>
     requires { (nodes ≤ NODES) × IsMemory m.now × FirstPlaces (mem_of m.now).nodes nodes firsts.now }
-    ensures { result ≡ find_child (nodes_of nodes m.now) parent name.now }
+    ensures { result ≡ found nodes (find_child (nodes_of nodes m.now) parent name.now) }
 {
     let first = to_place(firsts[hash(parent)]);
     if first == 0 {
         return find_child(m, nodes, parent, name);
     }
-    find_child_from(m, nodes, parent, name, numbers::smaller(first, nodes))
+    find_child_from(m, nodes, parent, name, first.min(nodes))
 }
 
 // How many nodes have this parent.
@@ -235,47 +229,29 @@ pub fn count_children(m: &[u8], n: usize, parent: u64) -> usize
     ensures { result ≡ length (children (nodes_of n m.now) parent) }
 {
     let mut c = 0;
-    let mut i = 0;
     // c of the first i are
-    while i < n {
+    for i in 0..n {
         if memory::node_parent(m, i) == parent {
             c += 1;
         }
-        i += 1;
     }
     c
 }
 
-// The place of the open file with this handle, or o.
-pub fn find_handle(m: &[u8], o: usize, handle: u64) -> usize
+// The place of the open file with this handle.
+pub fn find_handle(m: &[u8], o: usize, handle: u64) -> Option<usize>
     requires { (o ≤ open_rows) × IsMemory m.now }
-    ensures { result ≡ find_handle (opens_of o m.now) handle }
+    ensures { result ≡ found o (find_handle (opens_of o m.now) handle) }
 {
-    let mut i = 0;
-    // none before i has it
-    while i < o {
-        if memory::open_handle(m, i) == handle {
-            return i;
-        }
-        i += 1;
-    }
-    i
+    (0..o).find(|i| memory::open_handle(m, *i) == handle)
 }
 
-// The place of the open file with this descriptor, or o: no open file has it.
-pub fn find_descriptor(m: &[u8], o: usize, descriptor: u32) -> usize
+// The place of the open file with this descriptor.
+pub fn find_descriptor(m: &[u8], o: usize, descriptor: u32) -> Option<usize>
     requires { (o ≤ open_rows) × IsMemory m.now }
-    ensures { result ≡ find_descriptor (opens_of o m.now) descriptor }
+    ensures { result ≡ found o (find_descriptor (opens_of o m.now) descriptor) }
 {
-    let mut i = 0;
-    // none before i has it
-    while i < o {
-        if memory::open_descriptor(m, i) == descriptor {
-            return i;
-        }
-        i += 1;
-    }
-    i
+    (0..o).find(|i| memory::open_descriptor(m, *i) == descriptor)
 }
 
 // ---- pages
@@ -296,11 +272,9 @@ fn pages_on(m: &[u8], k: usize, s: usize, n: usize) -> usize
     ensures { (result ≡ page_total (nodes_of n m.now)) × (result ≤ n * 4194304) }
 {
     let mut t = s;
-    let mut i = k;
     // t pages in the first i nodes
-    while i < n {
+    for i in k..n {
         t += pages_for(memory::node_size(m, i));
-        i += 1;
     }
     t
 }
@@ -486,11 +460,9 @@ fn put_rows(m: &mut [u8], at: usize, count: usize, d: [u8; limits::DIGEST_BYTES]
     requires { (at + count ≤ PAGES) × IsMemory m.old }
     ensures { Becomes m (with_digests (overwrite (was m.old).digests at (replicate count d))) }
 {
-    let mut i = 0;
     // i of them are written
-    while i < count {
+    for i in 0..count {
         memory::put_digest(m, at + i, d);
-        i += 1;
     }
 }
 

@@ -12,6 +12,3 @@ abbrev pub invariant-loop-i : goal.invariant-loop-i
 invariant-loop-i l =
     (l.i ≤ l.n) × (l.c ≤ l.i) × (length (select (has_parent l.parent) (take l.n (mem_of l.m).nodes)) ≡ l.c + length
     (select (has_parent l.parent) (drop l.i (take l.n (mem_of l.m).nodes))))
-
-abbrev pub decreases-loop-i : goal.decreases-loop-i
-decreases-loop-i l = l.n - l.i

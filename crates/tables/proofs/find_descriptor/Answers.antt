@@ -1,41 +1,20 @@
--- `tables::find_descriptor` meets its contract. The loop's invariant: the place is i and the place in what remains.
--- Assumes nothing.
-use mathlib.Core.Path.{◌≡◌, sym, ◌∙◌}
-use native.Mathlib.Omega.{arith}
-use lib.ListN.{length}
-use borrow.Author.Tests.{eq-eqb, ne_eqb}
+-- `tables::find_descriptor` meets its contract. Assumes nothing.
+use Rattle.std.proofs.Common.{rules, true, false, ◌≡◌, ◌≢◌, ℕ, length, get_or, arith}
+use Rattle.std.proofs.lemmas.Iterator.{first_from_Range}
+use borrow.Author.Tests.{tests, eq-eqb, ne_eqb}
 use Rattle.filesystem.specs.Tables.{find_descriptor, has_descriptor, no_open_file, open_at}
 use Rattle.memory.specs.Layout.{mem_of}
 use Rattle.memory.specs.laws.MemLaws.{length-opens}
-use Rattle.tables.specs.laws.SearchLaws.{place_hit, place_miss, place_end}
+use Rattle.tables.specs.laws.FoundLaws.{found_by}
 use Rattle.tables.proofs.find_descriptor.Goals as goal
 
-pub returns-then-open_descriptor-descriptor : goal.returns-then-open_descriptor-descriptor
-unfolding find_descriptor open_at
-returns-then-open_descriptor-descriptor c =
-    let a = c.args in
-    let l = c.loop-i in
-    let f : length (mem_of a.m.now).opens ≡ _ = length-opens a.m.now in
-    sym (place_hit no_open_file (mem_of a.m.now).opens a.o l.i (omega arith) (has_descriptor a.descriptor)
-    l.invariant.1 (omega arith) (eq-eqb _ _ (sym c.open_descriptor.ensures ∙ c.if-open_descriptor-descriptor.true)))
-
-pub loop-i-preserved : goal.loop-i-preserved
-unfolding open_at
-loop-i-preserved c =
-    let a = c.args in
-    let l = c.loop-i in
-    let f : length (mem_of a.m.now).opens ≡ _ = length-opens a.m.now in (
-      omega arith,
-      place_miss no_open_file (mem_of a.m.now).opens a.o l.i (omega arith)
-          (has_descriptor a.descriptor) l.invariant.1 (omega arith)
-          (ne_eqb _ _ (λ q. c.if-open_descriptor-descriptor.false (c.open_descriptor.ensures ∙ q))),
-    )
-
 pub returns : goal.returns
-unfolding find_descriptor
+unfolding find_descriptor open_at
 returns c =
     let a = c.args in
-    let l = c.loop-i in
-    let f : length (mem_of a.m.now).opens ≡ _ = length-opens a.m.now in
-    sym (place_end no_open_file (mem_of a.m.now).opens a.o l.i (omega arith) (has_descriptor a.descriptor)
-    l.invariant.1 (omega arith))
+    let ns = (mem_of a.m.now).opens in
+    let l : length (mem_of a.m.now).opens ≡ _ = length-opens a.m.now in
+    found_by no_open_file (has_descriptor a.descriptor) ns a.o 0 (omega arith) (λ k h. absurd (omega arith)) _
+    (λ k. (open_at ns k).descriptor ≡ a.descriptor) (λ k. (open_at ns k).descriptor ≢ a.descriptor) (λ k. eq-eqb _ _) (λ k. ne_eqb _ _)
+    (first_from_Range _ _ _ _ (λ k. (open_at ns k).descriptor ≡ a.descriptor) (λ k. (open_at ns k).descriptor ≢ a.descriptor)
+    c.find.ensures.ran (λ x q k. search (rules, tests)) (λ x q k. search (rules, tests)))

@@ -1,40 +1,20 @@
--- `tables::find_id` meets its contract. The loop's invariant: the place is i and the place in what remains. Assumes
--- nothing.
-use mathlib.Core.Path.{◌≡◌, sym, ◌∙◌}
-use native.Mathlib.Omega.{arith}
-use lib.ListN.{length}
-use borrow.Author.Tests.{eq-eqb, ne_eqb}
+-- `tables::find_id` meets its contract. Assumes nothing.
+use Rattle.std.proofs.Common.{rules, true, false, ◌≡◌, ◌≢◌, ℕ, length, get_or, arith}
+use Rattle.std.proofs.lemmas.Iterator.{first_from_Range}
+use borrow.Author.Tests.{tests, eq-eqb, ne_eqb}
 use Rattle.filesystem.specs.Tables.{find_id, has_id, no_node, node_at}
 use Rattle.memory.specs.Layout.{mem_of}
 use Rattle.memory.specs.laws.MemLaws.{length-nodes}
-use Rattle.tables.specs.laws.SearchLaws.{place_hit, place_miss, place_end}
+use Rattle.tables.specs.laws.FoundLaws.{found_by}
 use Rattle.tables.proofs.find_id.Goals as goal
 
-pub returns-then-node_id-id : goal.returns-then-node_id-id
-unfolding find_id node_at
-returns-then-node_id-id c =
-    let a = c.args in
-    let l = c.loop-i in
-    let f : length (mem_of a.m.now).nodes ≡ _ = length-nodes a.m.now in
-    sym (place_hit no_node (mem_of a.m.now).nodes a.n l.i (omega arith) (has_id a.id) l.invariant.1
-    (omega arith) (eq-eqb _ _ (sym c.node_id.ensures ∙ c.if-node_id-id.true)))
-
-pub loop-i-preserved : goal.loop-i-preserved
-unfolding node_at
-loop-i-preserved c =
-    let a = c.args in
-    let l = c.loop-i in
-    let f : length (mem_of a.m.now).nodes ≡ _ = length-nodes a.m.now in (
-      omega arith,
-      place_miss no_node (mem_of a.m.now).nodes a.n l.i (omega arith) (has_id a.id) l.invariant.1
-          (omega arith) (ne_eqb _ _ (λ q. c.if-node_id-id.false (c.node_id.ensures ∙ q))),
-    )
-
 pub returns : goal.returns
-unfolding find_id
+unfolding find_id node_at
 returns c =
     let a = c.args in
-    let l = c.loop-i in
-    let f : length (mem_of a.m.now).nodes ≡ _ = length-nodes a.m.now in
-    sym (place_end no_node (mem_of a.m.now).nodes a.n l.i (omega arith) (has_id a.id) l.invariant.1
-    (omega arith))
+    let ns = (mem_of a.m.now).nodes in
+    let l : length (mem_of a.m.now).nodes ≡ _ = length-nodes a.m.now in
+    found_by no_node (has_id a.id) ns a.n 0 (omega arith) (λ k h. absurd (omega arith)) _
+    (λ k. (node_at ns k).id ≡ a.id) (λ k. (node_at ns k).id ≢ a.id) (λ k. eq-eqb _ _) (λ k. ne_eqb _ _)
+    (first_from_Range _ _ _ _ (λ k. (node_at ns k).id ≡ a.id) (λ k. (node_at ns k).id ≢ a.id)
+    c.find.ensures.ran (λ x q k. search (rules, tests)) (λ x q k. search (rules, tests)))

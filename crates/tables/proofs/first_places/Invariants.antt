@@ -13,6 +13,3 @@ abbrev pub invariant-loop-k : goal.invariant-loop-k
 invariant-loop-k l =
     (l.k ≤ l.n) × (length l.firsts ≡ NODES)
     × ((j : ℕ) → l.k ≤ j → j < l.n → get_or l.firsts (hash_of (node_at (mem_of l.m).nodes j).parent) 0 ≤ j)
-
-abbrev pub decreases-loop-k : goal.decreases-loop-k
-decreases-loop-k l = l.k

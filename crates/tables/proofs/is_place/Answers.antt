@@ -7,6 +7,8 @@ use Rattle.memory.specs.Layout.{mem_of}
 use Rattle.tables.specs.laws.RowsInUse.{count-nodes, node_front_lem}
 use Rattle.filesystem.specs.Tables.{Node}
 use Rattle.filesystem.specs.Sound.{to_sound, place_with_id}
+use Rattle.tables.specs.Found.{found}
+use Rattle.tables.specs.laws.FoundLaws.{found_at}
 use Rattle.tables.proofs.is_place.Goals as goal
 
 pub returns : goal.returns
@@ -15,5 +17,6 @@ returns c e w v =
     let ns = take a.n (mem_of a.m.now).nodes in
     let l : length ns ≡ a.n = count-nodes a.m.now a.n (omega arith) in
     let g = node_front_lem a.n (mem_of a.m.now).nodes a.k (omega arith) in
-    place_with_id ns a.k a.id (to_sound w ns v) (omega arith) (ap (λ (y : Node). y.id) g
-    ∙ sym c.node_id.ensures ∙ eqb-true _ _ e)
+    let p = place_with_id ns a.k a.id (to_sound w ns v) (omega arith) (ap (λ (y : Node). y.id) g
+    ∙ sym c.node_id.ensures ∙ eqb-true _ _ e) in
+    sym (ap (found a.n) (sym p) ∙ found_at a.n a.k (omega arith))

@@ -8,6 +8,3 @@ use Rattle.tables.proofs.pages_on.Given as goal
 
 abbrev pub invariant-loop-i : goal.invariant-loop-i
 invariant-loop-i l = (l.i ≤ l.n) × (l.t ≤ l.i * 4194304) × (l.t ≡ page_total (take l.i (mem_of l.m).nodes))
-
-abbrev pub decreases-loop-i : goal.decreases-loop-i
-decreases-loop-i l = l.n - l.i

@@ -10,6 +10,3 @@ abbrev pub invariant-loop-i : goal.invariant-loop-i
 invariant-loop-i l =
     (l.i ≤ l.count) × (mem_of l.m ≡ with_digests (overwrite (mem_of l.initial.m).digests l.at (replicate l.i l.d)) (mem_of l.initial.m))
     × (length l.m ≡ length l.initial.m)
-
-abbrev pub decreases-loop-i : goal.decreases-loop-i
-decreases-loop-i l = l.count - l.i

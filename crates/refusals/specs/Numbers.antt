@@ -1,0 +1,47 @@
+-- The numbers of refusals and of stop reasons, and a judgement in numbers.
+--   number_of, reason_number    the number of each
+--   numbered                    what was judged, a refusal by its number
+--   refusal_or_0, reason_or_0    of a test that passes: 0
+-- Assumes nothing.
+use Rattle.std.specs.Prelude.{ℕ, ⊤, Result, Ok, Err}
+use Rattle.refusals.specs.declared.Refusal.{Refusal}
+use Rattle.refusals.specs.declared.Refusal.TheVariants.{NotFound, Stopped, BadHandle, TooManyMaps, Denied, Busy, Exists, NotDirectory, IsDirectory, Invalid, TooManyOpen, FileTooLarge, NoSpace, ReadOnly, ShortBuffer, TooLong, NotEmpty, NotPending, WrongDigest, BadImage, Pending}
+use Rattle.refusals.specs.declared.StopReason.{StopReason}
+use Rattle.refusals.specs.declared.StopReason.TheVariants.{Length, Status, Id, Descriptor, Page, Stat, Listing, Map}
+
+abbrev pub number_of : Refusal → ℕ
+number_of NotFound = 2
+number_of Stopped = 5
+number_of BadHandle = 9
+number_of TooManyMaps = 12
+number_of Denied = 13
+number_of Busy = 16
+number_of Exists = 17
+number_of NotDirectory = 20
+number_of IsDirectory = 21
+number_of Invalid = 22
+number_of TooManyOpen = 24
+number_of FileTooLarge = 27
+number_of NoSpace = 28
+number_of ReadOnly = 30
+number_of ShortBuffer = 34
+number_of TooLong = 36
+number_of NotEmpty = 39
+number_of NotPending = 61
+number_of WrongDigest = 74
+number_of BadImage = 84
+number_of Pending = 114
+
+abbrev pub reason_number : StopReason → ℕ
+reason_number Length = 1
+reason_number Status = 2
+reason_number Id = 3
+reason_number Descriptor = 4
+reason_number Page = 5
+reason_number Stat = 6
+reason_number Listing = 7
+reason_number Map = 8
+
+abbrev pub numbered : {A : Type 0} → Result A Refusal → Result A ℕ
+numbered (Ok x) = Ok x
+numbered (Err e) = Err (number_of e)
