@@ -6,7 +6,7 @@
 --   SendsItself            it goes out as kind, number and path, and waits as `call` says
 --   BeginsAs               the same as BeginsPath, for every call that was judged so and goes out so
 -- Assumes nothing.
-use Rattle.std.specs.Prelude.{◌≡◌, List, ◌++◌, ℕ, ◌<◌, ◌≤◌, length}
+use Rattle.std.specs.Prelude.{◌≡◌, List, ◌++◌, ℕ, ◌<◌, ◌≤◌, length, Ok}
 use Rattle.numbers.specs.Slices.{Lent, KeepsLength}
 use Rattle.lists.specs.Checks.{Check}
 use Rattle.filesystem.specs.Tables.{NODES, PATH_BYTES, Tables}
@@ -22,8 +22,7 @@ use Rattle.guard_state.specs.State.{state_of}
 use Rattle.outcomes.specs.declared.Outcome.{Outcome}
 use Rattle.outcomes.specs.Sent.{Sends}
 use Rattle.outcomes.specs.Clauses.{Rightly}
-use Rattle.paths.specs.declared.Walked.{Walked}
-use Rattle.paths.specs.declared.Walked.TheVariants.{Node as node}
+use Rattle.refusals.specs.Numbers.{Judged}
 use Rattle.path_calls.specs.Judged.{judged, node_for}
 
 unfoldable pub begun : (c : Config) → State (digest_store c) → List ℕ → (Path → Call) → Result (digest_store c)
@@ -38,8 +37,8 @@ BeginsPath m q path make r =
     × KeepsLength m
 
 -- a call on a node that is there
-abbrev pub Reaches : Walked → List ℕ → Type 0
-Reaches w path = (k : ℕ) → w ≡ node k → (k < NODES) × (length path ≤ PATH_BYTES)
+abbrev pub Reaches : Judged ℕ → List ℕ → Type 0
+Reaches w path = (k : ℕ) → w ≡ Ok k → (k < NODES) × (length path ≤ PATH_BYTES)
 
 abbrev pub WalksFirst : (Path → Call) → Type 0
 WalksFirst make = (t : Tables) (p : Path) → (cs : List Check) × (call_checks t (make p) ≡ reach t p ++ cs)
@@ -49,7 +48,7 @@ SendsItself call kind number make = (t : Tables) (w : ℕ) (p : Path)
     → call_action t w (make p) ≡ send (asked (question_on call (walk t.nodes 0 p) number))
     (path_request kind number (path_bytes p))
 
-abbrev pub BeginsAs : (m q : Lent) → (path : List ℕ) → Walked → (call kind number : ℕ) → Outcome → Type 0
+abbrev pub BeginsAs : (m q : Lent) → (path : List ℕ) → Judged ℕ → (call kind number : ℕ) → Outcome → Type 0
 BeginsAs m q path w call kind number r =
     ((c : Config) (make : Path → Call) → w ≡ node_for (state_of c m.entry.now).skeleton.tables path
     make

@@ -5,6 +5,7 @@ ghost use Rattle.std.specs.Prelude.{◌≡◌, ℕ, ◌<◌, ◌≤◌, length};
 ghost use Rattle.filesystem.specs.Tables.{NODES, PATH_BYTES};
 ghost use Rattle.rules.specs.Calls.{stat};
 ghost use Rattle.rules.specs.Requests.{asked};
+ghost use Rattle.refusals.specs.Numbers.{numbered};
 ghost use Rattle.memory.specs.Memories.{IsMemory, nodes_of, was};
 ghost use Rattle.tables.specs.View.{tables_in};
 ghost use Rattle.guard_state.specs.Calls.{OnNode, question_on};
@@ -17,62 +18,51 @@ ghost use Rattle.path_calls.specs.Begun.{BeginsAs, Reaches};
 ghost use Rattle.path_calls.specs.Judged.{node_for, way_for};
 ghost use Rattle.path_calls.specs.Ways.{way_of, walked_both};
 
-// Where a path leads: the places of its node and of the directory that holds it, or the number that stops the call.
-#[derive(Clone, Copy)]
-pub enum Way {
-    At { node: usize, parent: usize },
-    Refused(u8),
+use refusals::Refusal;
+
+// Where a path leads: the places of its node and of the directory that holds it.
+#[derive(Clone, Copy, PartialEq, Eq)]
+pub struct Way {
+    pub node: usize,
+    pub parent: usize,
 }
 
 // chmod and stat: 22, 36, then the walk's 20, 13, 2.
-pub fn judge_reach(m: &[u8], n: usize, path: &[u8]) -> paths::Walked
+pub fn judge_reach(m: &[u8], n: usize, path: &[u8]) -> Result<usize, Refusal>
     requires { (0 < n) × (n ≤ NODES) × IsMemory m.now }
-    ensures { (o : ℕ) → result ≡ node_for (tables_in n o (was m.now)) path.now stat }
+    ensures { (o : ℕ) → numbered result ≡ node_for (tables_in n o (was m.now)) path.now stat }
 {
-    let f = paths::form(path);
-    match f {
-        paths::PathForm::Malformed => paths::Walked::Refused(22),
-        paths::PathForm::Long => paths::Walked::Refused(36),
-        paths::PathForm::Good => paths::walk(m, n, path),
-    }
+    paths::form(path)?;
+    paths::walk(m, n, path)
 }
 
 // The last step of a walk, from the directory in place `parent`.
-fn step_from(m: &[u8], n: usize, parent: usize, name: &[u8]) -> Way
+fn step_from(m: &[u8], n: usize, parent: usize, name: &[u8]) -> Result<Way, Refusal>
     requires { (parent < n) × (n ≤ NODES) × IsMemory m.now }
-    ensures { result ≡ way_of parent (child_step (nodes_of n m.now) parent name.now) }
+    ensures { numbered result ≡ way_of parent (child_step (nodes_of n m.now) parent name.now) }
 {
-    let w = paths::last_step(m, n, parent, name);
-    match w {
-        paths::Walked::Node(node) => Way::At { node, parent },
-        paths::Walked::Refused(b) => Way::Refused(b),
-    }
+    let node = paths::last_step(m, n, parent, name)?;
+    Ok(Way { node, parent })
 }
 
-// A walk that keeps the directory of its last step.
-pub fn walk_both(m: &[u8], n: usize, path: &[u8]) -> Way
+// A walk that keeps the directory of its last step; the root holds itself.
+pub fn walk_both(m: &[u8], n: usize, path: &[u8]) -> Result<Way, Refusal>
     requires { (0 < n) × (n ≤ NODES) × IsMemory m.now }
-    ensures { result ≡ walked_both (nodes_of n m.now) (components_of path.now) }
+    ensures { numbered result ≡ walked_both (nodes_of n m.now) (components_of path.now) }
 {
-    let w = paths::walk_parent(m, n, path);
-    match w {
-        paths::Placed::Root => Way::At { node: 0, parent: 0 },
-        paths::Placed::In { parent, start } => step_from(m, n, parent, &path[start..]),
-        paths::Placed::Refused(b) => Way::Refused(b),
+    match paths::walk_parent(m, n, path)? {
+        Some(place) => step_from(m, n, place.parent, &path[place.start..]),
+        None => Ok(Way { node: 0, parent: 0 }),
     }
 }
 
 // The same as a call is judged: 22 and 36 first.
-pub fn judge_way(m: &[u8], n: usize, path: &[u8]) -> Way
+pub fn judge_way(m: &[u8], n: usize, path: &[u8]) -> Result<Way, Refusal>
     requires { (0 < n) × (n ≤ NODES) × IsMemory m.now }
-    ensures { (o : ℕ) → result ≡ way_for (tables_in n o (was m.now)) path.now stat }
+    ensures { (o : ℕ) → numbered result ≡ way_for (tables_in n o (was m.now)) path.now stat }
 {
-    let f = paths::form(path);
-    match f {
-        paths::PathForm::Malformed => Way::Refused(22),
-        paths::PathForm::Long => Way::Refused(36),
-        paths::PathForm::Good => walk_both(m, n, path),
-    }
+    paths::form(path)?;
+    walk_both(m, n, path)
 }
 
 // A call on a node that passed: it waits as `call` says (guard_state::calls), and its request goes out.
@@ -96,18 +86,18 @@ fn send_on_node(
 // A call on a node as it was judged: refused, or sent.
 pub fn begin_on_node(
     m: &mut [u8],
-    w: paths::Walked,
+    judged: Result<usize, Refusal>,
     call: u64,
     kind: u8,
     number: u8,
     path: &[u8],
     request: &mut [u8],
 ) -> outcomes::Outcome
-    requires { OnNode call × Reaches w path.now × IsMemory m.old × HoldsRequest request.old }
-    ensures { BeginsAs m request path.now w call kind number result }
+    requires { OnNode call × Reaches (numbered judged) path.now × IsMemory m.old × HoldsRequest request.old }
+    ensures { BeginsAs m request path.now (numbered judged) call kind number result }
 {
-    match w {
-        paths::Walked::Node(k) => send_on_node(m, call, kind, number, k, path, request),
-        paths::Walked::Refused(b) => outcomes::Outcome::Refused(b),
+    match judged {
+        Ok(k) => send_on_node(m, call, kind, number, k, path, request),
+        Err(refusal) => outcomes::Outcome::Refused(refusal),
     }
 }

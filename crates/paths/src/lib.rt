@@ -7,33 +7,38 @@ ghost use Rattle.lists.specs.Search.{place};
 ghost use Rattle.filesystem.specs.Paths.{split};
 ghost use Rattle.filesystem.specs.Rights as table;
 ghost use Rattle.filesystem.specs.Tables.{NODES, NAME_BYTES, PATH_BYTES};
+ghost use Rattle.refusals.specs.Numbers.{numbered, refusal_or_0};
 ghost use Rattle.memory.specs.Memories.{IsMemory, nodes_of, was};
 ghost use Rattle.tables.specs.View.{FirstPlaces};
 ghost use Rattle.paths.specs.Parts.{is_slash, is_end, components_of};
-ghost use Rattle.paths.specs.PathForms.{form_of, forms_of, parts_form, is_name};
+ghost use Rattle.paths.specs.PathForms.{form_of, forms_of, parts_form, is_name, refusal_for};
 ghost use Rattle.paths.specs.Walks.{walked, placed, search_number, child_step};
 
-// What is wrong with a path's bytes: the form (22), else a length (36), else nothing.
-#[derive(Clone, Copy)]
-pub enum PathForm {
+use refusals::Refusal;
+
+// What is wrong with a path's bytes: the form (22), else a length (36).
+#[derive(Clone, Copy, PartialEq, Eq)]
+pub enum PathFault {
     Malformed,
-    Long,
-    Good,
+    TooLong,
 }
 
-// A walk's answer: the place of the node, or the number that stopped it (SPECIFICATION 7.6: 20, 13, 2).
-#[derive(Clone, Copy)]
-pub enum Walked {
-    Node(usize),
-    Refused(u8),
+impl From<PathFault> for Refusal {
+    ghost from_gives = { λ f e. e ≡ refusal_for f };
+
+    fn from(fault: PathFault) -> Refusal {
+        match fault {
+            PathFault::Malformed => Refusal::Invalid,
+            PathFault::TooLong => Refusal::TooLong,
+        }
+    }
 }
 
 // Where the last component stands: in the directory in place `parent`, and from `start` on in the path's bytes.
-#[derive(Clone, Copy)]
-pub enum Placed {
-    Root,
-    In { parent: usize, start: usize },
-    Refused(u8),
+#[derive(Clone, Copy, PartialEq, Eq)]
+pub struct Place {
+    pub parent: usize,
+    pub start: usize,
 }
 
 // One entry for each mode and rights: eight modes for rights 1, then for 2, then for 3.
@@ -74,15 +79,13 @@ fn slash_from(path: &[u8], at: usize) -> usize
     ensures { (result ≡ at + place is_slash (drop at path.now)) × (at ≤ result)
         × (result ≤ length path.now) }
 {
-    let mut i = at;
     // no slash from `at` to i
-    while i < path.len() {
-        if path[i] == 47 {
+    for i in at..path.len() {
+        if path[i] == b'/' {
             return i;
         }
-        i += 1;
     }
-    i
+    path.len()
 }
 
 // ---- the form
@@ -93,18 +96,13 @@ fn part_end(path: &[u8], at: usize) -> usize
     ensures { (result ≡ at + place is_end (drop at path.now)) × (at ≤ result)
         × (result ≤ length path.now) }
 {
-    let mut i = at;
     // no slash and no 0 from `at` to i
-    while i < path.len() {
-        if path[i] == 47 {
+    for i in at..path.len() {
+        if path[i] == b'/' || path[i] == 0 {
             return i;
         }
-        if path[i] == 0 {
-            return i;
-        }
-        i += 1;
     }
-    i
+    path.len()
 }
 
 // Neither empty nor `.` nor `..`.
@@ -115,13 +113,13 @@ pub fn is_name(part: &[u8]) -> bool
     if n == 0 {
         return false;
     }
-    if part[0] != 46 {
+    if part[0] != b'.' {
         return true;
     }
     if n == 1 {
         return false;
     }
-    if part[1] != 46 {
+    if part[1] != b'.' {
         return true;
     }
     n != 2
@@ -131,14 +129,11 @@ pub fn is_name(part: &[u8]) -> bool
 fn long_with(long: bool, n: usize) -> bool
     ensures { result ≡ (long || ltb NAME_BYTES n) }
 {
-    if long {
-        return true;
-    }
-    limits::NAME_BYTES < n
+    long || limits::NAME_BYTES < n
 }
 
 // The form of what follows the first slash.
-fn parts_form(path: &[u8]) -> PathForm
+fn parts_form(path: &[u8]) -> Result<(), PathFault>
     requires { 2 ≤ length path.now }
     ensures { result ≡ parts_form (ltb PATH_BYTES (length path.now)) (split (drop 1 path.now)) }
 {
@@ -148,84 +143,77 @@ fn parts_form(path: &[u8]) -> PathForm
     // the parts before `at` are names; `long` says whether one was long
     while end < path.len() {
         if path[end] == 0 {
-            return PathForm::Malformed;
+            return Err(PathFault::Malformed);
         }
         if !is_name(&path[at..end]) {
-            return PathForm::Malformed;
+            return Err(PathFault::Malformed);
         }
         long = long_with(long, end - at);
         at = end + 1;
         end = part_end(path, at);
     }
     if !is_name(&path[at..end]) {
-        return PathForm::Malformed;
+        return Err(PathFault::Malformed);
     }
     if long_with(long, end - at) {
-        return PathForm::Long;
+        return Err(PathFault::TooLong);
     }
-    PathForm::Good
+    Ok(())
 }
 
 // The form of a path, for any bytes.
-pub fn form(path: &[u8]) -> PathForm
+pub fn form(path: &[u8]) -> Result<(), PathFault>
     ensures { result ≡ form_of path.now }
 {
     let n = path.len();
     if n == 0 {
-        return PathForm::Malformed;
+        return Err(PathFault::Malformed);
     }
-    if path[0] != 47 {
-        return PathForm::Malformed;
+    if path[0] != b'/' {
+        return Err(PathFault::Malformed);
     }
     if n == 1 {
-        return PathForm::Good;
+        return Ok(());
     }
     parts_form(path)
 }
 
 // The form of two paths of one call: a fault of form of either comes before any length.
-pub fn forms(first: &[u8], second: &[u8]) -> PathForm
+pub fn forms(first: &[u8], second: &[u8]) -> Result<(), PathFault>
     ensures { result ≡ forms_of first.now second.now }
 {
-    let f = form(first);
-    let g = form(second);
-    match f {
-        PathForm::Malformed => PathForm::Malformed,
-        PathForm::Long => match g {
-            PathForm::Malformed => PathForm::Malformed,
-            PathForm::Long => PathForm::Long,
-            PathForm::Good => PathForm::Long,
-        },
-        PathForm::Good => g,
+    match form(first) {
+        Ok(()) => form(second),
+        Err(PathFault::TooLong) => form(second).and(Err(PathFault::TooLong)),
+        Err(PathFault::Malformed) => Err(PathFault::Malformed),
     }
 }
 
 // ---- the walk
 
-// 0 where node d is a directory that may be searched, else 20 or 13.
-fn search_number(m: &[u8], n: usize, d: usize) -> u8
+// Whether node d is a directory that may be searched: 20, 13.
+fn check_search(m: &[u8], n: usize, d: usize) -> Result<(), Refusal>
     requires { (d < n) × (n ≤ NODES) × IsMemory m.now }
-    ensures { result ≡ search_number (nodes_of n m.now) d }
+    ensures { refusal_or_0 result ≡ search_number (nodes_of n m.now) d }
 {
     if memory::node_kind(m, d) != limits::DIRECTORY {
-        return 20;
+        return Err(Refusal::NotDirectory);
     }
     if memory::node_mode(m, d) % 2 != 1 {
-        return 13;
+        return Err(Refusal::Denied);
     }
-    0
+    Ok(())
 }
 
 // The last step of a walk: the child with this name of node d, or 2.
-pub fn last_step(m: &[u8], n: usize, d: usize, name: &[u8]) -> Walked
+pub fn last_step(m: &[u8], n: usize, d: usize, name: &[u8]) -> Result<usize, Refusal>
     requires { (d < n) × (n ≤ NODES) × IsMemory m.now }
-    ensures { result ≡ child_step (nodes_of n m.now) d name.now }
+    ensures { numbered result ≡ child_step (nodes_of n m.now) d name.now }
 {
-    let k = tables::find_child(m, n, memory::node_id(m, d), name);
-    if n <= k {
-        return Walked::Refused(2);
-    }
-    Walked::Node(k)
+    let Some(k) = tables::find_child(m, n, memory::node_id(m, d), name) else {
+        return Err(Refusal::NotFound);
+    };
+    Ok(k)
 }
 
 // Whether two more components and a slash follow the one that ends at `end`.
@@ -255,13 +243,13 @@ fn places_for(m: &[u8], n: usize, deep: bool) -> [u8; limits::NODES]
     [0u8; limits::NODES]
 }
 
-// The way to the directory that holds the last component, which may be absent itself.
-pub fn walk_parent(m: &[u8], n: usize, path: &[u8]) -> Placed
+// The way to the directory that holds the last component, which may be absent itself; none for the root.
+pub fn walk_parent(m: &[u8], n: usize, path: &[u8]) -> Result<Option<Place>, Refusal>
     requires { (0 < n) × (n ≤ NODES) × IsMemory m.now }
-    ensures { result ≡ placed (nodes_of n m.now) path.now }
+    ensures { numbered result ≡ placed (nodes_of n m.now) path.now }
 {
     if path.len() < 2 {
-        return Placed::Root;
+        return Ok(None);
     }
     let mut d = 0;
     let mut at = 1;
@@ -269,37 +257,29 @@ pub fn walk_parent(m: &[u8], n: usize, path: &[u8]) -> Placed
     let firsts = places_for(m, n, is_deep(path, end));
     // d is where the components before `at` lead
     while end < path.len() {
-        let bar = search_number(m, n, d);
-        if bar != 0 {
-            return Placed::Refused(bar);
-        }
-        let k = tables::find_child_by(m, n, memory::node_id(m, d), &path[at..end], &firsts);
-        if n <= k {
-            return Placed::Refused(2);
-        }
+        check_search(m, n, d)?;
+        let id = memory::node_id(m, d);
+        let Some(k) = tables::find_child_by(m, n, id, &path[at..end], &firsts) else {
+            return Err(Refusal::NotFound);
+        };
         d = k;
         at = end + 1;
         end = slash_from(path, at);
     }
-    let bar = search_number(m, n, d);
-    if bar != 0 {
-        return Placed::Refused(bar);
-    }
-    Placed::In {
+    check_search(m, n, d)?;
+    Ok(Some(Place {
         parent: d,
         start: at,
-    }
+    }))
 }
 
-// The node at the end of a path, or the number that stops the walk: at each component from the left 20, 13, 2.
-pub fn walk(m: &[u8], n: usize, path: &[u8]) -> Walked
+// The node at the end of a path (SPECIFICATION 7.6): at each component from the left 20, 13, 2.
+pub fn walk(m: &[u8], n: usize, path: &[u8]) -> Result<usize, Refusal>
     requires { (0 < n) × (n ≤ NODES) × IsMemory m.now }
-    ensures { result ≡ walked (nodes_of n m.now) (components_of path.now) }
+    ensures { numbered result ≡ walked (nodes_of n m.now) (components_of path.now) }
 {
-    let way = walk_parent(m, n, path);
-    match way {
-        Placed::Root => Walked::Node(0),
-        Placed::In { parent, start } => last_step(m, n, parent, &path[start..]),
-        Placed::Refused(k) => Walked::Refused(k),
+    match walk_parent(m, n, path)? {
+        Some(place) => last_step(m, n, place.parent, &path[place.start..]),
+        None => Ok(0),
     }
 }

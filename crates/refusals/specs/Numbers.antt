@@ -1,9 +1,9 @@
--- The numbers of refusals and of stop reasons, and a judgement in numbers.
---   number_of, reason_number    the number of each
---   numbered                    what was judged, a refusal by its number
---   refusal_or_0, reason_or_0    of a test that passes: 0
+-- The numbers of refusals and of stop reasons, and what is judged by number.
+--   number_of, reason_number     the number of each
+--   Judged, numbered             what is judged, a refusal by its number
+--   refusal_or_0, reason_or_0    the number of a test, 0 where it passes
 -- Assumes nothing.
-use Rattle.std.specs.Prelude.{ℕ, ⊤, Result, Ok, Err}
+use Rattle.std.specs.Prelude.{ℕ, Result, Ok, Err}
 use Rattle.refusals.specs.declared.Refusal.{Refusal}
 use Rattle.refusals.specs.declared.Refusal.TheVariants.{NotFound, Stopped, BadHandle, TooManyMaps, Denied, Busy, Exists, NotDirectory, IsDirectory, Invalid, TooManyOpen, FileTooLarge, NoSpace, ReadOnly, ShortBuffer, TooLong, NotEmpty, NotPending, WrongDigest, BadImage, Pending}
 use Rattle.refusals.specs.declared.StopReason.{StopReason}
@@ -42,6 +42,19 @@ reason_number Stat = 6
 reason_number Listing = 7
 reason_number Map = 8
 
-abbrev pub numbered : {A : Type 0} → Result A Refusal → Result A ℕ
+-- what is judged, or the number that refuses it
+abbrev pub Judged : Type 0 → Type 0
+Judged A = Result A ℕ
+
+abbrev pub numbered : {A : Type 0} → Result A Refusal → Judged A
 numbered (Ok x) = Ok x
 numbered (Err e) = Err (number_of e)
+
+-- of a test
+abbrev pub refusal_or_0 : {A : Type 0} → Result A Refusal → ℕ
+refusal_or_0 (Ok x) = 0
+refusal_or_0 (Err e) = number_of e
+
+abbrev pub reason_or_0 : {A : Type 0} → Result A StopReason → ℕ
+reason_or_0 (Ok x) = 0
+reason_or_0 (Err e) = reason_number e

@@ -5,7 +5,7 @@ ghost use Rattle.std.specs.Prelude.{◌≡◌};
 ghost use Rattle.refusals.specs.Numbers.{number_of, reason_number};
 
 // The number is that of POSIX's name for it.
-#[derive(Clone, Copy, Debug, PartialEq, Eq)]
+#[derive(Clone, Copy, PartialEq, Eq)]
 pub enum Refusal {
     NotFound = 2,
     Stopped = 5,
@@ -39,7 +39,7 @@ impl Refusal {
 }
 
 // What of a reply is wrong.
-#[derive(Clone, Copy, Debug, PartialEq, Eq)]
+#[derive(Clone, Copy, PartialEq, Eq)]
 pub enum StopReason {
     Length = 1,
     Status = 2,

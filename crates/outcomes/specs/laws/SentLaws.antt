@@ -13,6 +13,10 @@ use Rattle.rules.specs.Rules.{Move, refuse, halt, send, finish, remap}
 use Rattle.machine.specs.Machine.{State, Result, Gathered, asking, ending, gave_up, apply, guard as digest_store}
 use Rattle.guard_state.specs.State.{state_of, gathered_none}
 use Rattle.guard_state.specs.Waits.{waits, ends, stops, remaps}
+use Rattle.refusals.specs.Numbers.{number_of, reason_number}
+use Rattle.refusals.specs.declared.Refusal.{Refusal}
+use Rattle.refusals.specs.declared.Refusal.TheVariants.{NoSpace}
+use Rattle.refusals.specs.declared.StopReason.{StopReason}
 use Rattle.outcomes.specs.declared.Outcome.{Outcome}
 use Rattle.outcomes.specs.declared.Outcome.TheVariants.{Done, Ask, Refused, Stopped}
 use Rattle.outcomes.specs.Values.{length_of, bytes_in, answer_in}
@@ -77,27 +81,27 @@ asking_sends c s y p x a m q q' o z g u e h = record {
 -- a full disk ends the call: refused, and nothing is pending
 pub gave_up_sends : (c : Config) (s : State (digest_store c)) (m q : List ℕ)
     → state_of c m ≡ ends c s s.skeleton.tables s.contents
-    → Sends c (gave_up c (digest_store c) s) (Refused 28) m q q
+    → Sends c (gave_up c (digest_store c) s) (Refused NoSpace) m q q
 unfolding answer_in length_of bytes_in settled request_bytes overwrite ends
 gave_up_sends c s m q g = record { state = g; answer = λ a. refl; count = refl; request = refl }
 
 -- a move that is known: a refusal changes nothing, a stop is for good, a request goes out and the call waits, a call is
 -- done
 module _ (c : Config) (s : State (digest_store c)) (v : Move) where
-  pub refusal_sends : (n : ℕ) (m q : List ℕ) → v ≡ refuse n → state_of c m ≡ s
-      → Sends c (apply c (digest_store c) s v) (Refused n) m q q
+  pub refusal_sends : (e : Refusal) (m q : List ℕ) → v ≡ refuse (number_of e) → state_of c m ≡ s
+      → Sends c (apply c (digest_store c) s v) (Refused e) m q q
   unfolding apply answer_in length_of bytes_in settled request_bytes overwrite
-  refusal_sends n m q z g = record {
+  refusal_sends e m q z g = record {
     state = g ∙ ap (λ d. (apply c (digest_store c) s d).state) (sym z);
     answer = λ a. ap (λ d. (apply c (digest_store c) s d).outcome.answer) (sym z);
     count = ap (λ d. bytes_in (apply c (digest_store c) s d).outcome.answer) (sym z);
     request = ap (λ d. at_front (request_bytes (apply c (digest_store c) s d).outcome.answer) q) (sym z);
   }
 
-  pub stop_sends : (n : ℕ) (m q : List ℕ) → v ≡ halt n → state_of c m ≡ s
-      → Sends c (apply c (digest_store c) s v) (Stopped n) m q q
+  pub stop_sends : (e : StopReason) (m q : List ℕ) → v ≡ halt (reason_number e) → state_of c m ≡ s
+      → Sends c (apply c (digest_store c) s v) (Stopped e) m q q
   unfolding apply answer_in length_of bytes_in settled request_bytes overwrite stops
-  stop_sends n m q z g = record {
+  stop_sends e m q z g = record {
     state = ap (stops c) g ∙ ap (λ d. (apply c (digest_store c) s d).state) (sym z);
     answer = λ a. ap (λ d. (apply c (digest_store c) s d).outcome.answer) (sym z);
     count = ap (λ d. bytes_in (apply c (digest_store c) s d).outcome.answer) (sym z);

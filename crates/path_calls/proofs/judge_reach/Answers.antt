@@ -1,26 +1,19 @@
 -- `path_calls::judge_reach` meets its contract. Assumes nothing.
 use mathlib.Core.Path.{sym, ◌∙◌}
+use Rattle.refusals.specs.laws.NumberLaws.{passed_on}
 use Rattle.memory.specs.Layout.{mem_of}
 use Rattle.tables.specs.View.{tables_in}
-use Rattle.path_calls.specs.laws.ReachedLaws.{stat_malformed, stat-long, stat_good}
+use Rattle.path_calls.specs.laws.ReachedLaws.{stat_fault, stat_good}
 use Rattle.path_calls.proofs.judge_reach.Goals as goal
 
-pub returns-in-Malformed : goal.returns-in-Malformed
-returns-in-Malformed c o =
+pub returns-in_err-form : goal.returns-in_err-form
+returns-in_err-form c o =
     let a = c.args in
-    sym (stat_malformed (tables_in a.n o (mem_of a.m.now)) a.path.now (sym c.form-f.ensures
-    ∙ c.in-Malformed.is))
+    passed_on _ _ c.from_residual.ensures.1
+    ∙ sym (stat_fault (tables_in a.n o (mem_of a.m.now)) a.path.now _ (sym c.in_err-form.ensures))
 
-pub returns-in-Long : goal.returns-in-Long
-returns-in-Long c o =
-    let a = c.args in
-    sym (stat-long (tables_in a.n o (mem_of a.m.now)) a.path.now (sym c.form-f.ensures
-    ∙ c.in-Long.is))
-
-pub returns-in-Good : goal.returns-in-Good
+pub returns : goal.returns
 unfolding tables_in
-returns-in-Good c o =
+returns c o =
     let a = c.args in
-    c.walk.ensures ∙ sym
-    (stat_good (tables_in a.n o (mem_of a.m.now)) a.path.now (sym c.form-f.ensures
-    ∙ c.in-Good.is))
+    c.walk.ensures ∙ sym (stat_good (tables_in a.n o (mem_of a.m.now)) a.path.now (sym c.in_ok-form.ensures))

@@ -18,8 +18,9 @@ use Rattle.rules.specs.Skeleton.{Config, at_front}
 use Rattle.rules.specs.Rules.{Move, refuse, send, call_checks, call_action, reach}
 use Rattle.rules.proofs.Lengths.{path_short}
 use Rattle.machine.specs.Machine.{State, guard as digest_store}
-use Rattle.paths.specs.declared.Walked.{Walked}
-use Rattle.paths.specs.declared.Walked.TheVariants.{Node as node, Refused as refused_node}
+use Rattle.refusals.specs.Numbers.{Judged, number_of}
+use Rattle.refusals.specs.declared.Refusal.{Refusal}
+use Rattle.std.specs.Prelude.{Ok, Err}
 use Rattle.path_calls.specs.Judged.{judged, node_for}
 use Rattle.requests.specs.PathRequests.{has_number, path_request}
 use Rattle.memory.specs.Layout.{mem_of}
@@ -71,36 +72,36 @@ module _ (t : Tables) (w : ℕ) (path : List ℕ) (make : Path → Call) where
     leads : walk t.nodes 0 its ≡ k
     moves : m ≡ call_action t w (make its)
 
-  record Says (r : Walked) (m : Move) : Type 0 where
-    refuses : (n : ℕ) → r ≡ refused_node n → m ≡ refuse n
-    passes : (k : ℕ) → r ≡ node k → Passes k m
+  record Says (r : Judged ℕ) (m : Move) : Type 0 where
+    refuses : (n : ℕ) → r ≡ Err n → m ≡ refuse n
+    passes : (k : ℕ) → r ≡ Ok k → Passes k m
 
   says : Says (node_for t path make) move
   unfolding node_for
   says =
-      both-judged Says refused_node refuse
+      both-judged Says Err refuse
       (λ n. record {
         refuses = λ k e. let z : n ≡ k = cc in ap refuse z;
         passes = λ k e. absurd
             (let z : ◌≡◌ {A = ℕ} 0 1 = cc in omega arith);
       })
-      (λ p. call_checks t (make p)) (λ p. node (walk t.nodes 0 p)) (λ p. call_action t w (make p)) path
+      (λ p. call_checks t (make p)) (λ p. Ok (walk t.nodes 0 p)) (λ p. call_action t w (make p)) path
       (λ p e h. record {
         refuses = λ n q. absurd (let z : ◌≡◌ {A = ℕ} 0 1 = cc in omega arith);
         passes = λ k q. record { its = p; reads = e; passed = h; leads = cc; moves = refl };
       })
 
-pub refused_sends : (c : Config) (s : State (digest_store c)) (path : List ℕ) (make : Path → Call) (r : Walked) (n : ℕ)
+pub refused_sends : (c : Config) (s : State (digest_store c)) (path : List ℕ) (make : Path → Call) (b : Refusal)
     (m q : List ℕ)
-    → r ≡ node_for s.skeleton.tables path make
-    → r ≡ refused_node n → state_of c m ≡ s → Sends c (begun c s path make) (Refused n) m q q
+    → Err (number_of b) ≡ node_for s.skeleton.tables path make
+    → state_of c m ≡ s → Sends c (begun c s path make) (Refused b) m q q
 unfolding begun
-refused_sends c s path make r n m q e f g = refusal_sends c s _ n m q ((says s.skeleton.tables c.width path
-    make).refuses n (sym e ∙ f)) g
+refused_sends c s path make b m q e g = refusal_sends c s _ b m q ((says s.skeleton.tables c.width path
+    make).refuses (number_of b) (sym e)) g
 
 module _ (path : List ℕ) (make : Path → Call) (walks : WalksFirst make) where
   -- what is known of a call that passes: its node is there, and its path is not too long
-  passes-node : (t : Tables) (r : Walked) (k : ℕ) → r ≡ node_for t path make → r ≡ node k → 0 < length t.nodes
+  passes-node : (t : Tables) (r : Judged ℕ) (k : ℕ) → r ≡ node_for t path make → r ≡ Ok k → 0 < length t.nodes
       → (k < length t.nodes) × (length path ≤ PATH_BYTES)
   passes-node t r k e f h =
       let p = (says t 0 path make).passes k (sym e ∙ f) in
@@ -115,7 +116,7 @@ module _ (path : List ℕ) (make : Path → Call) (walks : WalksFirst make) wher
       short p (both e _) = path_short p e
 
   -- the same over the first n nodes of a memory
-  pub reaches : (m : List ℕ) (n o : ℕ) → 0 < n → n ≤ NODES → (w : Walked) → w ≡ node_for (tables_in n o (mem_of m)) path
+  pub reaches : (m : List ℕ) (n o : ℕ) → 0 < n → n ≤ NODES → (w : Judged ℕ) → w ≡ node_for (tables_in n o (mem_of m)) path
       make → Reaches w path
   unfolding tables_in
   reaches m n o h l w e k f =
@@ -125,8 +126,8 @@ module _ (path : List ℕ) (make : Path → Call) (walks : WalksFirst make) wher
 
 -- a call that passes waits, and its request stands at the front of the buffer
 pub node_sends : (c : Config) (s : State (digest_store c)) (path : List ℕ) (make : Path → Call) (call kind number : ℕ)
-    → SendsItself call kind number make → (r : Walked) (k : ℕ) (m q q' : List ℕ) (o : Outcome)
-    → r ≡ node_for s.skeleton.tables path make → r ≡ node k
+    → SendsItself call kind number make → (r : Judged ℕ) (k : ℕ) (m q q' : List ℕ) (o : Outcome)
+    → r ≡ node_for s.skeleton.tables path make → r ≡ Ok k
     → state_of c m ≡ waits c s (asked (question_on call k number)) gathered_none
     → q' ≡ at_front (path_request kind number path) q
     → o ≡ Ask (length (path_request kind number path)) → length (path_request kind number path) ≤ length q

@@ -1,37 +1,19 @@
 -- `paths::forms` meets its contract. Assumes nothing.
-use mathlib.Core.Path.{sym, ◌∙◌}
+use mathlib.Core.Path.{ap, sym, ◌∙◌}
+use Rattle.std.specs.Prelude.{Err}
+use Rattle.std.specs.Result.{result_and}
 use Rattle.paths.specs.PathForms.{form_of, worse}
+use Rattle.paths.specs.laws.FormAnswers.{worse_on, worse_first, worse_too_long}
+use Rattle.paths.specs.declared.PathFault.TheVariants.{TooLong}
 use Rattle.paths.proofs.forms.Goals as goal
 
-pub returns-in-Malformed : goal.returns-in-Malformed
-unfolding worse
-returns-in-Malformed c =
-    let f = sym c.form-f.ensures ∙ c.in-Malformed.is in
-    sym (λ i. worse (f i) (form_of c.args.second.now))
+pub returns-in-Ok : goal.returns-in-Ok
+returns-in-Ok c = c.form-in-Ok.ensures ∙ worse_on _ c.in-Ok.ensures
 
-pub returns-in-Malformed-g : goal.returns-in-Malformed-g
-unfolding worse
-returns-in-Malformed-g c =
-    let f = sym c.form-f.ensures ∙ c.in-Long.is in
-    let g = sym c.form-g.ensures ∙ c.in-Malformed-g.is in
-    sym (λ i. worse (f i) (g i))
+pub returns-in-Err-TooLong : goal.returns-in-Err-TooLong
+returns-in-Err-TooLong c =
+    c.and.ensures ∙ ap (λ g. result_and g (Err TooLong)) c.form-in-Err-TooLong.ensures
+    ∙ worse_too_long _ (ap Err (sym c.in-Err-TooLong.field-0-is) ∙ c.in-Err-TooLong.ensures)
 
-pub returns-in-Long-g : goal.returns-in-Long-g
-unfolding worse
-returns-in-Long-g c =
-    let f = sym c.form-f.ensures ∙ c.in-Long.is in
-    let g = sym c.form-g.ensures ∙ c.in-Long-g.is in
-    sym (λ i. worse (f i) (g i))
-
-pub returns-in-Good-g : goal.returns-in-Good-g
-unfolding worse
-returns-in-Good-g c =
-    let f = sym c.form-f.ensures ∙ c.in-Long.is in
-    let g = sym c.form-g.ensures ∙ c.in-Good-g.is in
-    sym (λ i. worse (f i) (g i))
-
-pub returns-in-Good : goal.returns-in-Good
-unfolding worse
-returns-in-Good c =
-    let f = sym c.form-f.ensures ∙ c.in-Good.is in
-    sym (λ i. worse (f i) (sym c.form-g.ensures i))
+pub returns-in-Err-Malformed : goal.returns-in-Err-Malformed
+returns-in-Err-Malformed c = worse_first _ (ap Err (sym c.in-Err-Malformed.field-0-is) ∙ c.in-Err-Malformed.ensures)

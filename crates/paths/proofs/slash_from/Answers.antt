@@ -21,4 +21,4 @@ pub returns : goal.returns
 returns c =
     let s = c.args.path.now in
     let l = c.loop-i in
-    (scan-end is_slash 0 _ s l.i l.invariant.2 (omega arith), omega arith, omega arith)
+    (omega (arith, scan-end is_slash 0 _ s l.i l.invariant.2 (omega arith)), omega arith, omega arith)

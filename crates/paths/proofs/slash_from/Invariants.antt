@@ -9,6 +9,3 @@ use Rattle.paths.proofs.slash_from.Given as goal
 abbrev pub invariant-loop-i : goal.invariant-loop-i
 invariant-loop-i l = (l.at ≤ l.i) × (l.i ≤ length l.path)
     × (l.at + place is_slash (drop l.at l.path) ≡ l.i + place is_slash (drop l.i l.path))
-
-abbrev pub decreases-loop-i : goal.decreases-loop-i
-decreases-loop-i l = length l.path - l.i

@@ -15,11 +15,10 @@ use Rattle.filesystem.specs.Paths.{last_of}
 use Rattle.filesystem.specs.PathLaws.{joined-split, walk_checks_parent, walk-last, walk-place, parent_place}
 use Rattle.paths.specs.Parts.{components_of}
 use Rattle.paths.specs.laws.PartsLaws.{Some, some}
-use Rattle.paths.specs.Walks.{walked, placed_from, placed_in, placed, child_step}
-use Rattle.paths.specs.declared.Walked.{Walked}
-use Rattle.paths.specs.declared.Walked.TheVariants.{Node as node, Refused as refused_node}
-use Rattle.paths.specs.declared.Placed.{Placed}
-use Rattle.paths.specs.declared.Placed.TheVariants.{Root, In, Refused as refused_place}
+use Rattle.paths.specs.Walks.{walked, at_place, placed_from, placed_in, placed, child_step}
+use Rattle.std.specs.Prelude.{Option, Some as the_place, None, Ok, Err}
+use Rattle.refusals.specs.Numbers.{Judged}
+use Rattle.paths.specs.declared.Place.{Place}
 
 -- the last component stands at the end of the path's bytes
 last-joined : (c : List ℕ) (cs : Path) → (y : List ℕ) × (c ++ joined cs ≡ y ++ last_of (c ∷ cs))
@@ -51,10 +50,10 @@ last-start (b ∷ []) c cs e = let z : ◌≡◌ {A = ℕ} 0 1 = cc in absurd (o
 last-start (b ∷ x ∷ s) c cs e = last_end b (x ∷ s) c cs e
 
 -- A walk by the way to its last component: the last step.
-unfoldable pub last_step : List Node → List ℕ → Placed → Walked
-last_step ns s Root = node 0
-last_step ns s (In d a) = child_step ns d (drop a s)
-last_step ns s (refused_place k) = refused_node k
+unfoldable pub last_step : List Node → List ℕ → Judged (Option Place) → Judged ℕ
+last_step ns s (Ok None) = Ok 0
+last_step ns s (Ok (the_place p)) = child_step ns p.parent (drop p.start s)
+last_step ns s (Err k) = Err k
 
 module _ (ns : List Node) (s : List ℕ) where
   last-walked : (c : List ℕ) (cs : Path) → components_of s ≡ c ∷ cs
@@ -63,13 +62,13 @@ module _ (ns : List Node) (s : List ℕ) where
   last-walked c cs e =
       let p = c ∷ cs in
       let at = length s - length (last_of p) in
-      let f : ℕ → Walked = λ k. pick (absent ns k) (refused_node 2) (node k) in
+      let f : ℕ → Judged ℕ = λ k. pick (absent ns k) (Err 2) (Ok k) in
       let k : walk ns 0 p ≡ child_at ns (parent_of ns 0 p) (drop at s) = walk-last ns 0 c cs
       ∙ ap (child_at ns (parent_of ns 0 p)) (sym (last-start s c cs e)) in
-      ap (λ (l : List Check). decide refused_node l (node (walk ns 0 p))) (walk_checks_parent ns 0 c cs)
-      ∙ decide-append refused_node (parent_checks ns 0 p) ((2, absent ns (walk ns 0 p)) ∷ []) (node (walk ns 0 p))
-      ∙ ap (λ (j : ℕ). decide refused_node (parent_checks ns 0 p) (f j)) k
-      ∙ sym (decide-map refused_place (last_step ns s) (parent_checks ns 0 p) (In (parent_of ns 0 p) at))
+      ap (λ (l : List Check). decide Err l (Ok (walk ns 0 p))) (walk_checks_parent ns 0 c cs)
+      ∙ decide-append Err (parent_checks ns 0 p) ((2, absent ns (walk ns 0 p)) ∷ []) (Ok (walk ns 0 p))
+      ∙ ap (λ (j : ℕ). decide Err (parent_checks ns 0 p) (f j)) k
+      ∙ sym (decide-map Err (last_step ns s) (parent_checks ns 0 p) (at_place (parent_of ns 0 p) at))
 
   pub walked-placed : walked ns (components_of s) ≡ last_step ns s (placed ns s)
   unfolding placed placed_in
@@ -88,45 +87,55 @@ pub record Holds (ns : List Node) (s : List ℕ) (d at : ℕ) : Type 0 where
   pub place-within : d < length ns
   pub start_within : at ≤ length s
 
+abbrev parent_in : Judged (Option Place) → ℕ
+parent_in (Ok (the_place p)) = p.parent
+parent_in (Ok None) = 0
+parent_in (Err k) = 0
+
+abbrev start_in : Judged (Option Place) → ℕ
+start_in (Ok (the_place p)) = p.start
+start_in (Ok None) = 0
+start_in (Err k) = 0
+
 module _ (ns : List Node) (s : List ℕ) where
-  pub placed_none : placed ns s ≡ Root → components_of s ≡ []
+  pub placed_none : placed ns s ≡ Ok None → components_of s ≡ []
   unfolding placed
   placed_none = go (components_of s)
     where
-      go : (p : Path) → placed_in ns (length s) p ≡ Root → p ≡ []
+      go : (p : Path) → placed_in ns (length s) p ≡ Ok None → p ≡ []
       go [] = λ e. refl
       go (c ∷ cs) =
           unfold placed_in placed_from in
-          decide_ind refused_place (λ r. r ≡ Root → c ∷ cs ≡ []) (parent_checks ns 0 (c ∷ cs)) _
+          decide_ind Err (λ r. r ≡ Ok None → c ∷ cs ≡ []) (parent_checks ns 0 (c ∷ cs)) _
           (λ n f e. let z : ◌≡◌ {A = ℕ} 0 1 = cc in absurd (omega arith))
           (λ p e. let z : ◌≡◌ {A = ℕ} 0 1 = cc in absurd (omega arith))
 
-  pub placed_refused : (k : ℕ) → placed ns s ≡ refused_place k → First k (parent_checks ns 0 (components_of s))
+  pub placed_refused : (k : ℕ) → placed ns s ≡ Err k → First k (parent_checks ns 0 (components_of s))
   unfolding placed
   placed_refused k = go (components_of s)
     where
-      go : (p : Path) → placed_in ns (length s) p ≡ refused_place k → First k (parent_checks ns 0 p)
+      go : (p : Path) → placed_in ns (length s) p ≡ Err k → First k (parent_checks ns 0 p)
       go [] = unfold placed_in in λ e. let z : ◌≡◌ {A = ℕ} 0 1 = cc in absurd (omega arith)
       go (c ∷ cs) =
           unfold placed_in placed_from in
-          decide_ind refused_place (λ r. r ≡ refused_place k → First k (parent_checks ns 0 (c ∷ cs)))
+          decide_ind Err (λ r. r ≡ Err k → First k (parent_checks ns 0 (c ∷ cs)))
           (parent_checks ns 0 (c ∷ cs)) _
           (λ n f e. let q : n ≡ k = cc in subst (λ (j : ℕ). First j (parent_checks ns 0 (c ∷ cs))) q f)
           (λ p e. let z : ◌≡◌ {A = ℕ} 0 1 = cc in absurd (omega arith))
 
-  pub placed_in_lem : (d at : ℕ) → 0 < length ns → placed ns s ≡ In d at → Holds ns s d at
+  pub placed_in_lem : (d at : ℕ) → 0 < length ns → placed ns s ≡ at_place d at → Holds ns s d at
   unfolding placed
   placed_in_lem d at h e = go (components_of s) refl e
     where
-      go : (p : Path) → components_of s ≡ p → placed_in ns (length s) p ≡ In d at → Holds ns s d at
+      go : (p : Path) → components_of s ≡ p → placed_in ns (length s) p ≡ at_place d at → Holds ns s d at
       go [] q = unfold placed_in in λ e. let z : ◌≡◌ {A = ℕ} 0 1 = cc in absurd (omega arith)
       go (c ∷ cs) q =
           unfold placed_in placed_from in
-          decide_ind refused_place (λ r. r ≡ In d at → Holds ns s d at) (parent_checks ns 0 (c ∷ cs)) _
+          decide_ind Err (λ r. r ≡ at_place d at → Holds ns s d at) (parent_checks ns 0 (c ∷ cs)) _
           (λ n f e. let z : ◌≡◌ {A = ℕ} 0 1 = cc in absurd (omega arith))
           (λ p e.
-          let i : parent_of ns 0 (c ∷ cs) ≡ d = cc in
-          let j : length s - length (last_of (c ∷ cs)) ≡ at = cc in
+          let i : parent_of ns 0 (c ∷ cs) ≡ d = ap parent_in e in
+          let j : length s - length (last_of (c ∷ cs)) ≡ at = ap start_in e in
           record {
             components = subst Some (sym q) some;
             passed = subst (λ (t : Path). Passed (parent_checks ns 0 t)) (sym q) p;
@@ -137,13 +146,13 @@ module _ (ns : List Node) (s : List ℕ) where
           })
 
   -- the walk itself is then one step more
-  pub placed-walked : (d at : ℕ) → placed ns s ≡ In d at → walked ns (components_of s) ≡ child_step ns d (drop at s)
+  pub placed-walked : (d at : ℕ) → placed ns s ≡ at_place d at → walked ns (components_of s) ≡ child_step ns d (drop at s)
   unfolding last_step
   placed-walked d at e = walked-placed ns s ∙ ap (last_step ns s) e
 
   -- checks that begin with those on the way
   module _ {A : Type 0} (stop : ℕ → A) (more : List Check) (x : A) where
-    pub placed-stops : (k : ℕ) → placed ns s ≡ refused_place k → decide stop (parent_checks ns 0 (components_of s) ++ more)
+    pub placed-stops : (k : ℕ) → placed ns s ≡ Err k → decide stop (parent_checks ns 0 (components_of s) ++ more)
         x ≡ stop k
     placed-stops k e = decide-append stop (parent_checks ns 0 (components_of s)) more x
         ∙ decide-first stop _ (placed_refused k e)
@@ -160,18 +169,18 @@ pub record Reaches (ns : List Node) (p : Path) (k : ℕ) : Type 0 where
   pub node_within : k < length ns
 
 module _ (ns : List Node) (p : Path) where
-  pub walked_refused : (k : ℕ) → walked ns p ≡ refused_node k → First k (walk_checks ns 0 p)
+  pub walked_refused : (k : ℕ) → walked ns p ≡ Err k → First k (walk_checks ns 0 p)
   unfolding walked
   walked_refused k =
-      decide_ind refused_node (λ r. r ≡ refused_node k → First k (walk_checks ns 0 p)) (walk_checks ns 0 p)
-      (node (walk ns 0 p))
+      decide_ind Err (λ r. r ≡ Err k → First k (walk_checks ns 0 p)) (walk_checks ns 0 p)
+      (Ok (walk ns 0 p))
       (λ n f e. let q : n ≡ k = cc in subst (λ (j : ℕ). First j (walk_checks ns 0 p)) q f)
       (λ p e. let z : ◌≡◌ {A = ℕ} 0 1 = cc in absurd (omega arith))
 
-  pub walked-node : (k : ℕ) → 0 < length ns → walked ns p ≡ node k → Reaches ns p k
+  pub walked-node : (k : ℕ) → 0 < length ns → walked ns p ≡ Ok k → Reaches ns p k
   unfolding walked
   walked-node k h =
-      decide_ind refused_node (λ r. r ≡ node k → Reaches ns p k) (walk_checks ns 0 p) (node (walk ns 0 p))
+      decide_ind Err (λ r. r ≡ Ok k → Reaches ns p k) (walk_checks ns 0 p) (Ok (walk ns 0 p))
       (λ n f e. let z : ◌≡◌ {A = ℕ} 0 1 = cc in absurd (omega arith))
       (λ a e.
       let i : walk ns 0 p ≡ k = cc in
@@ -179,7 +188,7 @@ module _ (ns : List Node) (p : Path) where
 
   -- checks that begin with the walk's
   module _ {A : Type 0} (stop : ℕ → A) (more : List Check) (x : A) where
-    pub walked-stops : (k : ℕ) → walked ns p ≡ refused_node k → decide stop (walk_checks ns 0 p ++ more) x ≡ stop k
+    pub walked-stops : (k : ℕ) → walked ns p ≡ Err k → decide stop (walk_checks ns 0 p ++ more) x ≡ stop k
     walked-stops k e = decide-append stop (walk_checks ns 0 p) more x ∙ decide-first stop _ (walked_refused k e)
 
     pub walked_goes : (k : ℕ) → Reaches ns p k → decide stop (walk_checks ns 0 p ++ more) x ≡ decide stop more x

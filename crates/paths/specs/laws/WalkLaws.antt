@@ -1,6 +1,6 @@
 -- The walk step by step, and what each of its answers says.
 -- Assumes nothing.
-use Rattle.std.specs.Prelude.{◌≡◌, Bool, ℕ, ◌+◌, ◌≤◌, ◌<◌, ◌-◌, length, take, drop}
+use Rattle.std.specs.Prelude.{◌≡◌, Bool, ℕ, ◌+◌, ◌≤◌, ◌<◌, ◌-◌, length, take, drop, None, Ok, Err}
 use Rattle.std.proofs.Math.Path.{refl, ap}
 use Rattle.std.proofs.Common.{sym, ◌∙◌, arith, length-drop, le-leb}
 use Rattle.std.proofs.Math.Bool.{true, false}
@@ -14,9 +14,7 @@ use Rattle.filesystem.specs.Paths.{Path, split, child_at, parent_checks, parent_
 use Rattle.paths.specs.Parts.{is_slash}
 use Rattle.paths.specs.laws.PartsLaws.{components_none, components_split, Some, some, split_some, end-passes}
 use Rattle.paths.specs.laws.PartsLaws.{part-slash, part-last}
-use Rattle.paths.specs.Walks.{placed_from, placed_in, placed, search_number, child_step}
-use Rattle.paths.specs.declared.Walked.TheVariants.{Node as node, Refused as refused_node}
-use Rattle.paths.specs.declared.Placed.TheVariants.{Root, In, Refused as refused_place}
+use Rattle.paths.specs.Walks.{at_place, placed_from, placed_in, placed, search_number, child_step}
 use Rattle.tables.specs.laws.RowsInUse.{node_front_lem}
 
 -- Two checks, of which the first that holds gives its number.
@@ -63,24 +61,24 @@ module _ (ns : List Node) (d : ℕ) where
 -- One step of the walk to the last component's directory.
 module _ (ns : List Node) (n d : ℕ) (c : List ℕ) where
   pub placed_stop : (cs : Path) (k : ℕ) → k ≡ search_number ns d → (k ≡ 0 → ⊥)
-      → placed_from ns n d (c ∷ cs) ≡ refused_place k
+      → placed_from ns n d (c ∷ cs) ≡ Err k
   unfolding placed_from parent_checks search_number
-  placed_stop [] k e z = two_stop refused_place _ _ [] _ k e z
-  placed_stop (x ∷ cs) k e z = two_stop refused_place _ _ _ _ k e z
+  placed_stop [] k e z = two_stop Err _ _ [] _ k e z
+  placed_stop (x ∷ cs) k e z = two_stop Err _ _ _ _ k e z
 
-  pub placed-here : 0 ≡ search_number ns d → placed_from ns n d (c ∷ []) ≡ In d (n - length c)
+  pub placed-here : 0 ≡ search_number ns d → placed_from ns n d (c ∷ []) ≡ at_place d (n - length c)
   unfolding placed_from parent_checks parent_of last_of search_number decide
-  placed-here e = two_pass refused_place _ _ [] _ e
+  placed-here e = two_pass Err _ _ [] _ e
 
   pub placed-absent : (x : List ℕ) (cs : Path) → 0 ≡ search_number ns d → length ns ≤ child_at ns d c
-      → placed_from ns n d (c ∷ x ∷ cs) ≡ refused_place 2
+      → placed_from ns n d (c ∷ x ∷ cs) ≡ Err 2
   unfolding placed_from parent_checks search_number
-  placed-absent x cs e h = three_stop refused_place _ _ _ _ _ e (le-leb _ _ h)
+  placed-absent x cs e h = three_stop Err _ _ _ _ _ e (le-leb _ _ h)
 
   pub placed_on : (x : List ℕ) (cs : Path) → 0 ≡ search_number ns d → child_at ns d c < length ns
       → placed_from ns n d (c ∷ x ∷ cs) ≡ placed_from ns n (child_at ns d c) (x ∷ cs)
   unfolding placed_from parent_checks parent_of last_of search_number
-  placed_on x cs e h = three_pass refused_place _ _ _ _ _ e (lt-leb _ _ h)
+  placed_on x cs e h = three_pass Err _ _ _ _ _ e (lt-leb _ _ h)
 
 -- The walk by the path's bytes, from `at` on, where the next slash stands at `end`.
 module _ (ns : List Node) (s : List ℕ) (d at end : ℕ) (reach : end ≡ at + place is_slash (drop at s))
@@ -92,20 +90,20 @@ module _ (ns : List Node) (s : List ℕ) (d at end : ℕ) (reach : end ≡ at + 
       part-slash is_slash (λ b e. e) s at end reach h p
 
   pub step_stop : (k : ℕ) → k ≡ search_number ns d → (k ≡ 0 → ⊥)
-      → placed_from ns (length s) d (split (drop at s)) ≡ refused_place k
+      → placed_from ns (length s) d (split (drop at s)) ≡ Err k
   step_stop k e z = go (split (drop at s)) (split_some (drop at s))
     where
-      go : (p : Path) → Some p → placed_from ns (length s) d p ≡ refused_place k
+      go : (p : Path) → Some p → placed_from ns (length s) d p ≡ Err k
       go (c ∷ cs) some = placed_stop ns (length s) d c cs k e z
       go [] x' = elim x' [ ]
 
   module _ (more : end < length s) where
     pub step-absent : 0 ≡ search_number ns d → length ns ≤ child_at ns d (take (end - at) (drop at s))
-        → placed_from ns (length s) d (split (drop at s)) ≡ refused_place 2
+        → placed_from ns (length s) d (split (drop at s)) ≡ Err 2
     step-absent e h = ap (placed_from ns (length s) d) (first_part more)
         ∙ go (split (drop (end + 1) s)) (split_some (drop (end + 1) s))
       where
-        go : (p : Path) → Some p → placed_from ns (length s) d (take (end - at) (drop at s) ∷ p) ≡ refused_place 2
+        go : (p : Path) → Some p → placed_from ns (length s) d (take (end - at) (drop at s) ∷ p) ≡ Err 2
         go (c ∷ cs) some = placed-absent ns (length s) d (take (end - at) (drop at s)) c cs e h
         go [] x' = elim x' [ ]
 
@@ -122,16 +120,16 @@ module _ (ns : List Node) (s : List ℕ) (d at end : ℕ) (reach : end ≡ at + 
         go [] x' = elim x' [ ]
 
   -- the last
-  pub step-last : length s ≤ end → 0 ≡ search_number ns d → placed_from ns (length s) d (split (drop at s)) ≡ In d at
+  pub step-last : length s ≤ end → 0 ≡ search_number ns d → placed_from ns (length s) d (split (drop at s)) ≡ at_place d at
   step-last h e =
       let n : length s - length (drop at s) ≡ at = omega (arith, length-drop at s) in
       ap (placed_from ns (length s) d) (part-last is_slash (λ b e. e) s at end reach h)
       ∙ placed-here ns (length s) d (drop at s) e
-      ∙ ap (In d) n
+      ∙ ap (at_place d) n
 
 -- the whole path
 module _ (ns : List Node) (s : List ℕ) where
-  pub placed-root : length s < 2 → placed ns s ≡ Root
+  pub placed-root : length s < 2 → placed ns s ≡ Ok None
   unfolding placed placed_in
   placed-root h = ap (placed_in ns (length s)) (components_none s h)
 
@@ -152,10 +150,10 @@ child_front n ns d id k c h e q = q ∙ ap (λ (x : ℕ). find_child (take n ns)
     ∙ sym (ap (λ (x : Node). x.id) (node_front_lem n ns d h)))
 
 module _ (ns : List Node) (d k : ℕ) (c : List ℕ) (e : k ≡ child_at ns d c) where
-  pub child_absent : length ns ≤ k → child_step ns d c ≡ refused_node 2
+  pub child_absent : length ns ≤ k → child_step ns d c ≡ Err 2
   unfolding child_step
   child_absent h = pick_true _ _ _ (le-leb (length ns) (child_at ns d c) (omega arith))
 
-  pub child_there : k < length ns → child_step ns d c ≡ node k
+  pub child_there : k < length ns → child_step ns d c ≡ Ok k
   unfolding child_step
-  child_there h = pick-false _ _ _ (lt-leb (length ns) (child_at ns d c) (omega arith)) ∙ ap node (sym e)
+  child_there h = pick-false _ _ _ (lt-leb (length ns) (child_at ns d c) (omega arith)) ∙ ap Ok (sym e)

@@ -25,6 +25,9 @@ use Rattle.rules.proofs.Lengths.{listing_length}
 use Rattle.machine.specs.Machine.{State, Result, gave_up, apply, guard as digest_store}
 use Rattle.guard_state.specs.State.{state_of}
 use Rattle.guard_state.specs.Waits.{ends}
+use Rattle.refusals.specs.Numbers.{reason_number}
+use Rattle.refusals.specs.declared.StopReason.{StopReason}
+use Rattle.refusals.specs.laws.NumberLaws.{reason_positive}
 use Rattle.outcomes.specs.declared.Outcome.{Outcome}
 use Rattle.outcomes.specs.declared.Outcome.TheVariants.{Done, Stopped}
 use Rattle.outcomes.specs.Values.{length_of, bytes_in, answer_in}
@@ -204,10 +207,11 @@ module _ (c : Config) (wide : c.width ≡ ID_BYTES) (s : State (digest_store c))
   abbrev t : Tables
   t = s.skeleton.tables
 
-  pub answer-stops : (b : ℕ) (x q : List ℕ) → b ≡ reason_for t r p → 0 < b → state_of c x ≡ s
+  pub answer-stops : (b : StopReason) (x q : List ℕ) → reason_number b ≡ reason_for t r p → state_of c x ≡ s
       → Sends c (answered c s r) (Stopped b) x q q
   unfolding answered
-  answer-stops b x q e h g = stop_sends c s _ b x q (taken-stops c wide s r p waiting full b e h) g
+  answer-stops b x q e g =
+      stop_sends c s _ b x q (taken-stops c wide s r p waiting full (reason_number b) e (reason_positive b)) g
 
   pub answer_finishes : (u : Tables) (n : ℕ) (x q : List ℕ) → 0 ≡ reason_for t r p
       → reply_action ID_BYTES t r p ≡ finish u n []
@@ -236,10 +240,10 @@ module _ (c : Config) (wide : c.width ≡ ID_BYTES) (s : State (digest_store c))
       (taken-passes c wide s r p waiting full e (ap is_remap f) ∙ f)) g
 
   -- where the answer buffer is lent: a stop leaves it, and a call that is done puts its bytes at the front
-  pub stop_fills : (b : ℕ) (x a : List ℕ) → b ≡ reason_for t r p → 0 < b → state_of c x ≡ s
+  pub stop_fills : (b : StopReason) (x a : List ℕ) → reason_number b ≡ reason_for t r p → state_of c x ≡ s
       → Fills c (answered c s r) (Stopped b) x a a
-  stop_fills b x a e h g =
-      let z : (q : List ℕ) → Sends c (answered c s r) (Stopped b) x q q = λ q. answer-stops b x q e h g in
+  stop_fills b x a e g =
+      let z : (q : List ℕ) → Sends c (answered c s r) (Stopped b) x q q = λ q. answer-stops b x q e g in
       record {
         state = (z []).state;
         answer = λ q. (z q).answer a;

@@ -1,4 +1,4 @@
--- `paths::search_number` meets its contract. Assumes nothing.
+-- `paths::check_search` meets its contract. Assumes nothing.
 use native.Mathlib.Omega.{arith}
 use Prim.Native.Nat.{◌%◌, ◌/◌}
 use mathlib.Core.Path.{sym, ap, ◌∙◌}
@@ -8,7 +8,7 @@ use Rattle.filesystem.specs.Tables.{node_at, is_directory, has_bit}
 use Rattle.memory.specs.Layout.{mem_of}
 use Rattle.paths.specs.laws.WalkLaws.{search_no_folder, search_barred, search_free}
 use Rattle.tables.specs.laws.RowsInUse.{node_front_lem}
-use Rattle.paths.proofs.search_number.Goals as goal
+use Rattle.paths.proofs.check_search.Goals as goal
 
 pub returns-then-node_kind-ne-DIRECTORY : goal.returns-then-node_kind-ne-DIRECTORY
 returns-then-node_kind-ne-DIRECTORY c =
