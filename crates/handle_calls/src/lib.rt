@@ -2,40 +2,45 @@
 // (SPECIFICATION 7.8).
 #![tactic(auto)]
 
-ghost use Rattle.std.specs.Prelude.{true, ◌≡◌, ℕ, ◌<◌, ◌≤◌};
+ghost use Rattle.std.specs.Prelude.{true, ◌≡◌, ℕ, ◌<◌, ◌≤◌, IfOk};
 ghost use Rattle.filesystem.specs.Image.{sound_nodes};
 ghost use Rattle.filesystem.specs.Tables.{NODES, node_at, find_id};
 ghost use Rattle.rules.specs.Rules.{no_room};
 ghost use Rattle.memory.specs.Layout.{open_rows};
 ghost use Rattle.memory.specs.Memories.{IsMemory, nodes_of, was, opens_of};
 ghost use Rattle.tables.specs.View.{tables_in};
-ghost use Rattle.handle_calls.specs.Judged.{lacks_right, end_checked};
-ghost use Rattle.handle_calls.specs.declared.Handled.TheVariants.{Open};
+ghost use Rattle.refusals.specs.Numbers.{numbered};
+ghost use Rattle.handle_calls.specs.Judged.{found_with, end_checked};
 
-// The places of an open file and of its node, or the number that stops the call.
-#[derive(Clone, Copy)]
-pub enum Handled {
-    Open { opened: usize, node: usize },
-    Refused(u8),
+use refusals::Refusal;
+
+// The places of an open file and of its node.
+#[derive(Clone, Copy, PartialEq, Eq)]
+pub struct Handled {
+    pub opened: usize,
+    pub node: usize,
 }
 
-// The place of the node of the open file in place k, which has this handle.
+// The place of the open file with this handle, where it has this right: 9.
+pub fn find_with_right(m: &[u8], o: usize, handle: u64, right: u8) -> Result<usize, Refusal>
+    requires { (0 < right) × (o ≤ open_rows) × IsMemory m.now }
+    ensures { numbered result ≡ found_with (opens_of o m.now) handle right }
+{
+    let Some(k) = tables::find_handle(m, o, handle) else {
+        return Err(Refusal::BadHandle);
+    };
+    if memory::open_rights(m, k) / right % 2 != 1 {
+        return Err(Refusal::BadHandle);
+    }
+    Ok(k)
+}
+
+// The place of the node of the open file in place k, which has this handle. No valid table lacks it.
 pub fn file_place(m: &[u8], n: usize, k: usize, handle: u64) -> usize
     requires { (n ≤ NODES) × (k < open_rows) × IsMemory m.now }
     ensures { (w : ℕ) → sound_nodes w (nodes_of n m.now) ≡ true → result ≡ find_id (nodes_of n m.now) handle }
 {
-    tables::find_node(m, n, handle, memory::open_hint(m, k) as usize)
-}
-
-// Whether no open file with this right stands in place k.
-pub fn lacks_right(m: &[u8], o: usize, k: usize, right: u8) -> bool
-    requires { (0 < right) × (o ≤ open_rows) × IsMemory m.now }
-    ensures { result ≡ lacks_right (opens_of o m.now) right k }
-{
-    if o <= k {
-        return true;
-    }
-    memory::open_rights(m, k) / right % 2 != 1
+    tables::find_node(m, n, handle, memory::open_hint(m, k) as usize).unwrap_or(n)
 }
 
 // The size of the node in place k; past the nodes there is none.
@@ -50,16 +55,23 @@ pub fn size_at(m: &[u8], n: usize, k: usize) -> u32
 }
 
 // 22 past the end, for the open file in place k. A position that passes is at most a size, so it fits a u32.
-pub fn judge_end(m: &[u8], n: usize, handle: u64, k: usize, position: u64) -> Handled
+pub fn judge_end(
+    m: &[u8],
+    n: usize,
+    handle: u64,
+    k: usize,
+    position: u64,
+) -> Result<Handled, Refusal>
     requires { (n ≤ NODES) × (k < open_rows) × IsMemory m.now }
-    ensures by_index { (w : ℕ) → sound_nodes w (nodes_of n m.now) ≡ true → result ≡ end_checked (nodes_of n m.now) handle k position }
-    ensures by_index_2 { (i j : ℕ) → result ≡ Open i j → (i ≡ k) × (position < 4294967296) }
+    ensures by_index { (w : ℕ) → sound_nodes w (nodes_of n m.now) ≡ true
+        → numbered result ≡ end_checked (nodes_of n m.now) handle k position }
+    ensures passed { IfOk result (λ p. (p.opened ≡ k) × (position < 4294967296)) }
 {
     let node = file_place(m, n, k, handle);
     if (size_at(m, n, node) as u64) < position {
-        return Handled::Refused(22);
+        return Err(Refusal::Invalid);
     }
-    Handled::Open { opened: k, node }
+    Ok(Handled { opened: k, node })
 }
 
 // Whether the pages would be too many if the node in place k had this size. Sound nodes have room for their own.

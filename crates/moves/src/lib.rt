@@ -2,14 +2,16 @@
 #![tactic(auto)]
 
 ghost use Rattle.std.specs.Prelude.{true, not, ◌||◌, ◌≡◌, ℕ, ◌≤◌, ◌<◌, length};
-ghost use Rattle.lists.specs.Pick.{pick};
 ghost use Rattle.filesystem.specs.Image.{sound_nodes, length_in};
 ghost use Rattle.filesystem.specs.Tables.{NODES, NAME_BYTES, PATH_BYTES, node_at, is_directory, has_bit};
 ghost use Rattle.filesystem.specs.Ways.{ParentAt};
 ghost use Rattle.links.specs.Climbs.{Linked};
 ghost use Rattle.links.specs.Parents.{Placed};
 ghost use Rattle.memory.specs.Memories.{IsMemory, nodes_of};
+ghost use Rattle.refusals.specs.Numbers.{refusal_or_0};
 ghost use Rattle.moves.specs.Moves.{move_number};
+
+use refusals::Refusal;
 
 // The place of the parent of node k; 0 where there is none, as for the root. `hint` is tried first.
 fn parent_place(
@@ -23,11 +25,7 @@ fn parent_place(
     ensures { (result < n) × ((w : ℕ) → sound_nodes w (nodes_of n m.now) ≡ true → 0 < k
         → ParentAt (nodes_of n m.now) (node_at (nodes_of n m.now) k) result) }
 {
-    let d = tables::find_listed(m, n, memory::node_parent(m, k), hint, places);
-    if n <= d {
-        return 0;
-    }
-    d
+    tables::find_listed(m, n, memory::node_parent(m, k), hint, places).unwrap_or(0)
 }
 
 // Of each node but the root, the place of its parent in `to` and the bytes of its name, with a slash, in `far`.
@@ -39,13 +37,11 @@ fn place_parents(m: &[u8], n: usize, to: &mut [u8], far: &mut [u8])
 {
     let mut places = [0u8; tables::PLACES];
     let mut parent = 0;
-    let mut k = 1;
     // those of the nodes before k; nodes of one directory often follow each other
-    while k < n {
+    for k in 1..n {
         parent = parent_place(m, n, k, parent, &mut places);
         to[k] = parent as u8;
         far[k] = (memory::node_name(m, k).len() + 1) as u8;
-        k += 1;
     }
 }
 
@@ -60,23 +56,20 @@ fn is_barred(m: &[u8], n: usize, from: usize, d: usize) -> bool
     memory::node_mode(m, d) / 2 % 2 != 1
 }
 
-// 36 unless every path is short enough.
-fn depth_number(shallow: bool) -> u8
-    ensures { result ≡ pick shallow 0 36 }
-{
-    if shallow {
-        return 0;
-    }
-    36
-}
-
 // Of directory k, which the directory in place `from` holds, as `name` in directory d: 22 beneath itself, 13, 36 where
-// a path beneath it would be too long, or 0.
-fn judge_directory(m: &[u8], n: usize, k: usize, from: usize, d: usize, name: &[u8]) -> u8
+// a path beneath it would be too long.
+fn judge_directory(
+    m: &[u8],
+    n: usize,
+    k: usize,
+    from: usize,
+    d: usize,
+    name: &[u8],
+) -> Result<(), Refusal>
     requires { (0 < k) × (k < n) × (from < n) × (d < n) × (n ≤ NODES) × (length name.now ≤ NAME_BYTES)
         × IsMemory m.now }
     ensures { (w : ℕ) → sound_nodes w (nodes_of n m.now) ≡ true → is_directory (node_at (nodes_of n m.now) d) ≡ true
-        → result ≡ move_number (nodes_of n m.now) k from d name.now }
+        → refusal_or_0 result ≡ move_number (nodes_of n m.now) k from d name.now }
 {
     let mut to = [0u8; limits::NODES];
     let mut far = [0u8; limits::NODES];
@@ -85,27 +78,37 @@ fn judge_directory(m: &[u8], n: usize, k: usize, from: usize, d: usize, name: &[
     far[k] = (name.len() + 1) as u8;
     // beneath itself it would lead back to itself, and never to the root
     if limits::PATH_BYTES < links::climb(&to, &far, n, d) {
-        return 22;
+        return Err(Refusal::Invalid);
     }
     if is_barred(m, n, from, d) {
-        return 13;
+        return Err(Refusal::Denied);
     }
-    depth_number(links::all_climb(&mut to, &mut far, n))
+    if !links::all_climb(&mut to, &mut far, n) {
+        return Err(Refusal::TooLong);
+    }
+    Ok(())
 }
 
 // The same of any node; nothing lies beneath a file.
-pub fn judge_move(m: &[u8], n: usize, k: usize, from: usize, d: usize, name: &[u8]) -> u8
+pub fn judge_move(
+    m: &[u8],
+    n: usize,
+    k: usize,
+    from: usize,
+    d: usize,
+    name: &[u8],
+) -> Result<(), Refusal>
     requires { (0 < k) × (k < n) × (from < n) × (d < n) × (n ≤ NODES) × (length name.now ≤ NAME_BYTES)
         × IsMemory m.now }
     ensures { (w : ℕ) → sound_nodes w (nodes_of n m.now) ≡ true → is_directory (node_at (nodes_of n m.now) d) ≡ true
         → length_in (nodes_of n m.now) d name.now ≤ PATH_BYTES
-        → result ≡ move_number (nodes_of n m.now) k from d name.now }
+        → refusal_or_0 result ≡ move_number (nodes_of n m.now) k from d name.now }
 {
     if memory::node_kind(m, k) == limits::DIRECTORY {
         return judge_directory(m, n, k, from, d, name);
     }
     if is_barred(m, n, from, d) {
-        return 13;
+        return Err(Refusal::Denied);
     }
-    0
+    Ok(())
 }

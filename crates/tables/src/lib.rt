@@ -2,7 +2,7 @@
 // Contracts are over the rows in use (specs/View.antt); where a row stands is the memory crate's.
 #![tactic(auto)]
 
-ghost use Rattle.std.specs.Prelude.{true, false, List, [], ◌≡◌, ℕ, ◌+◌, ◌-◌, ◌*◌, ◌≤◌, ◌<◌, eqb, length, get_or, take, replicate};
+ghost use Rattle.std.specs.Prelude.{true, false, List, [], ◌≡◌, ℕ, ◌+◌, ◌-◌, ◌*◌, ◌≤◌, ◌<◌, eqb, length, get_or, take, replicate, IfSome};
 ghost use Rattle.lists.specs.Equal.{equal};
 ghost use Rattle.lists.specs.Parts.{overwrite};
 ghost use Rattle.lists.specs.Pick.{pick};
@@ -34,8 +34,9 @@ pub fn find_id(m: &[u8], n: usize, id: u64) -> Option<usize>
 // would find it too.
 fn is_place(m: &[u8], n: usize, id: u64, k: usize) -> bool
     requires { (n ≤ NODES) × IsMemory m.now }
-    ensures { result ≡ true → (w : ℕ) → sound_nodes w (nodes_of n m.now) ≡ true
+    ensures place { result ≡ true → (w : ℕ) → sound_nodes w (nodes_of n m.now) ≡ true
         → Some k ≡ found n (find_id (nodes_of n m.now) id) }
+    ensures within { result ≡ true → k < n }
 {
     if n <= k {
         return false;
@@ -46,7 +47,9 @@ fn is_place(m: &[u8], n: usize, id: u64, k: usize) -> bool
 // The search with a place that is tried first.
 pub fn find_node(m: &[u8], n: usize, id: u64, hint: usize) -> Option<usize>
     requires { (n ≤ NODES) × IsMemory m.now }
-    ensures { (w : ℕ) → sound_nodes w (nodes_of n m.now) ≡ true → result ≡ found n (find_id (nodes_of n m.now) id) }
+    ensures place { (w : ℕ) → sound_nodes w (nodes_of n m.now) ≡ true
+        → result ≡ found n (find_id (nodes_of n m.now) id) }
+    ensures within { IfSome result (λ k. k < n) }
 {
     if is_place(m, n, id, hint) {
         return Some(hint);
@@ -124,7 +127,9 @@ pub fn find_listed(
     places: &mut [u8; PLACES],
 ) -> Option<usize>
     requires { (n ≤ NODES) × IsMemory m.now }
-    ensures { (w : ℕ) → sound_nodes w (nodes_of n m.now) ≡ true → result ≡ found n (find_id (nodes_of n m.now) id) }
+    ensures place { (w : ℕ) → sound_nodes w (nodes_of n m.now) ≡ true
+        → result ≡ found n (find_id (nodes_of n m.now) id) }
+    ensures within { IfSome result (λ k. k < n) }
 {
     if is_place(m, n, id, hint) {
         return Some(hint);

@@ -15,6 +15,3 @@ abbrev pub invariant-loop-k : goal.invariant-loop-k
 invariant-loop-k l = (0 < l.k) × Joined l.to l.far l.n l.k
     × ((w : ℕ) → sound_nodes w (take l.n (mem_of l.m).nodes) ≡ true
     → Placed (node_at (take l.n (mem_of l.m).nodes)) l.to l.far l.n l.k)
-
-abbrev pub decreases-loop-k : goal.decreases-loop-k
-decreases-loop-k l = l.n - l.k

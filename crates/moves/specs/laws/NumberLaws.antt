@@ -45,9 +45,3 @@ module _ (ns : List Node) (k from d : ℕ) (name : List ℕ) where
       move-passes e =
           sym (check_passes number 22 (beneath ns k d) _ 0 away ∙ (check_passes number 13 barred _ 0 free
           ∙ check_last number 36 (too_deep ns k d name) 0 e))
-
-      pub move_depth : (r : Bool) → (r ≡ true → too_deep ns k d name ≡ false) → (r ≡ false → too_deep ns k d name ≡ true)
-          → pick r 0 36 ≡ move_number ns k from d name
-      unfolding pick
-      move_depth true s t = move-passes (s refl)
-      move_depth false s t = move-deep (t refl)

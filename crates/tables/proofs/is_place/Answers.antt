@@ -11,8 +11,8 @@ use Rattle.tables.specs.Found.{found}
 use Rattle.tables.specs.laws.FoundLaws.{found_at}
 use Rattle.tables.proofs.is_place.Goals as goal
 
-pub returns : goal.returns
-returns c e w v =
+pub returns-clause-place : goal.returns-clause-place
+returns-clause-place c e w v =
     let a = c.args in
     let ns = take a.n (mem_of a.m.now).nodes in
     let l : length ns ≡ a.n = count-nodes a.m.now a.n (omega arith) in

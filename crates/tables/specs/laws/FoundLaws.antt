@@ -1,6 +1,6 @@
 -- What a search found, read by its answer; and the answer of a search that goes over the rows from a place on.
 -- Assumes nothing.
-use Rattle.std.specs.Prelude.{◌≡◌, Bool, true, false, ℕ, zero, suc, ◌+◌, ◌<◌, ◌≤◌, ltb, Option, Some, None, is_some, unwrap_or, List, [], ◌∷◌, length, get_or, take, MatchOption}
+use Rattle.std.specs.Prelude.{◌≡◌, Bool, true, false, ℕ, zero, suc, ◌+◌, ◌<◌, ◌≤◌, ltb, Option, Some, None, is_some, unwrap_or, List, [], ◌∷◌, length, get_or, take, MatchOption, IfSome}
 use Rattle.std.proofs.Math.Path.{refl, ap, sym}
 use Rattle.std.proofs.Common.{◌∙◌, ltb-true, ltb-false, lt-ltb, le-ltb, length-take-le, get_or-take, true≢false, inl, inr}
 use Rattle.std.proofs.lemmas.Bool.{cases_lt}
@@ -17,6 +17,12 @@ module _ (n k : ℕ) where
   pub found_behind : n ≤ k → found n k ≡ None
   unfolding found
   found_behind h = pick-false _ _ _ (le-ltb k n h)
+
+  -- the place, or n where there is none
+  pub found_or : k ≤ n → unwrap_or (found n k) n ≡ k
+  unfolding found
+  found_or l = pick_ind (λ o. unwrap_or o n ≡ k) (ltb k n) {x = Some k} {y = None} (λ b. refl)
+      (λ b. let h = ltb-false k n b in omega arith)
 
   pub found_within : is_some (found n k) ≡ true → k < n
   unfolding found
@@ -35,6 +41,11 @@ module _ (n k : ℕ) where
   found_some {x} e =
       let h = found_within (ap is_some (sym e)) in
       let q : x ≡ k = ap (λ o. unwrap_or o 0) (e ∙ found_at h) in (q, omega arith)
+
+-- a place that is found is one of n
+pub found_bounds : (n k : ℕ) (r : Option ℕ) → r ≡ found n k → IfSome r (λ x. x < n)
+found_bounds n k None e = tt
+found_bounds n k (Some x) e = (found_some n k e).1
 
 -- the rows before `start` do not pass
 module _ {A : Type 0} (z : A) (f : A → Bool) (xs : List A) (n start : ℕ) (fits : n ≤ length xs)
