@@ -5,16 +5,16 @@ use Rattle.lists.specs.Checks.{decide}
 use Rattle.filesystem.specs.Tables.{OPEN_FILES, Tables, node_at, is_directory}
 use Rattle.filesystem.specs.Rights.{covers}
 use Rattle.rules.specs.Rules.{is_open}
-use Rattle.paths.specs.declared.Walked.{Walked}
-use Rattle.paths.specs.declared.Walked.TheVariants.{Node as node, Refused as refused_node}
+use Rattle.refusals.specs.Numbers.{Judged}
+use Rattle.std.specs.Prelude.{Ok, Err}
 
 -- on the node in place k
-unfoldable pub open_own : Tables → (k rights : ℕ) → Walked
+unfoldable pub open_own : Tables → (k rights : ℕ) → Judged ℕ
 open_own t k r =
-    decide refused_node
+    decide Err
     ((21, is_directory (node_at t.nodes k))
     ∷ (13, not (covers (node_at t.nodes k).mode r))
     ∷ (16, is_open t (node_at t.nodes k))
     ∷ (24, leb OPEN_FILES (length t.opens))
     ∷ [])
-    (node k)
+    (Ok k)

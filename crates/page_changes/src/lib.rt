@@ -19,12 +19,14 @@ ghost use Rattle.guard_state.specs.Waits.{waits};
 ghost use Rattle.outcomes.specs.Sent.{Sends};
 ghost use Rattle.outcomes.specs.declared.Outcome.TheVariants.{Ask};
 ghost use Rattle.requests.specs.Room.{HoldsRequest};
+ghost use Rattle.refusals.specs.Numbers.{reason_or_0};
 ghost use Rattle.page_changes.specs.Asked.{Changing, store_front};
 ghost use Rattle.page_changes.specs.Clauses.{Moves};
 ghost use Rattle.page_changes.specs.Ended.{Ended};
 ghost use Rattle.page_changes.specs.Fetched.{Fetched};
 
 use guard_state::Guard;
+use refusals::StopReason;
 
 // The pending change asks for a page, and waits for it as `call` says (guard_state::calls).
 pub fn ask_page(m: &mut [u8], call: u64, page: usize, request: &mut [u8]) -> outcomes::Outcome
@@ -41,22 +43,18 @@ pub fn ask_page(m: &mut [u8], call: u64, page: usize, request: &mut [u8]) -> out
     outcomes::Outcome::Ask(l)
 }
 
-// The page that the pending change fetched, judged: the stop reason, or 0. No consistent change has sent more pages
-// than
-// there is room for their digests.
-pub fn judge_fetched(m: &[u8], reply: &[u8]) -> u8
+// The page that the pending change fetched, judged. No consistent change has sent more pages than there is room for
+// their digests.
+pub fn judge_fetched(m: &[u8], reply: &[u8]) -> Result<(), StopReason>
     requires { IsMemory m.now }
-    ensures { Fetched m.now reply.now result }
+    ensures { Fetched m.now reply.now (reason_or_0 result) }
 {
     let g = Guard::load(m);
-    let b = replies::judge_page(m, g.nodes, g.node, g.page, reply);
-    if b != 0 {
-        return b;
-    }
+    replies::judge_page(m, g.nodes, g.node, g.page, reply)?;
     if memory::NEW_DIGESTS <= g.digests {
-        return 2;
+        return Err(StopReason::Status);
     }
-    0
+    Ok(())
 }
 
 // The store that stands in the request buffer goes out: its page's digest is staged, and the change waits for the
@@ -101,7 +99,7 @@ pub fn end_change(
     let g = Guard::load(m);
     let n = g.nodes;
     if !tables::change_file(m, n, node, size, from, count) {
-        return outcomes::Outcome::Stopped(2);
+        return outcomes::Outcome::Stopped(StopReason::Status);
     }
     memory::set_cursor(m, opened, cursor);
     guard_state::rest(m, n, g.opens);

@@ -1,6 +1,6 @@
 -- The calls by handle check after check, and the tables of a memory read through the rows in use.
 -- Assumes nothing.
-use Rattle.std.specs.Prelude.{◌≡◌, Bool, true, false, not, ℕ, ◌/◌, ◌%◌, ◌≤◌, ◌<◌, eqb, length, take, Ok, Err}
+use Rattle.std.specs.Prelude.{◌≡◌, Bool, true, false, not, ℕ, ◌/◌, ◌%◌, ◌≤◌, ◌<◌, eqb, length, take, Result, Ok, Err, IfOk, OnOk}
 use Rattle.std.proofs.Math.Path.{refl, ap}
 use Rattle.std.proofs.Common.{sym, subst, ◌∙◌, arith, get_or-take}
 use mathlib.Core.List.{List, []}
@@ -19,7 +19,8 @@ use Rattle.rules.specs.Calls.{Call}
 use Rattle.rules.specs.Rules.{no_room}
 use Rattle.handle_calls.specs.Judged.{at_file, handled_for, Judgement, lacks_right, found_with, end_checked}
 use Rattle.handle_calls.specs.declared.Handled.{Handled}
-use Rattle.refusals.specs.Numbers.{Judged}
+use Rattle.refusals.specs.Numbers.{Judged, numbered}
+use Rattle.refusals.specs.declared.Refusal.{Refusal}
 use Rattle.tables.specs.View.{tables_in}
 use Rattle.tables.specs.laws.RowsInUse.{count-opens, open_front}
 use Rattle.tables.specs.laws.ContentLaws.{total-split}
@@ -55,6 +56,22 @@ module _ {m : List ℕ} {n o h : ℕ} {q : Call} where
   unfolding tables_in
   judged-at r g t e w s = g.judged w (subst (λ (x : Tables). sound_nodes w x.nodes ≡ true) (sym e) s)
       ∙ ap (λ (x : Tables). handled_for x h q) e
+
+-- what an end that was judged says of the open file
+module _ (r : Result Handled Refusal) (k : ℕ) (Q : Type 0) where
+  pub judged_place : IfOk r (λ p. (p.opened ≡ k) × Q) → (i j : ℕ) → numbered r ≡ at_file i j → i ≡ k
+  judged_place = go r
+    where
+      go : (r : Result Handled Refusal) → IfOk r (λ p. (p.opened ≡ k) × Q) → (i j : ℕ) → numbered r ≡ at_file i j → i ≡ k
+      go (Ok p) h i j e = sym (ap opened_of e) ∙ h.0
+      go (Err b) h i j e = absurd (let z : ◌≡◌ {A = ℕ} 0 1 = cc in omega arith)
+
+  pub judged_rest : IfOk r (λ p. (p.opened ≡ k) × Q) → OnOk r Q
+  judged_rest = go r
+    where
+      go : (r : Result Handled Refusal) → IfOk r (λ p. (p.opened ≡ k) × Q) → OnOk r Q
+      go (Ok p) h = h.1
+      go (Err b) h = tt
 
 -- a size, within the nodes and past them
 pub size-front : (n : ℕ) (ns : List Node) (k : ℕ) → k < n → (node_at (take n ns) k).size ≡ (node_at ns k).size

@@ -14,13 +14,12 @@ use Rattle.replies.specs.laws.TakenLaws.{answer-stops, answer_finishes}
 use Rattle.opens.specs.laws.OpenedLaws.{close-ends, close_premises}
 use Rattle.opens.proofs.accept_close.Goals as goal
 
-pub returns-then-b-ne0 : goal.returns-then-b-ne0
-returns-then-b-ne0 c =
+pub returns-in-Err : goal.returns-in-Err
+returns-in-Err c =
     let a = c.args in (
       λ d sha w held q. answer-stops d w (state_of d a.m.now) a.reply.now _
-          (close_pending d a.m.now c.requires.0) refl _ _ q (c.judge_status-b.ensures
-          ∙ sym (closing_reason (state_of d a.m.now).skeleton.tables a.reply.now _))
-          (omega (arith, c.if-b-ne0.true)) refl,
+          (close_pending d a.m.now c.requires.0) refl _ _ q (c.in-Err.ensures
+          ∙ sym (closing_reason (state_of d a.m.now).skeleton.tables a.reply.now _)) refl,
       refl,
     )
 
@@ -52,7 +51,7 @@ returns c =
       λ d sha w held q.
           answer_finishes d w (state_of d a.m.now) a.reply.now _
           (close_pending d a.m.now c.requires.0) refl _ 0 _ q
-          (sym c.if-b-ne0.false ∙ c.judge_status-b.ensures
+          (c.in_default.ensures
           ∙ sym (closing_reason (state_of d a.m.now).skeleton.tables a.reply.now _)) refl
           (c.rest.ensures.0 d
           ∙ ap (λ (x : View). resting_state d x) (c.remove_open.ensures.by_index c.load-g.result.nodes)

@@ -22,21 +22,20 @@ use Rattle.replies.specs.laws.TakenLaws.{answer-stops, answer_finishes, opening_
 use Rattle.opens.specs.laws.OpenedLaws.{open_ends, open_premises}
 use Rattle.opens.proofs.accept_open.Goals as goal
 
-pub judge_descriptor-b-requires : goal.judge_descriptor-b-requires
-judge_descriptor-b-requires c =
+pub judge_descriptor-requires : goal.judge_descriptor-requires
+judge_descriptor-requires c =
     let a = c.args in
     ((counts_fit a.m.now _ c.load-g.ensures).1, omega arith)
 
-pub returns-then-b-ne0 : goal.returns-then-b-ne0
-returns-then-b-ne0 c =
+pub returns-in-Err : goal.returns-in-Err
+returns-in-Err c =
     let a = c.args in
     let n = numbers_of (mem_of a.m.now).head in (
       λ d sha w held q.
           answer-stops d w (state_of d a.m.now) a.reply.now _ (open_pending d a.m.now c.requires.0) refl _ _ q
-          (c.judge_descriptor-b.ensures n.node n.rights c.load-g.result.nodes
+          (c.in-Err.ensures n.node n.rights c.load-g.result.nodes
           ∙ ap (λ (x : Tables). reason_for x a.reply.now (asked (opening n.node n.rights)))
-          (tables-loaded a.m.now _ c.load-g.ensures d))
-          (omega (arith, c.if-b-ne0.true)) refl,
+          (tables-loaded a.m.now _ c.load-g.ensures d)) refl,
       refl,
     )
 
@@ -59,7 +58,7 @@ pub u32_at-requires : goal.u32_at-requires
 u32_at-requires c =
     let a = c.args in
     let l = opening_long (tables_in 0 c.load-g.result.opens (mem_of a.m.now)) a.reply.now 0 0
-    (sym c.if-b-ne0.false ∙ c.judge_descriptor-b.ensures 0 0 0) in
+    (c.in_default.ensures 0 0 0) in
     omega (arith, l)
 
 pub rest-requires : goal.rest-requires
@@ -81,7 +80,7 @@ returns c =
           let s = state_of d a.m.now in
           let y = tables-loaded a.m.now _ c.load-g.ensures d in
           let h : 0 ≡ reason_for s.skeleton.tables a.reply.now (asked (opening n.node n.rights)) =
-          sym c.if-b-ne0.false ∙ c.judge_descriptor-b.ensures n.node n.rights
+          c.in_default.ensures n.node n.rights
           c.load-g.result.nodes
           ∙ ap (λ (t : Tables). reason_for t a.reply.now (asked (opening n.node n.rights))) y in
           let p : c.node_id-id.result ≡ (node_at s.skeleton.tables.nodes n.node).id =

@@ -1,6 +1,7 @@
 -- `opens::begin_close` meets its contract. Assumes nothing.
 use native.Mathlib.Omega.{arith}
 use mathlib.Core.Path.{refl, ap, sym, ◌∙◌}
+use Rattle.refusals.specs.Numbers.{numbered}
 use Rattle.filesystem.specs.Tables.{Tables, OpenFile, open_at}
 use Rattle.memory.specs.Layout.{mem_of}
 use Rattle.tables.specs.View.{tables_in}
@@ -12,8 +13,8 @@ use Rattle.guard_state.specs.laws.LoadedLaws.{counts_fit, tables-loaded}
 use Rattle.opens.specs.laws.StartedLaws.{handle_refused, close_sends}
 use Rattle.opens.proofs.begin_close.Goals as goal
 
-pub judge_close-w-requires : goal.judge_close-w-requires
-judge_close-w-requires c =
+pub judge_close-requires : goal.judge_close-requires
+judge_close-requires c =
     let a = c.args in
     let f = counts_fit a.m.now _ c.load-g.ensures in
     (f.0, f.1, omega arith)
@@ -24,33 +25,33 @@ send_close-requires c =
     let a = c.args in
     let f = counts_fit a.m.now _ c.load-g.ensures in
     let n = count-opens a.m.now c.load-g.result.opens f.1 in
-    (omega (arith, f.1, c.judge_close-w.ensures.there _ _ c.in-Open.is), omega arith, omega arith)
+    (omega (arith, f.1, c.judge_close.ensures.there _ _ (ap numbered c.in-Ok.is)), omega arith, omega arith)
 
-pub returns-in-Open : goal.returns-in-Open
+pub returns-in-Ok : goal.returns-in-Ok
 unfolding tables_in
-returns-in-Open c =
+returns-in-Ok c =
     let a = c.args in
     let f = counts_fit a.m.now _ c.load-g.ensures in
     let n = count-opens a.m.now c.load-g.result.opens f.1 in
-    let p = c.judge_close-w.ensures.there _ _ c.in-Open.is in (
+    let p = c.judge_close.ensures.there _ _ (ap numbered c.in-Ok.is) in (
       λ q sha w h.
           let u = tables-loaded a.m.now _ c.load-g.ensures q in
           close_sends q (state_of q a.m.now) a.handle _ _ _ _ _ a.request.now _ _
-          (judged-at _ c.judge_close-w.ensures _ u q.width h.holds.valid.tables.nodes_valid.sound)
-          c.in-Open.is
-          (ap (λ (t : Tables). (open_at t.opens c.in-Open.opened).descriptor) (sym u)
+          (judged-at _ c.judge_close.ensures _ u q.width h.holds.valid.tables.nodes_valid.sound)
+          (ap numbered c.in-Ok.is)
+          (ap (λ (t : Tables). (open_at t.opens c.in-Ok.file.opened).descriptor) (sym u)
           ∙ ap (λ (x : OpenFile). x.descriptor) (open_front c.load-g.result.opens (mem_of a.m.now).opens
-          c.in-Open.opened (omega (arith, n, p))))
+          c.in-Ok.file.opened (omega (arith, n, p))))
           (c.send_close.ensures.0 q) c.send_close.ensures.2 c.send_close.ensures.3 (omega arith),
       omega arith,
     )
 
-pub returns-in-Refused : goal.returns-in-Refused
-returns-in-Refused c =
+pub returns-in-Err : goal.returns-in-Err
+returns-in-Err c =
     let a = c.args in (
       λ q sha w h.
           handle_refused q (state_of q a.m.now) a.handle _ (close a.handle) _ a.m.now a.request.now
-          (judged-at _ c.judge_close-w.ensures _ (tables-loaded a.m.now _ c.load-g.ensures q) q.width
-          h.holds.valid.tables.nodes_valid.sound) c.in-Refused.is refl,
+          (judged-at _ c.judge_close.ensures _ (tables-loaded a.m.now _ c.load-g.ensures q) q.width
+          h.holds.valid.tables.nodes_valid.sound) (ap numbered c.in-Err.is) refl,
       refl,
     )

@@ -11,8 +11,8 @@ use Rattle.path_calls.specs.laws.BegunLaws.{reaches}
 use Rattle.opens.specs.laws.OpenLaws.{open_walks, open_itself}
 use Rattle.opens.proofs.begin_open.Goals as goal
 
-pub judge_open-w-requires : goal.judge_open-w-requires
-judge_open-w-requires c =
+pub judge_open-judged-requires : goal.judge_open-judged-requires
+judge_open-judged-requires c =
     let f = counts_fit c.args.m.now _ c.load-g.ensures in
     let e = ap (λ (x : Guard). x.nodes) c.load-g.ensures in
     (omega (arith, e, c.requires.0), f.0, f.1, omega arith)
@@ -22,7 +22,7 @@ begin_on_node-requires c =
     let a = c.args in
     let f = counts_fit a.m.now _ c.load-g.ensures in
     let e = ap (λ (x : Guard). x.nodes) c.load-g.ensures in
-    let y = c.judge_open-w.ensures in
+    let y = c.judge_open-judged.ensures in
     let r = reaches a.path.now (open_as a.rights) (open_walks a.rights) a.m.now _ _
     (omega (arith, e, c.requires.0)) f.0 _ y in
     (for_open, r, omega arith, omega arith)
@@ -33,7 +33,7 @@ returns c =
     let make = (open_as a.rights) in (
       λ q d w h.
           c.begin_on_node.ensures.0 q make
-          (c.judge_open-w.ensures ∙ ap (λ (t : Tables). node_for t a.path.now make)
+          (c.judge_open-judged.ensures ∙ ap (λ (t : Tables). node_for t a.path.now make)
           (tables-loaded a.m.now _ c.load-g.ensures q)) (open_itself a.rights),
       omega arith,
     )

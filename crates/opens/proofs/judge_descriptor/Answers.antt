@@ -1,12 +1,14 @@
 -- `opens::judge_descriptor` meets its contract. Assumes nothing.
 use native.Mathlib.Omega.{arith}
-use mathlib.Core.Path.{◌≡◌, sym, ◌∙◌}
+use mathlib.Core.Path.{◌≡◌, refl, ap, sym, ◌∙◌}
 use lib.ListN.{length, take}
 use mir.Syntax.{w32}
 use mir.Val.{to_z, of_z}
 use mir.Facts.{to_z-of_z}
+use Rattle.std.specs.Prelude.{is_some}
 use Rattle.memory.specs.Layout.{mem_of}
 use Rattle.tables.specs.View.{tables_in}
+use Rattle.tables.specs.laws.FoundLaws.{found_within, found_nowhere}
 use Rattle.tables.specs.laws.RowsInUse.{count-opens}
 use Rattle.opens.specs.laws.DescriptorLaws.{descriptor_length, descriptor_negative}
 use Rattle.opens.specs.laws.DescriptorLaws.{descriptor_high, descriptor_held, descriptor_new}
@@ -35,23 +37,25 @@ returns-then-d c k rights n =
     (to_z w32 (of_z w32 c.i32_at-d.result))
     (to_z-of_z {w = w32} (search rules) ∙ c.i32_at-d.ensures) (omega arith) c.if-d.true)
 
-pub returns-then-find_descriptor-o : goal.returns-then-find_descriptor-o
+pub returns-then-is_some : goal.returns-then-is_some
 unfolding tables_in
-returns-then-find_descriptor-o c k rights n =
+returns-then-is_some c k rights n =
     let a = c.args in
     let e : length (take a.o (mem_of a.m.now).opens) ≡ a.o = count-opens a.m.now a.o (omega arith) in
+    let h = found_within _ _ (ap is_some (sym c.find_descriptor.ensures) ∙ sym c.is_some.ensures ∙ c.if-is_some.true) in
     sym (descriptor_held (tables_in n a.o (mem_of a.m.now)) a.reply.now k rights
     (to_z w32 (of_z w32 c.i32_at-d.result))
     (to_z-of_z {w = w32} (search rules) ∙ c.i32_at-d.ensures) (omega arith)
-    c.if-d-lt0.false _ c.find_descriptor.ensures (omega arith))
+    c.if-d-lt0.false _ refl (omega arith))
 
 pub returns : goal.returns
 unfolding tables_in
 returns c k rights n =
     let a = c.args in
     let e : length (take a.o (mem_of a.m.now).opens) ≡ a.o = count-opens a.m.now a.o (omega arith) in
+    let h = found_nowhere _ _ (ap is_some (sym c.find_descriptor.ensures) ∙ sym c.is_some.ensures ∙ c.if-is_some.false) in
     sym (descriptor_new (tables_in n a.o (mem_of a.m.now)) a.reply.now k rights
     (to_z w32 (of_z w32 c.i32_at-d.result))
     (to_z-of_z {w = w32} (search rules) ∙ c.i32_at-d.ensures) (omega arith)
-    c.if-d-lt0.false _ c.find_descriptor.ensures
+    c.if-d-lt0.false _ refl
     c.if-d.false (omega arith))

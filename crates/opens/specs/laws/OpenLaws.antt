@@ -6,7 +6,7 @@ use Rattle.std.proofs.Common.{◌∙◌}
 use Rattle.filesystem.specs.Tables.{Tables}
 use Rattle.rules.specs.Calls.{open_as, stat, call_bytes}
 use Rattle.rules.specs.Rules.{call_checks, call_action}
-use Rattle.paths.specs.declared.Walked.TheVariants.{Refused as refused_node}
+use Rattle.std.specs.Prelude.{Err}
 use Rattle.path_calls.specs.Judged.{node_for}
 use Rattle.path_calls.specs.laws.ReachedLaws.{Reached, reach-stops, reach_goes}
 use Rattle.opens.specs.OpenChecks.{open_own}
@@ -17,16 +17,16 @@ use Rattle.path_calls.specs.Begun.{WalksFirst, SendsItself}
 
 module _ (t : Tables) (s : List ℕ) where
   -- stat's numbers come first
-  module _ (b : ℕ) (e : node_for t s stat ≡ refused_node b) where
-    pub open_stops : (r : ℕ) → node_for t s (open_as r) ≡ refused_node b
+  module _ (b : ℕ) (e : node_for t s stat ≡ Err b) where
+    pub open_stops : (r : ℕ) → node_for t s (open_as r) ≡ Err b
     unfolding node_for call_checks
-    open_stops r = reach-stops t s refused_node _ _ b e
+    open_stops r = reach-stops t s Err _ _ b e
 
   -- then the call's own
   module _ (k : ℕ) (h : Reached t s k) where
     pub open_goes : (r : ℕ) → node_for t s (open_as r) ≡ open_own t k r
     unfolding node_for call_checks open_own
-    open_goes r = reach_goes t s refused_node _ _ k h ∙ ap (λ (j : ℕ). open_own t j r) h.node-place
+    open_goes r = reach_goes t s Err _ _ k h ∙ ap (λ (j : ℕ). open_own t j r) h.node-place
 
 -- open walks first, and sends itself
 pub open_walks : (r : ℕ) → WalksFirst (open_as r)

@@ -16,9 +16,11 @@ use Rattle.tables.specs.View.{View, view_of}
 use Rattle.tables.specs.laws.ViewLaws.{view_cursor}
 use Rattle.guard_state.specs.State.{numbers_of, state_in, state_of, gathered_none}
 use Rattle.guard_state.specs.Waits.{waits, ends, resting_state}
+use Rattle.refusals.specs.Numbers.{Judged, number_of}
+use Rattle.refusals.specs.declared.Refusal.{Refusal}
 use Rattle.handle_calls.specs.declared.Handled.{Handled}
-use Rattle.handle_calls.specs.declared.Handled.TheVariants.{Open, Refused as refused_handle}
-use Rattle.handle_calls.specs.Judged.{handled_for}
+use Rattle.std.specs.Prelude.{Err}
+use Rattle.handle_calls.specs.Judged.{at_file, handled_for}
 use Rattle.handle_calls.specs.laws.MoveLaws.{move_refused, move_passed, passed_at}
 use Rattle.outcomes.specs.declared.Outcome.{Outcome}
 use Rattle.outcomes.specs.declared.Outcome.TheVariants.{Done, Ask, Refused}
@@ -27,17 +29,17 @@ use Rattle.outcomes.specs.laws.SentLaws.{refusal_sends, finish_sends, request_se
 use Rattle.outcomes.specs.Started.{started_by}
 use Rattle.opens.specs.Moved.{cursor_moved}
 
-module _ (c : Config) (s : State (digest_store c)) (h : ℕ) (r : Handled) where
+module _ (c : Config) (s : State (digest_store c)) (h : ℕ) (r : Judged Handled) where
   abbrev here : Tables
   here = s.skeleton.tables
 
-  pub handle_refused : (x : Call) (n : ℕ) (m q : List ℕ) → r ≡ handled_for here h x → r ≡ refused_handle n
+  pub handle_refused : (x : Call) (b : Refusal) (m q : List ℕ) → r ≡ handled_for here h x → r ≡ Err (number_of b)
       → state_of c m ≡ s
-      → Sends c (started_by c s x) (Refused n) m q q
+      → Sends c (started_by c s x) (Refused b) m q q
   unfolding started_by
-  handle_refused x n m q e f g = refusal_sends c s _ n m q (move_refused here h x r e _ n f) g
+  handle_refused x b m q e f g = refusal_sends c s _ b m q (move_refused here h x r e _ (number_of b) f) g
 
-  pub close_sends : (k j d : ℕ) (m q q' : List ℕ) (o : Outcome) → r ≡ handled_for here h (close h) → r ≡ Open k j
+  pub close_sends : (k j d : ℕ) (m q q' : List ℕ) (o : Outcome) → r ≡ handled_for here h (close h) → r ≡ at_file k j
       → (open_at here.opens k).descriptor ≡ d
       → state_of c m ≡ waits c s (asked (closing k)) gathered_none → q' ≡ at_front (close_request d) q
       → o ≡ Ask (length (close_request d)) → store_length ≤ length q
@@ -50,7 +52,7 @@ module _ (c : Config) (s : State (digest_store c)) (h : ℕ) (r : Handled) where
       ∙ ap (λ (i : ℕ). send (asked (closing k)) (close_request i)) y in
       request_sends c s _ _ (close_request d) m q q' o z g u v (omega (arith, length-encode 4 d))
 
-  pub seek_sends : (k j p : ℕ) (m q : List ℕ) → r ≡ handled_for here h (seek h p) → r ≡ Open k j
+  pub seek_sends : (k j p : ℕ) (m q : List ℕ) → r ≡ handled_for here h (seek h p) → r ≡ at_file k j
       → state_of c m ≡ cursor_moved c s k p
       → Sends c (started_by c s (seek h p)) (Done p 0) m q q
   unfolding started_by call_action

@@ -19,8 +19,10 @@ use Rattle.machine.specs.Machine.{State, ask_store, on_page, pages_stored, pages
 use Rattle.machine.specs.Machine.{guard as digest_store}
 use Rattle.machine.specs.Consistent.{Consistent}
 use Rattle.handle_calls.specs.declared.Handled.{Handled}
-use Rattle.handle_calls.specs.declared.Handled.TheVariants.{Open, Refused as refused_handle}
-use Rattle.handle_calls.specs.Judged.{handled_for}
+use Rattle.std.specs.Prelude.{Err}
+use Rattle.refusals.specs.Numbers.{Judged, number_of}
+use Rattle.refusals.specs.declared.Refusal.{Refusal}
+use Rattle.handle_calls.specs.Judged.{at_file, handled_for}
 use Rattle.handle_calls.specs.Passed.{PassedAt}
 use Rattle.handle_calls.specs.laws.MoveLaws.{move_refused, move_passed, passed_at}
 use Rattle.guard_state.specs.State.{numbers_of, state_of, gathered_none}
@@ -48,14 +50,14 @@ file-known w t v h l =
     subst (λ (y : ℕ). find_id t.nodes y < length t.nodes) e x.known
 
 -- a call that was judged
-module _ (c : Config) (s : State (digest_store c)) (h : ℕ) (q : Call) (r : Handled)
+module _ (c : Config) (s : State (digest_store c)) (h : ℕ) (q : Call) (r : Judged Handled)
     (known : r ≡ handled_for s.skeleton.tables h q) where
-  pub call_refused : (b : ℕ) (m l : List ℕ) → r ≡ refused_handle b → state_of c m ≡ s
+  pub call_refused : (b : Refusal) (m l : List ℕ) → r ≡ Err (number_of b) → state_of c m ≡ s
       → Sends c (started_by c s q) (Refused b) m l l
   unfolding started_by
-  call_refused b m l e g = refusal_sends c s _ b m l (move_refused s.skeleton.tables h q r known _ b e) g
+  call_refused b m l e g = refusal_sends c s _ b m l (move_refused s.skeleton.tables h q r known _ (number_of b) e) g
 
-  pub call_passed : (i j : ℕ) → r ≡ Open i j → (x : Outcome) (m l l' : List ℕ)
+  pub call_passed : (i j : ℕ) → r ≡ at_file i j → (x : Outcome) (m l l' : List ℕ)
       → (PassedAt s.skeleton.tables h q i j
       → Sends c (apply c (digest_store c) s (call_action s.skeleton.tables c.width q)) x m l l')
       → Sends c (started_by c s q) x m l l'

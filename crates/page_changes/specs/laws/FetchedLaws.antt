@@ -22,6 +22,9 @@ use Rattle.machine.specs.Consistent.{Consistent}
 use Rattle.guard_state.specs.declared.Guard.{Guard}
 use Rattle.guard_state.specs.State.{numbers_of, state_in, state_of}
 use Rattle.guard_state.specs.laws.LoadedLaws.{nodes-count, node-there}
+use Rattle.refusals.specs.Numbers.{reason_number}
+use Rattle.refusals.specs.declared.StopReason.{StopReason}
+use Rattle.refusals.specs.laws.NumberLaws.{reason_positive}
 use Rattle.outcomes.specs.declared.Outcome.{Outcome}
 use Rattle.outcomes.specs.declared.Outcome.TheVariants.{Stopped}
 use Rattle.outcomes.specs.Sent.{Sends}
@@ -69,11 +72,12 @@ module _ (c : Config) (same : c.digest ≡ sha256) (s : State (digest_store c)) 
           ∙ ap (λ (n : ℕ). apply c (digest_store c) s (halt n)) (sym (e ∙ pick_true _ _ _ x ∙ pick-false _ _ _ y))
       go (is_t x) (is_t y) = absurd (let z : b ≡ 0 = e ∙ pick_true _ _ _ x ∙ pick_true _ _ _ y in omega arith)
 
-  pub fetched-stops : (b : ℕ) (m z : List ℕ) → b ≡ page_reason kept r → 0 < b → state_of c m ≡ s
+  pub fetched-stops : (b : StopReason) (m z : List ℕ) → reason_number b ≡ page_reason kept r → state_of c m ≡ s
       → Sends c (answered c s r) (Stopped b) m z z
-  fetched-stops b m z e h g =
-      subst (λ (x : Result (digest_store c)). Sends c x (Stopped b) m z z) (sym (fetched_halts b e h))
-      (stop_sends c s (halt b) b m z refl g)
+  fetched-stops b m z e g =
+      subst (λ (x : Result (digest_store c)). Sends c x (Stopped b) m z z)
+      (sym (fetched_halts (reason_number b) e (reason_positive b)))
+      (stop_sends c s (halt (reason_number b)) b m z refl g)
 
   pub fetched_goes : 0 ≡ page_reason kept r → answered c s r ≡ ask_store c (digest_store c) s k o q i r
   unfolding answered apply page_reason
@@ -122,10 +126,10 @@ module _ (c : Config) (m : List ℕ) (q : Change) (h : Consistent c (state_of c 
         g.node).size = ap (λ (x : Node). x.size) (node-there m c g.node n) in
         subst (λ (x : Guard). JudgedPage m x b r) loaded judged n (omega (arith, f.old, z)) (consistent_room c m q h k)
 
-    pub judged-stops : c.digest ≡ sha256 → 0 < b → (z : List ℕ) → Sends c (answered c (state_of c m) r) (Stopped b) m z
-        z
-    judged-stops same p z = fetched-stops c same (state_of c m) r g.node g.opened q g.page waiting b m z
-        fetch_judged p refl
+    pub judged-stops : c.digest ≡ sha256 → (e : StopReason) → reason_number e ≡ b → (z : List ℕ)
+        → Sends c (answered c (state_of c m) r) (Stopped e) m z z
+    judged-stops same e p z = fetched-stops c same (state_of c m) r g.node g.opened q g.page waiting e m z
+        (p ∙ fetch_judged) refl
 
     pub judged-stores : c.digest ≡ sha256 → b ≡ 0 → (x : Outcome) (m' z z' : List ℕ)
         → Sends c (ask_store c (digest_store c) (state_of c m) g.node g.opened q g.page r) x m' z z'

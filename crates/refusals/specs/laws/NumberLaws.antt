@@ -59,3 +59,9 @@ pub passed_on : {A : Type 0} (r : Result A Refusal) (e : Refusal) → IsErrAnd r
 passed_on r e h =
     let p = err_from_is_err_and r h in
     ap numbered p.1 ∙ ap (λ y. Err (number_of y)) p.2
+
+pub reason_passed_on : {A : Type 0} (r : Result A StopReason) (e : StopReason) → IsErrAnd r (λ y. y ≡ e)
+    → reason_or_0 r ≡ reason_number e
+reason_passed_on r e h =
+    let p = err_from_is_err_and r h in
+    ap reason_or_0 p.1 ∙ ap reason_number p.2
