@@ -6,6 +6,7 @@ ghost use Rattle.lists.specs.LittleEndian.{encode};
 ghost use Rattle.filesystem.specs.Tables.{NODES, ID_BYTES};
 ghost use Rattle.rules.specs.Calls.{stat, chmod};
 ghost use Rattle.rules.specs.Requests.{asked, stating};
+ghost use Rattle.refusals.specs.Numbers.{reason_or_0};
 ghost use Rattle.memory.specs.Memories.{IsMemory, was};
 ghost use Rattle.tables.specs.View.{tables_in};
 ghost use Rattle.guard_state.specs.Calls.{CHANGING, STATING};
@@ -17,9 +18,11 @@ ghost use Rattle.replies.specs.Judged.{reason_for};
 
 use guard_state::Guard;
 use limits::kinds;
+use outcomes::Outcome;
+use refusals::StopReason;
 
 // chmod: it waits for the status.
-pub fn begin_chmod(m: &mut [u8], mode: u8, path: &[u8], request: &mut [u8]) -> outcomes::Outcome
+pub fn begin_chmod(m: &mut [u8], mode: u8, path: &[u8], request: &mut [u8]) -> Outcome
     requires { HasRoot m.old × IsMemory m.old × HoldsRequest request.old }
     ensures { BeginsPath m request path.now (chmod mode) result }
 {
@@ -37,25 +40,24 @@ pub fn begin_chmod(m: &mut [u8], mode: u8, path: &[u8], request: &mut [u8]) -> o
 }
 
 // chmod: the node has the new mode.
-pub fn accept_chmod(m: &mut [u8], reply: &[u8]) -> outcomes::Outcome
+pub fn accept_chmod(m: &mut [u8], reply: &[u8]) -> Outcome
     requires { ((numbers_in m.old).call ≡ CHANGING) × IsMemory m.old }
     ensures { Accepts m reply.now result }
 {
-    let b = replies::judge_status(reply, 0);
-    if b != 0 {
-        return outcomes::Outcome::Stopped(b);
+    if let Err(reason) = replies::judge_status(reply, 0) {
+        return Outcome::Stopped(reason);
     }
     let g = Guard::load(m);
     memory::set_mode(m, g.node, (g.mode % 256) as u8);
     guard_state::finish(m);
-    outcomes::Outcome::Done {
+    Outcome::Done {
         number: 0,
         length: 0,
     }
 }
 
 // stat: it waits for the host's own.
-pub fn begin_stat(m: &mut [u8], path: &[u8], request: &mut [u8]) -> outcomes::Outcome
+pub fn begin_stat(m: &mut [u8], path: &[u8], request: &mut [u8]) -> Outcome
     requires { HasRoot m.old × IsMemory m.old × HoldsRequest request.old }
     ensures { BeginsPath m request path.now stat result }
 {
@@ -89,7 +91,7 @@ fn stat_row(id: u64, kind: u8, mode: u8, size: u32) -> [u8; STAT_BYTES]
 // The stat of node k: 1 of another length, 6 where a field differs.
 fn judge_stat(m: &[u8], n: usize, k: usize, reply: &[u8]) -> u8
     requires { (k < n) × (n ≤ NODES) × IsMemory m.now }
-    ensures { (o : ℕ) → result ≡ reason_for (tables_in n o (was m.now)) reply.now (asked (stating k)) }
+    ensures { (o : ℕ) → reason_or_0 result ≡ reason_for (tables_in n o (was m.now)) reply.now (asked (stating k)) }
 {
     if reply.len() != STAT_BYTES {
         return 1;
@@ -107,7 +109,7 @@ fn judge_stat(m: &[u8], n: usize, k: usize, reply: &[u8]) -> u8
 }
 
 // stat: done with the size, and the reply's bytes.
-pub fn accept_stat(m: &mut [u8], reply: &[u8], answer: &mut [u8]) -> outcomes::Outcome
+pub fn accept_stat(m: &mut [u8], reply: &[u8], answer: &mut [u8]) -> Outcome
     requires { ((numbers_in m.old).call ≡ STATING) × IsMemory m.old }
     ensures { AcceptsInto m reply.now answer result }
 {
@@ -115,19 +117,18 @@ pub fn accept_stat(m: &mut [u8], reply: &[u8], answer: &mut [u8]) -> outcomes::O
     let n = g.nodes;
     let k = g.node;
     if n <= k {
-        return outcomes::Outcome::Stopped(6);
+        return Outcome::Stopped(StopReason::Stat);
     }
-    let b = judge_stat(m, n, k, reply);
-    if b != 0 {
-        return outcomes::Outcome::Stopped(b);
+    if let Err(reason) = judge_stat(m, n, k, reply) {
+        return Outcome::Stopped(reason);
     }
     if answer.len() < reply.len() {
-        return outcomes::Outcome::Stopped(6);
+        return Outcome::Stopped(StopReason::Stat);
     }
     let size = memory::node_size(m, k);
     buffers::put(answer, 0, reply);
     guard_state::finish(m);
-    outcomes::Outcome::Done {
+    Outcome::Done {
         number: size as u64,
         length: reply.len(),
     }

@@ -5,6 +5,7 @@ ghost use Rattle.std.specs.Prelude.{List, ◌≡◌, ℕ, ◌<◌, ◌≤◌, le
 ghost use Rattle.filesystem.specs.Tables.{NODES, NAME_BYTES, PATH_BYTES, node_at};
 ghost use Rattle.rules.specs.Calls.{create};
 ghost use Rattle.rules.specs.Requests.{asked, creating};
+ghost use Rattle.refusals.specs.Numbers.{numbered, reason_or_0};
 ghost use Rattle.memory.specs.Memories.{IsMemory, nodes_of, was};
 ghost use Rattle.tables.specs.View.{tables_in};
 ghost use Rattle.guard_state.specs.Calls.{CREATING};
@@ -20,51 +21,48 @@ ghost use Rattle.replies.specs.Judged.{reason_for};
 ghost use Rattle.creations.specs.NameChecks.{name_own, new_own};
 
 use guard_state::Guard;
+use outcomes::Outcome;
+use paths::Place;
+use refusals::{Refusal, StopReason};
 
 // A new name in directory d, from `at` on in the path's bytes: 17, 13 (the directory's bit 2), 28.
-fn name_own(m: &[u8], n: usize, d: usize, at: usize, name: &[u8]) -> paths::Placed
+fn name_own(m: &[u8], n: usize, d: usize, at: usize, name: &[u8]) -> Result<Place, Refusal>
     requires { (d < n) × (n ≤ NODES) × IsMemory m.now }
-    ensures { result ≡ name_own (nodes_of n m.now) d at name.now }
+    ensures { numbered result ≡ name_own (nodes_of n m.now) d at name.now }
 {
-    if tables::find_child(m, n, memory::node_id(m, d), name) < n {
-        return paths::Placed::Refused(17);
+    if tables::find_child(m, n, memory::node_id(m, d), name).is_some() {
+        return Err(Refusal::Exists);
     }
     if memory::node_mode(m, d) / 2 % 2 != 1 {
-        return paths::Placed::Refused(13);
+        return Err(Refusal::Denied);
     }
     if Guard::NODES <= n {
-        return paths::Placed::Refused(28);
+        return Err(Refusal::NoSpace);
     }
-    paths::Placed::In {
+    Ok(Place {
         parent: d,
         start: at,
-    }
+    })
 }
 
 // The same from the way to that directory on; the root is there already.
-fn new_own(m: &[u8], n: usize, path: &[u8]) -> paths::Placed
+fn new_own(m: &[u8], n: usize, path: &[u8]) -> Result<Place, Refusal>
     requires { (0 < n) × (n ≤ NODES) × IsMemory m.now }
-    ensures { result ≡ new_own (nodes_of n m.now) path.now }
+    ensures { numbered result ≡ new_own (nodes_of n m.now) path.now }
 {
-    let w = paths::walk_parent(m, n, path);
-    match w {
-        paths::Placed::Root => paths::Placed::Refused(17),
-        paths::Placed::In { parent, start } => name_own(m, n, parent, start, &path[start..]),
-        paths::Placed::Refused(b) => paths::Placed::Refused(b),
+    match paths::walk_parent(m, n, path)? {
+        Some(place) => name_own(m, n, place.parent, place.start, &path[place.start..]),
+        None => Err(Refusal::Exists),
     }
 }
 
 // create and mkdir: 22, 36, the way's 20, 13, 2, then their own.
-fn judge_new(m: &[u8], n: usize, path: &[u8]) -> paths::Placed
+fn judge_new(m: &[u8], n: usize, path: &[u8]) -> Result<Place, Refusal>
     requires { (0 < n) × (n ≤ NODES) × IsMemory m.now }
-    ensures { (o mode : ℕ) → result ≡ place_for (tables_in n o (was m.now)) path.now (create mode) }
+    ensures { (o mode : ℕ) → numbered result ≡ place_for (tables_in n o (was m.now)) path.now (create mode) }
 {
-    let f = paths::form(path);
-    match f {
-        paths::PathForm::Malformed => paths::Placed::Refused(22),
-        paths::PathForm::Long => paths::Placed::Refused(36),
-        paths::PathForm::Good => new_own(m, n, path),
-    }
+    paths::form(path)?;
+    new_own(m, n, path)
 }
 
 // A create or a mkdir that passed: it waits with its parent's id and its name, and its request goes out.
@@ -76,7 +74,7 @@ fn send_new(
     path: &[u8],
     start: usize,
     request: &mut [u8],
-) -> outcomes::Outcome
+) -> Outcome
     requires { (parent < NODES) × (start ≤ length path.now) × (length (drop start path.now) ≤ NAME_BYTES)
         × (length path.now ≤ PATH_BYTES) × IsMemory m.old × HoldsRequest request.old }
     ensures { Asks m request
@@ -86,7 +84,7 @@ fn send_new(
     let id = memory::node_id(m, parent);
     guard_state::wait_create(m, id, kind, number, &path[start..]);
     let l = requests::write_path(request, kind, number, path);
-    outcomes::Outcome::Ask(l)
+    Outcome::Ask(l)
 }
 
 // create 1 and mkdir 2, by their mode and path's bytes.
@@ -96,43 +94,39 @@ pub fn begin_new(
     mode: u8,
     path: &[u8],
     request: &mut [u8],
-) -> outcomes::Outcome
+) -> Outcome
     requires { (1 ≤ kind) × (kind ≤ 2) × HasRoot m.old × IsMemory m.old × HoldsRequest request.old }
     ensures { BeginsPath m request path.now (made_by kind mode) result }
 {
     let g = Guard::load(m);
-    let w = judge_new(m, g.nodes, path);
-    match w {
-        paths::Placed::In { parent, start } => send_new(
-            m, kind, mode, parent, path, start, request,
-        ),
-        paths::Placed::Refused(b) => outcomes::Outcome::Refused(b),
-        paths::Placed::Root => outcomes::Outcome::Refused(17),
+    match judge_new(m, g.nodes, path) {
+        Ok(place) => send_new(m, kind, mode, place.parent, path, place.start, request),
+        Err(refusal) => Outcome::Refused(refusal),
     }
 }
 
 // A new node's id: 1 of another length, 3 where it is 0 or a node has it.
-fn judge_id(m: &[u8], n: usize, reply: &[u8]) -> u8
+fn judge_id(m: &[u8], n: usize, reply: &[u8]) -> Result<(), StopReason>
     requires { (n ≤ NODES) × IsMemory m.now }
     ensures { (parent kind mode : ℕ) (name : List ℕ) (o : ℕ)
-        → result ≡ reason_for (tables_in n o (was m.now)) reply.now (asked (creating parent kind mode name)) }
+        → reason_or_0 result ≡ reason_for (tables_in n o (was m.now)) reply.now (asked (creating parent kind mode name)) }
 {
     if reply.len() != Guard::ID_BYTES {
-        return 1;
+        return Err(StopReason::Length);
     }
     let id = numbers::number_at(reply, 0, Guard::ID_BYTES);
     if id == 0 {
-        return 3;
+        return Err(StopReason::Id);
     }
-    if tables::find_id(m, n, id) < n {
-        return 3;
+    if tables::find_id(m, n, id).is_some() {
+        return Err(StopReason::Id);
     }
-    0
+    Ok(())
 }
 
 // create and mkdir: one more node, behind the others, with the staged name; done with its id. Or the disk is full: -28
 // is no id.
-pub fn accept_create(m: &mut [u8], reply: &[u8]) -> outcomes::Outcome
+pub fn accept_create(m: &mut [u8], reply: &[u8]) -> Outcome
     requires { ((numbers_in m.old).call ≡ CREATING) × IsMemory m.old }
     ensures { Accepts m reply.now result }
 {
@@ -141,15 +135,14 @@ pub fn accept_create(m: &mut [u8], reply: &[u8]) -> outcomes::Outcome
     }
     let g = Guard::load(m);
     let nodes = g.nodes;
-    let b = judge_id(m, nodes, reply);
-    if b != 0 {
-        return outcomes::Outcome::Stopped(b);
+    if let Err(reason) = judge_id(m, nodes, reply) {
+        return Outcome::Stopped(reason);
     }
     if Guard::NODES <= nodes {
-        return outcomes::Outcome::Stopped(3);
+        return Outcome::Stopped(StopReason::Id);
     }
     if Guard::NAME_BYTES < g.bytes {
-        return outcomes::Outcome::Stopped(3);
+        return Outcome::Stopped(StopReason::Id);
     }
     let id = numbers::number_at(reply, 0, Guard::ID_BYTES);
     let row = memory::node_row(
@@ -162,7 +155,7 @@ pub fn accept_create(m: &mut [u8], reply: &[u8]) -> outcomes::Outcome
     );
     tables::add_node(m, nodes, row);
     guard_state::rest(m, nodes + 1, g.opens);
-    outcomes::Outcome::Done {
+    Outcome::Done {
         number: id,
         length: 0,
     }

@@ -6,6 +6,7 @@ ghost use Rattle.filesystem.specs.Image.{sound_nodes};
 ghost use Rattle.filesystem.specs.Tables.{NODES, node_at, ID_BYTES};
 ghost use Rattle.rules.specs.Calls.{readdir};
 ghost use Rattle.rules.specs.Requests.{asked, listing};
+ghost use Rattle.refusals.specs.Numbers.{numbered, reason_or_0};
 ghost use Rattle.memory.specs.Memories.{IsMemory, nodes_of, was};
 ghost use Rattle.tables.specs.View.{tables_in};
 ghost use Rattle.guard_state.specs.Calls.{LISTING};
@@ -20,35 +21,37 @@ ghost use Rattle.listings.specs.Listing.{entry_at, entry_end, end_within, entry_
 
 use guard_state::Guard;
 use limits::kinds;
+use outcomes::Outcome;
+use refusals::{Refusal, StopReason};
 
 // readdir on node k: 20, 13 (bit 4).
-fn readdir_own(m: &[u8], n: usize, k: usize) -> paths::Walked
+fn readdir_own(m: &[u8], n: usize, k: usize) -> Result<usize, Refusal>
     requires { (k < n) × (n ≤ NODES) × IsMemory m.now }
-    ensures { result ≡ readdir_own (nodes_of n m.now) k }
+    ensures { numbered result ≡ readdir_own (nodes_of n m.now) k }
 {
     if memory::node_kind(m, k) != limits::DIRECTORY {
-        return paths::Walked::Refused(20);
+        return Err(Refusal::NotDirectory);
     }
     if memory::node_mode(m, k) / 4 % 2 != 1 {
-        return paths::Walked::Refused(13);
+        return Err(Refusal::Denied);
     }
-    paths::Walked::Node(k)
+    Ok(k)
 }
 
 // readdir: stat's numbers, then its own.
-fn judge_readdir(m: &[u8], n: usize, path: &[u8]) -> paths::Walked
+fn judge_readdir(m: &[u8], n: usize, path: &[u8]) -> Result<usize, Refusal>
     requires { (0 < n) × (n ≤ NODES) × IsMemory m.now }
-    ensures { (o : ℕ) → result ≡ node_for (tables_in n o (was m.now)) path.now readdir }
+    ensures { (o : ℕ) → numbered result ≡ node_for (tables_in n o (was m.now)) path.now readdir }
 {
     let w = path_calls::judge_reach(m, n, path);
     match w {
-        paths::Walked::Node(k) => readdir_own(m, n, k),
-        paths::Walked::Refused(b) => paths::Walked::Refused(b),
+        Ok(k) => readdir_own(m, n, k),
+        Err(refusal) => Err(refusal),
     }
 }
 
 // readdir: it waits for the listing.
-pub fn begin_readdir(m: &mut [u8], path: &[u8], request: &mut [u8]) -> outcomes::Outcome
+pub fn begin_readdir(m: &mut [u8], path: &[u8], request: &mut [u8]) -> Outcome
     requires { HasRoot m.old × IsMemory m.old × HoldsRequest request.old }
     ensures { BeginsPath m request path.now readdir result }
 {
@@ -127,7 +130,7 @@ fn entry_place(
 fn judge_listing(m: &[u8], n: usize, id: u64, reply: &[u8]) -> u8
     requires { (n ≤ NODES) × IsMemory m.now }
     ensures { sound_nodes ID_BYTES (nodes_of n m.now) ≡ true → (k o : ℕ) → (node_at (nodes_of n m.now) k).id ≡ id
-        → result ≡ reason_for (tables_in n o (was m.now)) reply.now (asked (listing k)) }
+        → reason_or_0 result ≡ reason_for (tables_in n o (was m.now)) reply.now (asked (listing k)) }
 {
     let mut seen = [0u8; Guard::NODES];
     let mut places = [0u8; tables::PLACES];
@@ -158,24 +161,23 @@ fn judge_listing(m: &[u8], n: usize, id: u64, reply: &[u8]) -> u8
 }
 
 // readdir: done with the number of entries, and the reply's bytes. A right listing is no longer than the answer buffer.
-pub fn accept_listing(m: &mut [u8], reply: &[u8], answer: &mut [u8]) -> outcomes::Outcome
+pub fn accept_listing(m: &mut [u8], reply: &[u8], answer: &mut [u8]) -> Outcome
     requires { ((numbers_in m.old).call ≡ LISTING) × IsMemory m.old }
     ensures { AcceptsInto m reply.now answer result }
 {
     let g = Guard::load(m);
     let n = g.nodes;
     let id = memory::node_id(m, g.node);
-    let b = judge_listing(m, n, id, reply);
-    if b != 0 {
-        return outcomes::Outcome::Stopped(b);
+    if let Err(reason) = judge_listing(m, n, id, reply) {
+        return Outcome::Stopped(reason);
     }
     if answer.len() < reply.len() {
-        return outcomes::Outcome::Stopped(7);
+        return Outcome::Stopped(StopReason::Listing);
     }
     let count = tables::count_children(m, n, id);
     buffers::put(answer, 0, reply);
     guard_state::finish(m);
-    outcomes::Outcome::Done {
+    Outcome::Done {
         number: count as u64,
         length: reply.len(),
     }

@@ -4,23 +4,23 @@ use Rattle.std.specs.Prelude.{not, List, [], ◌∷◌, ℕ, eqb, ltb, length}
 use Rattle.lists.specs.Checks.{decide}
 use Rattle.filesystem.specs.Tables.{Node, Tables, node_at, is_directory, has_bit, children}
 use Rattle.rules.specs.Rules.{is_open}
-use Rattle.paths.specs.declared.Walked.{Walked}
-use Rattle.paths.specs.declared.Walked.TheVariants.{Node as node, Refused as refused_node}
+use Rattle.refusals.specs.Numbers.{Judged}
+use Rattle.std.specs.Prelude.{Ok, Err}
 
 -- on the node in place k and the directory in place d that holds it
-unfoldable pub remove_own : Tables → (k d : ℕ) → Walked
+unfoldable pub remove_own : Tables → (k d : ℕ) → Judged ℕ
 remove_own t k d =
-    decide refused_node
+    decide Err
     ((21, is_directory (node_at t.nodes k)) ∷ (13, not (has_bit 2 (node_at t.nodes d)))
     ∷ (16, is_open t (node_at t.nodes k)) ∷ [])
-    (node k)
+    (Ok k)
 
-unfoldable pub rmdir_own : List Node → (k d : ℕ) → Walked
+unfoldable pub rmdir_own : List Node → (k d : ℕ) → Judged ℕ
 rmdir_own ns k d =
-    decide refused_node
+    decide Err
     ((16, eqb k 0)
     ∷ (20, not (is_directory (node_at ns k)))
     ∷ (13, not (has_bit 2 (node_at ns d)))
     ∷ (39, ltb 0 (length (children ns (node_at ns k).id)))
     ∷ [])
-    (node k)
+    (Ok k)

@@ -4,6 +4,7 @@
 ghost use Rattle.std.specs.Prelude.{◌≡◌, ℕ, ◌<◌, ◌≤◌};
 ghost use Rattle.filesystem.specs.Tables.{NODES};
 ghost use Rattle.rules.specs.Calls.{remove, rmdir};
+ghost use Rattle.refusals.specs.Numbers.{numbered};
 ghost use Rattle.memory.specs.Layout.{open_rows};
 ghost use Rattle.memory.specs.Memories.{IsMemory, nodes_of, was};
 ghost use Rattle.tables.specs.View.{tables_in};
@@ -17,28 +18,30 @@ ghost use Rattle.removals.specs.RemoveChecks.{remove_own, rmdir_own};
 
 use guard_state::Guard;
 use limits::kinds;
+use outcomes::Outcome;
+use refusals::{Refusal, StopReason};
 
 // remove of node k in directory d: 21, 13 (the directory's bit 2), 16.
-fn remove_own(m: &[u8], n: usize, o: usize, k: usize, d: usize) -> paths::Walked
+fn remove_own(m: &[u8], n: usize, o: usize, k: usize, d: usize) -> Result<usize, Refusal>
     requires { (k < n) × (d < n) × (n ≤ NODES) × (o ≤ open_rows) × IsMemory m.now }
-    ensures { result ≡ remove_own (tables_in n o (was m.now)) k d }
+    ensures { numbered result ≡ remove_own (tables_in n o (was m.now)) k d }
 {
     if memory::node_kind(m, k) == limits::DIRECTORY {
-        return paths::Walked::Refused(21);
+        return Err(Refusal::IsDirectory);
     }
     if memory::node_mode(m, d) / 2 % 2 != 1 {
-        return paths::Walked::Refused(13);
+        return Err(Refusal::Denied);
     }
     if tables::find_handle(m, o, memory::node_id(m, k)) < o {
-        return paths::Walked::Refused(16);
+        return Err(Refusal::Busy);
     }
-    paths::Walked::Node(k)
+    Ok(k)
 }
 
 // remove: stat's numbers, then its own.
-fn judge_remove(m: &[u8], n: usize, o: usize, path: &[u8]) -> paths::Walked
+fn judge_remove(m: &[u8], n: usize, o: usize, path: &[u8]) -> Result<usize, Refusal>
     requires { (0 < n) × (n ≤ NODES) × (o ≤ open_rows) × IsMemory m.now }
-    ensures { result ≡ node_for (tables_in n o (was m.now)) path.now remove }
+    ensures { numbered result ≡ node_for (tables_in n o (was m.now)) path.now remove }
 {
     let w = path_calls::judge_way(m, n, path);
     match w {
@@ -48,7 +51,7 @@ fn judge_remove(m: &[u8], n: usize, o: usize, path: &[u8]) -> paths::Walked
 }
 
 // remove: it waits for the status.
-pub fn begin_remove(m: &mut [u8], path: &[u8], request: &mut [u8]) -> outcomes::Outcome
+pub fn begin_remove(m: &mut [u8], path: &[u8], request: &mut [u8]) -> Outcome
     requires { HasRoot m.old × IsMemory m.old × HoldsRequest request.old }
     ensures { BeginsPath m request path.now remove result }
 {
@@ -66,29 +69,29 @@ pub fn begin_remove(m: &mut [u8], path: &[u8], request: &mut [u8]) -> outcomes::
 }
 
 // rmdir of node k in directory d: 16 (the root), 20, 13 (the directory's bit 2), 39.
-fn rmdir_own(m: &[u8], n: usize, k: usize, d: usize) -> paths::Walked
+fn rmdir_own(m: &[u8], n: usize, k: usize, d: usize) -> Result<usize, Refusal>
     requires { (k < n) × (d < n) × (n ≤ NODES) × IsMemory m.now }
-    ensures { result ≡ rmdir_own (nodes_of n m.now) k d }
+    ensures { numbered result ≡ rmdir_own (nodes_of n m.now) k d }
 {
     if k == 0 {
-        return paths::Walked::Refused(16);
+        return Err(Refusal::Busy);
     }
     if memory::node_kind(m, k) != limits::DIRECTORY {
-        return paths::Walked::Refused(20);
+        return Err(Refusal::NotDirectory);
     }
     if memory::node_mode(m, d) / 2 % 2 != 1 {
-        return paths::Walked::Refused(13);
+        return Err(Refusal::Denied);
     }
     if 0 < tables::count_children(m, n, memory::node_id(m, k)) {
-        return paths::Walked::Refused(39);
+        return Err(Refusal::NotEmpty);
     }
-    paths::Walked::Node(k)
+    Ok(k)
 }
 
 // rmdir: stat's numbers, then its own.
-fn judge_rmdir(m: &[u8], n: usize, path: &[u8]) -> paths::Walked
+fn judge_rmdir(m: &[u8], n: usize, path: &[u8]) -> Result<usize, Refusal>
     requires { (0 < n) × (n ≤ NODES) × IsMemory m.now }
-    ensures { (o : ℕ) → result ≡ node_for (tables_in n o (was m.now)) path.now rmdir }
+    ensures { (o : ℕ) → numbered result ≡ node_for (tables_in n o (was m.now)) path.now rmdir }
 {
     let w = path_calls::judge_way(m, n, path);
     match w {
@@ -98,7 +101,7 @@ fn judge_rmdir(m: &[u8], n: usize, path: &[u8]) -> paths::Walked
 }
 
 // rmdir: the same.
-pub fn begin_rmdir(m: &mut [u8], path: &[u8], request: &mut [u8]) -> outcomes::Outcome
+pub fn begin_rmdir(m: &mut [u8], path: &[u8], request: &mut [u8]) -> Outcome
     requires { HasRoot m.old × IsMemory m.old × HoldsRequest request.old }
     ensures { BeginsPath m request path.now rmdir result }
 {
@@ -116,26 +119,25 @@ pub fn begin_rmdir(m: &mut [u8], path: &[u8], request: &mut [u8]) -> outcomes::O
 }
 
 // remove and rmdir: the node is taken out, and its digests.
-pub fn accept_remove(m: &mut [u8], reply: &[u8]) -> outcomes::Outcome
+pub fn accept_remove(m: &mut [u8], reply: &[u8]) -> Outcome
     requires { ((numbers_in m.old).call ≡ REMOVING) × IsMemory m.old }
     ensures { Accepts m reply.now result }
 {
-    let b = replies::judge_status(reply, 0);
-    if b != 0 {
-        return outcomes::Outcome::Stopped(b);
+    if let Err(reason) = replies::judge_status(reply, 0) {
+        return Outcome::Stopped(reason);
     }
     let g = Guard::load(m);
     let n = g.nodes;
     let k = g.node;
     if n <= k {
-        return outcomes::Outcome::Stopped(2);
+        return Outcome::Stopped(StopReason::Status);
     }
     if Guard::PAGES < tables::first_page(m, n) {
-        return outcomes::Outcome::Stopped(2);
+        return Outcome::Stopped(StopReason::Status);
     }
     tables::remove_node(m, n, k);
     guard_state::rest(m, n - 1, g.opens);
-    outcomes::Outcome::Done {
+    Outcome::Done {
         number: 0,
         length: 0,
     }

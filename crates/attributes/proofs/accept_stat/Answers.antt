@@ -25,20 +25,19 @@ returns-then-n-k c =
     c.load-g.ensures in
     (λ d sha w held f. absurd (omega (arith, n, k, stat_premises d a.m.now held c.requires.0, c.if-n-k.true)), refl)
 
-pub judge_stat-b-requires : goal.judge_stat-b-requires
-judge_stat-b-requires c =
+pub judge_stat-requires : goal.judge_stat-requires
+judge_stat-requires c =
     let a = c.args in
     (omega (arith, c.if-n-k.false), (counts_fit a.m.now _ c.load-g.ensures).0, omega arith)
 
-pub returns-then-b-ne0 : goal.returns-then-b-ne0
-returns-then-b-ne0 c =
+pub returns-in-Err : goal.returns-in-Err
+returns-in-Err c =
     let a = c.args in (
       λ d sha w held f.
           stop_fills d w (state_of d a.m.now) a.reply.now _ (stat_pending d a.m.now c.requires.0) refl _ _
           a.answer.now
-          (c.judge_stat-b.ensures c.load-g.result.opens ∙ reason_loaded d a.m.now _ c.load-g.ensures
-          (λ i. asked (stating i)) a.reply.now)
-          (omega (arith, c.if-b-ne0.true)) refl,
+          (c.in-Err.ensures c.load-g.result.opens ∙ reason_loaded d a.m.now _ c.load-g.ensures
+          (λ i. asked (stating i)) a.reply.now) refl,
       refl,
     )
 
@@ -49,7 +48,7 @@ returns-then-answer-reply c =
           let s = state_of d a.m.now in
           let n = numbers_of (mem_of a.m.now).head in
           let h : 0 ≡ reason_for s.skeleton.tables a.reply.now (asked (stating n.node)) =
-          sym c.if-b-ne0.false ∙ c.judge_stat-b.ensures c.load-g.result.opens
+          c.in_default.ensures c.load-g.result.opens
           ∙ reason_loaded d a.m.now _ c.load-g.ensures (λ i. asked (stating i)) a.reply.now in
           absurd (omega (
             arith,
@@ -81,7 +80,7 @@ returns c =
       λ d sha w held u.
           let s = state_of d a.m.now in
           let h : 0 ≡ reason_for s.skeleton.tables a.reply.now (asked (stating n.node)) =
-          sym c.if-b-ne0.false ∙ c.judge_stat-b.ensures c.load-g.result.opens
+          c.in_default.ensures c.load-g.result.opens
           ∙ reason_loaded d a.m.now _ c.load-g.ensures (λ i. asked (stating i)) a.reply.now in
           let q : c.node_size-size.result ≡ (node_at s.skeleton.tables.nodes n.node).size =
           c.node_size-size.ensures ∙ ap (λ (i : ℕ). (node_at (mem_of a.m.now).nodes i).size) k

@@ -33,23 +33,22 @@ returns-then-is_full c =
       omega arith,
     )
 
-pub judge_id-b-requires : goal.judge_id-b-requires
-judge_id-b-requires c =
+pub judge_id-requires : goal.judge_id-requires
+judge_id-requires c =
     let a = c.args in
     ((counts_fit a.m.now _ c.load-g.ensures).0, omega arith)
 
-pub returns-then-b-ne0 : goal.returns-then-b-ne0
-returns-then-b-ne0 c =
+pub returns-in-Err : goal.returns-in-Err
+returns-in-Err c =
     let a = c.args in
     let n = numbers_of (mem_of a.m.now).head in
     let s = take n.bytes (mem_of a.m.now).staged in (
       λ d sha w held q.
           answer-stops d w (state_of d a.m.now) a.reply.now _ (create_pending d a.m.now c.requires.0)
           (sym c.is_full.ensures ∙ c.if-is_full.false) _ _ q
-          (c.judge_id-b.ensures n.parent n.kind n.mode s c.load-g.result.opens
+          (c.in-Err.ensures n.parent n.kind n.mode s c.load-g.result.opens
           ∙ ap (λ (x : Tables). reason_for x a.reply.now (asked (creating n.parent n.kind n.mode s)))
-          (tables-loaded a.m.now _ c.load-g.ensures d))
-          (omega (arith, c.if-b-ne0.true)) refl,
+          (tables-loaded a.m.now _ c.load-g.ensures d)) refl,
       refl,
     )
 
@@ -85,7 +84,7 @@ pub number_at-id-requires : goal.number_at-id-requires
 number_at-id-requires c =
     let a = c.args in
     let l = creating_long (tables_in c.load-g.result.nodes 0 (mem_of a.m.now)) a.reply.now 0 0 0 []
-    (sym c.if-b-ne0.false ∙ c.judge_id-b.ensures 0 0 0 [] 0) in
+    (c.in_default.ensures 0 0 0 [] 0) in
     (omega (arith, l), omega arith)
 
 pub rest-requires : goal.rest-requires
@@ -105,7 +104,7 @@ returns c =
           let s = state_of d a.m.now in
           let h : 0 ≡ reason_for s.skeleton.tables a.reply.now
           (asked (creating n.parent n.kind n.mode name)) =
-          sym c.if-b-ne0.false ∙ c.judge_id-b.ensures n.parent n.kind n.mode name c.load-g.result.opens
+          c.in_default.ensures n.parent n.kind n.mode name c.load-g.result.opens
           ∙ ap (λ (t : Tables). reason_for t a.reply.now (asked (creating n.parent n.kind n.mode name)))
           (tables-loaded a.m.now _ c.load-g.ensures d) in
           let t : c.number_at-id.result ≡ decode a.reply.now =

@@ -22,8 +22,11 @@ use Rattle.rules.proofs.Lengths.{path_short}
 use Rattle.machine.specs.Machine.{State, guard as digest_store}
 use Rattle.paths.specs.laws.FormAnswers.{read_components}
 use Rattle.paths.specs.laws.WalkAnswers.{last-start}
-use Rattle.paths.specs.declared.Placed.{Placed}
-use Rattle.paths.specs.declared.Placed.TheVariants.{Root, In, Refused as refused_place}
+use Rattle.refusals.specs.Numbers.{Judged, number_of}
+use Rattle.refusals.specs.declared.Refusal.{Refusal}
+use Rattle.creations.specs.NameChecks.{new_at}
+use Rattle.paths.specs.declared.Place.{Place}
+use Rattle.std.specs.Prelude.{Ok, Err}
 use Rattle.path_calls.specs.Judged.{judged, place_for}
 use Rattle.call_reader.specs.Meaning.{made_by}
 use Rattle.requests.specs.PathRequests.{has_number, path_request}
@@ -67,6 +70,14 @@ unfolding place_for made_by call_checks pick
 place_made t s n is_create = refl
 place_made t s n is_mkdir = refl
 
+abbrev parent_in : Judged Place → ℕ
+parent_in (Ok p) = p.parent
+parent_in (Err b) = 0
+
+abbrev start_in : Judged Place → ℕ
+start_in (Ok p) = p.start
+start_in (Err b) = 0
+
 head_false : {ch : Check} {cs : List Check} → Passed (ch ∷ cs) → ch.1 ≡ false
 head_false (both e _) = e
 
@@ -80,23 +91,21 @@ module _ (path : List ℕ) (kind number : ℕ) (new : NewKind kind) where
     starts : length path - length (last_of its) ≡ at
     moves : m ≡ call_action t w (made_by kind number its)
 
-  record Says (t : Tables) (w : ℕ) (r : Placed) (m : Move) : Type 0 where
-    refuses : (n : ℕ) → r ≡ refused_place n → m ≡ refuse n
-    passes : (d at : ℕ) → r ≡ In d at → Passes t w d at m
-    never : r ≡ Root → ⊥
+  record Says (t : Tables) (w : ℕ) (r : Judged Place) (m : Move) : Type 0 where
+    refuses : (n : ℕ) → r ≡ Err n → m ≡ refuse n
+    passes : (d at : ℕ) → r ≡ new_at d at → Passes t w d at m
 
   says : (t : Tables) (w : ℕ)
       → Says t w (place_for t path (made_by kind number)) (judged refuse (λ p. call_checks t (made_by kind number p))
       (λ p. call_action t w (made_by kind number p)) path)
   unfolding place_for
   says t w =
-      both-judged (Says t w) refused_place refuse
+      both-judged (Says t w) Err refuse
       (λ n. record {
         refuses = λ k e. let z : n ≡ k = cc in ap refuse z;
         passes = λ d at e. absurd (let z : ◌≡◌ {A = ℕ} 0 1 = cc in omega arith);
-        never = λ e. let z : ◌≡◌ {A = ℕ} 0 1 = cc in omega arith;
       })
-      (λ p. call_checks t (made_by kind number p)) (λ p. In (parent_of t.nodes 0 p) (length path - length (last_of p)))
+      (λ p. call_checks t (made_by kind number p)) (λ p. new_at (parent_of t.nodes 0 p) (length path - length (last_of p)))
       (λ p. call_action t w (made_by kind number p)) path
       (λ p e h. record {
         refuses = λ n q. absurd (let z : ◌≡◌ {A = ℕ} 0 1 = cc in omega arith);
@@ -104,12 +113,10 @@ module _ (path : List ℕ) (kind number : ℕ) (new : NewKind kind) where
           its = p;
           reads = e;
           passed = subst Passed (checks_new t w number p new) h;
-          leads =
-              cc;
-          starts = cc;
+          leads = ap parent_in q;
+          starts = ap start_in q;
           moves = refl;
         };
-        never = λ q. let z : ◌≡◌ {A = ℕ} 0 1 = cc in omega arith;
       })
 
   -- what is known of a call that passes: its directory is there, the new name stands at the path's end, and neither is
@@ -139,7 +146,7 @@ module _ (path : List ℕ) (kind number : ℕ) (new : NewKind kind) where
   long_false : (t : Tables) (p : Path) → Passed (new_checks t p) → too_long p ≡ false
   long_false t p a = head_false (all_left (reach_parent t p) _ a)
 
-  pub new-named : (t : Tables) (r : Placed) (d at : ℕ) → r ≡ place_for t path (made_by kind number) → r ≡ In d at
+  pub new-named : (t : Tables) (r : Judged Place) (d at : ℕ) → r ≡ place_for t path (made_by kind number) → r ≡ new_at d at
       → 0 < length t.nodes → Named t d at
   unfolding too_long
   new-named t r d at e f h =
@@ -154,22 +161,19 @@ module _ (path : List ℕ) (kind number : ℕ) (new : NewKind kind) where
         name-short = subst (λ (s : List ℕ). length s ≤ NAME_BYTES) (sym n.0) (last-short p.its (or_fst _ _ l));
       }
 
-  pub new_never : (t : Tables) (r : Placed) → r ≡ place_for t path (made_by kind number) → r ≡ Root → ⊥
-  new_never t r e f = (says t 0).never (sym e ∙ f)
-
   module _ (c : Config) (s : State (digest_store c)) where
     abbrev here : Tables
     here = s.skeleton.tables
 
-    pub new_refused : (r : Placed) (n : ℕ) (m q : List ℕ) → r ≡ place_for here path (made_by kind number)
-        → r ≡ refused_place n → state_of c m ≡ s
-        → Sends c (begun c s path (made_by kind number)) (Refused n) m q q
+    pub new_refused : (b : Refusal) (m q : List ℕ) → Err (number_of b) ≡ place_for here path (made_by kind number)
+        → state_of c m ≡ s
+        → Sends c (begun c s path (made_by kind number)) (Refused b) m q q
     unfolding begun
-    new_refused r n m q e f g = refusal_sends c s _ n m q ((says here c.width).refuses n (sym e ∙ f)) g
+    new_refused b m q e g = refusal_sends c s _ b m q ((says here c.width).refuses (number_of b) (sym e)) g
 
-    pub new_sends : (r : Placed) (d at : ℕ) (m q q' : List ℕ) (o : Outcome) → 0 < length here.nodes
+    pub new_sends : (r : Judged Place) (d at : ℕ) (m q q' : List ℕ) (o : Outcome) → 0 < length here.nodes
         → r ≡ place_for here path (made_by kind number)
-        → r ≡ In d at
+        → r ≡ new_at d at
         → state_of c m ≡ waits c s (asked (creating (node_at here.nodes d).id kind number (drop at path)))
         gathered_none → q' ≡ at_front (path_request kind number path) q
         → o ≡ Ask (length (path_request kind number path)) → length (path_request kind number path) ≤ length q

@@ -24,21 +24,20 @@ node_id-id-requires c =
     c.load-g.ensures in
     (omega (arith, k), omega arith)
 
-pub judge_listing-b-requires : goal.judge_listing-b-requires
-judge_listing-b-requires c =
+pub judge_listing-requires : goal.judge_listing-requires
+judge_listing-requires c =
     let a = c.args in
     ((counts_fit a.m.now _ c.load-g.ensures).0, omega arith)
 
-pub returns-then-b-ne0 : goal.returns-then-b-ne0
-returns-then-b-ne0 c =
+pub returns-in-Err : goal.returns-in-Err
+returns-in-Err c =
     let a = c.args in (
       λ d sha w held f.
           let fits = listing_premises d a.m.now held w c.requires.0 in
           stop_fills d w (state_of d a.m.now) a.reply.now _ (listing_pending d a.m.now c.requires.0) refl _ _
           a.answer.now
           (listing_reason d a.m.now _ c.load-g.ensures fits.1 _ c.node_id-id.ensures _ a.reply.now
-          fits.0 c.judge_listing-b.ensures)
-          (omega (arith, c.if-b-ne0.true)) refl,
+          fits.0 c.in-Err.ensures) refl,
       refl,
     )
 
@@ -50,7 +49,7 @@ returns-then-answer-reply c =
           let t = (state_of d a.m.now).skeleton.tables in
           let n = (numbers_of (mem_of a.m.now).head).node in
           let h : 0 ≡ reason_for t a.reply.now (asked (listing n)) =
-          sym c.if-b-ne0.false ∙ listing_reason d a.m.now _ c.load-g.ensures fits.1 _
+          sym (sym c.in_default.ensures) ∙ listing_reason d a.m.now _ c.load-g.ensures fits.1 _
           c.node_id-id.ensures _ a.reply.now fits.0 c.judge_listing-b.ensures in
           let b : Bytes a.reply.now = bytes_of a.reply.now (λ x. omega (arith, c.type_inv.reply x))
           in
@@ -74,7 +73,7 @@ returns c =
           let s = state_of d a.m.now in
           let n = (numbers_of (mem_of a.m.now).head).node in
           let h : 0 ≡ reason_for s.skeleton.tables a.reply.now (asked (listing n)) =
-          sym c.if-b-ne0.false ∙ listing_reason d a.m.now _ c.load-g.ensures fits.1 _
+          sym (sym c.in_default.ensures) ∙ listing_reason d a.m.now _ c.load-g.ensures fits.1 _
           c.node_id-id.ensures _ a.reply.now fits.0 c.judge_listing-b.ensures in
           let q = c.count_children-count.ensures ∙ listing_count d a.m.now _ c.load-g.ensures fits.1 _
           c.node_id-id.ensures in

@@ -1,6 +1,7 @@
 -- `listings::judge_readdir` meets its contract. Assumes nothing.
 use native.Mathlib.Omega.{arith}
-use mathlib.Core.Path.{sym, ◌∙◌}
+use mathlib.Core.Path.{ap, sym, ◌∙◌}
+use Rattle.refusals.specs.Numbers.{numbered}
 use Rattle.memory.specs.Layout.{mem_of}
 use Rattle.tables.specs.View.{tables_in}
 use Rattle.path_calls.specs.laws.Rows.{reached_front}
@@ -24,8 +25,8 @@ returns-in-Node c o =
     (c.judge_reach-w.ensures o) c.in-Node.is).0 in
     c.readdir_own.ensures ∙ sym (readdir_goes (tables_in a.n o (mem_of a.m.now)) a.path.now _ h)
 
-pub returns-in-Refused : goal.returns-in-Refused
-returns-in-Refused c o =
+pub returns-in-Err : goal.returns-in-Err
+returns-in-Err c o =
     let a = c.args in
     sym (readdir-stops (tables_in a.n o (mem_of a.m.now)) a.path.now _
-    (sym (c.judge_reach-w.ensures o) ∙ c.in-Refused.is))
+    (sym (c.judge_reach-w.ensures o) ∙ (ap numbered c.in-Err.is)))

@@ -5,7 +5,7 @@ use mathlib.Core.Bool.{not}
 use Rattle.lists.specs.All.{both, none}
 use Rattle.lists.specs.Checks.{decide_passed, check_passes, check_stops}
 use Rattle.memory.specs.Layout.{mem_of}
-use Rattle.paths.specs.declared.Walked.TheVariants.{Refused as refused_node}
+use Rattle.std.specs.Prelude.{Err}
 use Rattle.path_calls.specs.laws.Rows.{folder, no-folder, bit, no_bit}
 use Rattle.listings.specs.ListChecks.{readdir_own}
 use Rattle.listings.proofs.readdir_own.Goals as goal
@@ -15,7 +15,7 @@ unfolding readdir_own
 returns-then-node_kind-ne-DIRECTORY c =
     let a = c.args in
     let ns = (mem_of a.m.now).nodes in
-    sym (check_stops refused_node 20 _ _ _
+    sym (check_stops Err 20 _ _ _
     (ap not (no-folder a.n ns a.k (omega arith) _ c.node_kind.ensures c.if-node_kind-ne-DIRECTORY.true)))
 
 pub returns-then-node_mode-ne1 : goal.returns-then-node_mode-ne1
@@ -25,8 +25,8 @@ returns-then-node_mode-ne1 c =
     let ns = (mem_of a.m.now).nodes in
     let f = folder a.n ns a.k (omega arith) _ c.node_kind.ensures
     c.if-node_kind-ne-DIRECTORY.false in
-    sym (check_passes refused_node 20 _ _ _ (ap not f)
-    ∙ check_stops refused_node 13 _ _ _
+    sym (check_passes Err 20 _ _ _ (ap not f)
+    ∙ check_stops Err 13 _ _ _
     (ap not (no_bit a.n ns a.k (omega arith) _ 4 c.node_mode.ensures c.if-node_mode-ne1.true)))
 
 pub returns : goal.returns
@@ -37,4 +37,4 @@ returns c =
     let f = folder a.n ns a.k (omega arith) _ c.node_kind.ensures
     c.if-node_kind-ne-DIRECTORY.false in
     let g = bit a.n ns a.k (omega arith) _ 4 c.node_mode.ensures c.if-node_mode-ne1.false in
-    sym (decide_passed refused_node _ _ (both (ap not f) (both (ap not g) none)))
+    sym (decide_passed Err _ _ (both (ap not f) (both (ap not g) none)))

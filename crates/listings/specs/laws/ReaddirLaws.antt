@@ -6,7 +6,7 @@ use Rattle.std.proofs.Common.{◌∙◌}
 use Rattle.filesystem.specs.Tables.{Tables}
 use Rattle.rules.specs.Calls.{readdir, stat, call_bytes}
 use Rattle.rules.specs.Rules.{call_checks, call_action}
-use Rattle.paths.specs.declared.Walked.TheVariants.{Refused as refused_node}
+use Rattle.std.specs.Prelude.{Err}
 use Rattle.path_calls.specs.Judged.{node_for}
 use Rattle.path_calls.specs.laws.ReachedLaws.{Reached, reach-stops, reach_goes}
 use Rattle.listings.specs.ListChecks.{readdir_own}
@@ -17,16 +17,16 @@ use Rattle.path_calls.specs.Begun.{WalksFirst, SendsItself}
 
 module _ (t : Tables) (s : List ℕ) where
   -- stat's numbers come first
-  module _ (b : ℕ) (e : node_for t s stat ≡ refused_node b) where
-    pub readdir-stops : node_for t s readdir ≡ refused_node b
+  module _ (b : ℕ) (e : node_for t s stat ≡ Err b) where
+    pub readdir-stops : node_for t s readdir ≡ Err b
     unfolding node_for call_checks
-    readdir-stops = reach-stops t s refused_node _ _ b e
+    readdir-stops = reach-stops t s Err _ _ b e
 
   -- then the call's own
   module _ (k : ℕ) (h : Reached t s k) where
     pub readdir_goes : node_for t s readdir ≡ readdir_own t.nodes k
     unfolding node_for call_checks readdir_own
-    readdir_goes = reach_goes t s refused_node _ _ k h ∙ ap (readdir_own t.nodes) h.node-place
+    readdir_goes = reach_goes t s Err _ _ k h ∙ ap (readdir_own t.nodes) h.node-place
 
 -- readdir walks first, and sends itself
 pub readdir_walks : WalksFirst readdir

@@ -15,14 +15,13 @@ use Rattle.replies.specs.laws.TakenLaws.{answer-stops, answer_deletes}
 use Rattle.removals.specs.laws.RemovedLaws.{remove-ends, remove_premises}
 use Rattle.removals.proofs.accept_remove.Goals as goal
 
-pub returns-then-b-ne0 : goal.returns-then-b-ne0
-returns-then-b-ne0 c =
+pub returns-in-Err : goal.returns-in-Err
+returns-in-Err c =
     let a = c.args in (
       λ d sha w held q.
           answer-stops d w (state_of d a.m.now) a.reply.now _
           (remove_pending d a.m.now c.requires.0) refl _ _ q
-          (c.judge_status-b.ensures ∙ sym (removing_reason (state_of d a.m.now).skeleton.tables a.reply.now _))
-          (omega (arith, c.if-b-ne0.true)) refl,
+          (c.in-Err.ensures ∙ sym (removing_reason (state_of d a.m.now).skeleton.tables a.reply.now _)) refl,
       refl,
     )
 
@@ -81,7 +80,7 @@ returns c =
       λ d sha w held q.
           answer_deletes d w (state_of d a.m.now) a.reply.now _
           (remove_pending d a.m.now c.requires.0) refl _ _ q
-          (sym c.if-b-ne0.false ∙ c.judge_status-b.ensures
+          (c.in_default.ensures
           ∙ sym (removing_reason (state_of d a.m.now).skeleton.tables a.reply.now _)) refl
           (c.rest.ensures.0 d
           ∙ ap (λ (x : View). resting_state d x) (c.remove_node.ensures.by_index c.load-g.result.opens)

@@ -1,6 +1,7 @@
 -- `removals::judge_rmdir` meets its contract. Assumes nothing.
 use native.Mathlib.Omega.{arith}
-use mathlib.Core.Path.{sym, ◌∙◌}
+use mathlib.Core.Path.{ap, sym, ◌∙◌}
+use Rattle.refusals.specs.Numbers.{numbered}
 use Rattle.memory.specs.Layout.{mem_of}
 use Rattle.tables.specs.View.{tables_in}
 use Rattle.path_calls.specs.laws.ReachedLaws.{way_stops}
@@ -28,10 +29,10 @@ returns-in-At c o =
     c.in-At.is in
     c.rmdir_own.ensures ∙ sym (rmdir_goes (tables_in a.n o (mem_of a.m.now)) a.path.now _ h.0 _ h.1)
 
-pub returns-in-Refused : goal.returns-in-Refused
-returns-in-Refused c o =
+pub returns-in-Err : goal.returns-in-Err
+returns-in-Err c o =
     let a = c.args in
     let t = tables_in a.n o (mem_of a.m.now) in
     sym (rmdir-stops t a.path.now _
     (way_stops t a.path.now _ (sym (c.judge_way-w.ensures o)
-    ∙ c.in-Refused.is)))
+    ∙ (ap numbered c.in-Err.is))))

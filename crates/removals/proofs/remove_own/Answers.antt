@@ -5,7 +5,7 @@ use mathlib.Core.Bool.{not}
 use Rattle.lists.specs.All.{both, none}
 use Rattle.lists.specs.Checks.{decide_passed, check_passes, check_stops}
 use Rattle.memory.specs.Layout.{mem_of}
-use Rattle.paths.specs.declared.Walked.TheVariants.{Refused as refused_node}
+use Rattle.std.specs.Prelude.{Err}
 use Rattle.tables.specs.View.{tables_in}
 use Rattle.path_calls.specs.laws.Rows.{folder, no-folder, bit, no_bit, is_open_lem, not_open}
 use Rattle.removals.specs.RemoveChecks.{remove_own}
@@ -15,7 +15,7 @@ pub returns-then-node_kind-eq-DIRECTORY : goal.returns-then-node_kind-eq-DIRECTO
 unfolding remove_own tables_in
 returns-then-node_kind-eq-DIRECTORY c =
     let a = c.args in
-    sym (check_stops refused_node 21 _ _ _ (folder a.n (mem_of a.m.now).nodes a.k (omega arith) _
+    sym (check_stops Err 21 _ _ _ (folder a.n (mem_of a.m.now).nodes a.k (omega arith) _
     c.node_kind.ensures c.if-node_kind-eq-DIRECTORY.true))
 
 pub returns-then-node_mode-ne1 : goal.returns-then-node_mode-ne1
@@ -25,8 +25,8 @@ returns-then-node_mode-ne1 c =
     let ns = (mem_of a.m.now).nodes in
     let f = no-folder a.n ns a.k (omega arith) _ c.node_kind.ensures
     c.if-node_kind-eq-DIRECTORY.false in
-    sym (check_passes refused_node 21 _ _ _ f
-    ∙ check_stops refused_node 13 _ _ _
+    sym (check_passes Err 21 _ _ _ f
+    ∙ check_stops Err 13 _ _ _
     (ap not (no_bit a.n ns a.d (omega arith) _ 2 c.node_mode.ensures c.if-node_mode-ne1.true)))
 
 pub returns-then-find_handle-o : goal.returns-then-find_handle-o
@@ -42,8 +42,8 @@ returns-then-find_handle-o c =
     let h = is_open_lem a.m.now a.n a.o a.k (omega arith) (omega arith) _ _
     c.node_id.ensures
     c.find_handle.ensures (omega arith) in
-    sym (check_passes refused_node 21 _ _ _ f ∙ check_passes refused_node 13 _ _ _ (ap not g)
-    ∙ check_stops refused_node 16 _ _ _ h)
+    sym (check_passes Err 21 _ _ _ f ∙ check_passes Err 13 _ _ _ (ap not g)
+    ∙ check_stops Err 16 _ _ _ h)
 
 pub returns : goal.returns
 unfolding remove_own tables_in
@@ -58,4 +58,4 @@ returns c =
     let h = not_open a.m.now a.n a.o a.k (omega arith) (omega arith) _ _
     c.node_id.ensures
     c.find_handle.ensures (omega arith) in
-    sym (decide_passed refused_node _ _ (both f (both (ap not g) (both h none))))
+    sym (decide_passed Err _ _ (both f (both (ap not g) (both h none))))

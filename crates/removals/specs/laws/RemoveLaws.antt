@@ -7,7 +7,7 @@ use Rattle.filesystem.specs.Paths.{parent_of}
 use Rattle.rules.specs.Calls.{remove, rmdir, stat, call_bytes}
 use Rattle.rules.specs.Rules.{call_checks, call_action}
 use Rattle.paths.specs.Parts.{components_of}
-use Rattle.paths.specs.declared.Walked.TheVariants.{Refused as refused_node}
+use Rattle.std.specs.Prelude.{Err}
 use Rattle.path_calls.specs.Judged.{node_for}
 use Rattle.path_calls.specs.laws.ReachedLaws.{Reached, reach-stops, reach_goes}
 use Rattle.removals.specs.RemoveChecks.{remove_own, rmdir_own}
@@ -18,24 +18,24 @@ use Rattle.path_calls.specs.Begun.{WalksFirst, SendsItself}
 
 module _ (t : Tables) (s : List ℕ) where
   -- stat's numbers come first
-  module _ (b : ℕ) (e : node_for t s stat ≡ refused_node b) where
-    pub remove-stops : node_for t s remove ≡ refused_node b
+  module _ (b : ℕ) (e : node_for t s stat ≡ Err b) where
+    pub remove-stops : node_for t s remove ≡ Err b
     unfolding node_for call_checks
-    remove-stops = reach-stops t s refused_node _ _ b e
+    remove-stops = reach-stops t s Err _ _ b e
 
-    pub rmdir-stops : node_for t s rmdir ≡ refused_node b
+    pub rmdir-stops : node_for t s rmdir ≡ Err b
     unfolding node_for call_checks
-    rmdir-stops = reach-stops t s refused_node _ _ b e
+    rmdir-stops = reach-stops t s Err _ _ b e
 
   -- then the call's own
   module _ (k : ℕ) (h : Reached t s k) (d : ℕ) (e : parent_of t.nodes 0 (components_of s) ≡ d) where
     pub remove_goes : node_for t s remove ≡ remove_own t k d
     unfolding node_for call_checks remove_own
-    remove_goes = reach_goes t s refused_node _ _ k h ∙ (λ i. remove_own t (h.node-place i) (e i))
+    remove_goes = reach_goes t s Err _ _ k h ∙ (λ i. remove_own t (h.node-place i) (e i))
 
     pub rmdir_goes : node_for t s rmdir ≡ rmdir_own t.nodes k d
     unfolding node_for call_checks rmdir_own
-    rmdir_goes = reach_goes t s refused_node _ _ k h ∙ (λ i. rmdir_own t.nodes (h.node-place i) (e i))
+    rmdir_goes = reach_goes t s Err _ _ k h ∙ (λ i. rmdir_own t.nodes (h.node-place i) (e i))
 
 -- remove walks first, and sends itself
 pub remove_walks : WalksFirst remove
