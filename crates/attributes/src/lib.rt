@@ -27,10 +27,10 @@ pub fn begin_chmod(m: &mut [u8], mode: u8, path: &[u8], request: &mut [u8]) -> O
     ensures { BeginsPath m request path.now (chmod mode) result }
 {
     let g = Guard::load(m);
-    let w = path_calls::judge_reach(m, g.nodes, path);
+    let judged = path_calls::judge_reach(m, g.nodes, path);
     path_calls::begin_on_node(
         m,
-        w,
+        judged,
         guard_state::calls::CHANGING,
         kinds::CHMOD,
         mode,
@@ -62,10 +62,10 @@ pub fn begin_stat(m: &mut [u8], path: &[u8], request: &mut [u8]) -> Outcome
     ensures { BeginsPath m request path.now stat result }
 {
     let g = Guard::load(m);
-    let w = path_calls::judge_reach(m, g.nodes, path);
+    let judged = path_calls::judge_reach(m, g.nodes, path);
     path_calls::begin_on_node(
         m,
-        w,
+        judged,
         guard_state::calls::STATING,
         kinds::STAT,
         0,
@@ -89,12 +89,12 @@ fn stat_row(id: u64, kind: u8, mode: u8, size: u32) -> [u8; STAT_BYTES]
 }
 
 // The stat of node k: 1 of another length, 6 where a field differs.
-fn judge_stat(m: &[u8], n: usize, k: usize, reply: &[u8]) -> u8
+fn judge_stat(m: &[u8], n: usize, k: usize, reply: &[u8]) -> Result<(), StopReason>
     requires { (k < n) × (n ≤ NODES) × IsMemory m.now }
     ensures { (o : ℕ) → reason_or_0 result ≡ reason_for (tables_in n o (was m.now)) reply.now (asked (stating k)) }
 {
     if reply.len() != STAT_BYTES {
-        return 1;
+        return Err(StopReason::Length);
     }
     let row = stat_row(
         memory::node_id(m, k),
@@ -103,9 +103,9 @@ fn judge_stat(m: &[u8], n: usize, k: usize, reply: &[u8]) -> u8
         memory::node_size(m, k),
     );
     if !buffers::same(reply, &row) {
-        return 6;
+        return Err(StopReason::Stat);
     }
-    0
+    Ok(())
 }
 
 // stat: done with the size, and the reply's bytes.

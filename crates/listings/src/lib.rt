@@ -43,11 +43,8 @@ fn judge_readdir(m: &[u8], n: usize, path: &[u8]) -> Result<usize, Refusal>
     requires { (0 < n) × (n ≤ NODES) × IsMemory m.now }
     ensures { (o : ℕ) → numbered result ≡ node_for (tables_in n o (was m.now)) path.now readdir }
 {
-    let w = path_calls::judge_reach(m, n, path);
-    match w {
-        Ok(k) => readdir_own(m, n, k),
-        Err(refusal) => Err(refusal),
-    }
+    let k = path_calls::judge_reach(m, n, path)?;
+    readdir_own(m, n, k)
 }
 
 // readdir: it waits for the listing.
@@ -56,10 +53,10 @@ pub fn begin_readdir(m: &mut [u8], path: &[u8], request: &mut [u8]) -> Outcome
     ensures { BeginsPath m request path.now readdir result }
 {
     let g = Guard::load(m);
-    let w = judge_readdir(m, g.nodes, path);
+    let judged = judge_readdir(m, g.nodes, path);
     path_calls::begin_on_node(
         m,
-        w,
+        judged,
         guard_state::calls::LISTING,
         kinds::READDIR,
         0,

@@ -32,7 +32,7 @@ fn remove_own(m: &[u8], n: usize, o: usize, k: usize, d: usize) -> Result<usize,
     if memory::node_mode(m, d) / 2 % 2 != 1 {
         return Err(Refusal::Denied);
     }
-    if tables::find_handle(m, o, memory::node_id(m, k)) < o {
+    if tables::find_handle(m, o, memory::node_id(m, k)).is_some() {
         return Err(Refusal::Busy);
     }
     Ok(k)
@@ -43,11 +43,8 @@ fn judge_remove(m: &[u8], n: usize, o: usize, path: &[u8]) -> Result<usize, Refu
     requires { (0 < n) × (n ≤ NODES) × (o ≤ open_rows) × IsMemory m.now }
     ensures { numbered result ≡ node_for (tables_in n o (was m.now)) path.now remove }
 {
-    let w = path_calls::judge_way(m, n, path);
-    match w {
-        path_calls::Way::At { node, parent } => remove_own(m, n, o, node, parent),
-        path_calls::Way::Refused(b) => paths::Walked::Refused(b),
-    }
+    let way = path_calls::judge_way(m, n, path)?;
+    remove_own(m, n, o, way.node, way.parent)
 }
 
 // remove: it waits for the status.
@@ -56,10 +53,10 @@ pub fn begin_remove(m: &mut [u8], path: &[u8], request: &mut [u8]) -> Outcome
     ensures { BeginsPath m request path.now remove result }
 {
     let g = Guard::load(m);
-    let w = judge_remove(m, g.nodes, g.opens, path);
+    let judged = judge_remove(m, g.nodes, g.opens, path);
     path_calls::begin_on_node(
         m,
-        w,
+        judged,
         guard_state::calls::REMOVING,
         kinds::REMOVE,
         0,
@@ -93,11 +90,8 @@ fn judge_rmdir(m: &[u8], n: usize, path: &[u8]) -> Result<usize, Refusal>
     requires { (0 < n) × (n ≤ NODES) × IsMemory m.now }
     ensures { (o : ℕ) → numbered result ≡ node_for (tables_in n o (was m.now)) path.now rmdir }
 {
-    let w = path_calls::judge_way(m, n, path);
-    match w {
-        path_calls::Way::At { node, parent } => rmdir_own(m, n, node, parent),
-        path_calls::Way::Refused(b) => paths::Walked::Refused(b),
-    }
+    let way = path_calls::judge_way(m, n, path)?;
+    rmdir_own(m, n, way.node, way.parent)
 }
 
 // rmdir: the same.
@@ -106,10 +100,10 @@ pub fn begin_rmdir(m: &mut [u8], path: &[u8], request: &mut [u8]) -> Outcome
     ensures { BeginsPath m request path.now rmdir result }
 {
     let g = Guard::load(m);
-    let w = judge_rmdir(m, g.nodes, path);
+    let judged = judge_rmdir(m, g.nodes, path);
     path_calls::begin_on_node(
         m,
-        w,
+        judged,
         guard_state::calls::REMOVING,
         kinds::RMDIR,
         0,

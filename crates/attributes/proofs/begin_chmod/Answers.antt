@@ -11,8 +11,8 @@ use Rattle.path_calls.specs.laws.BegunLaws.{reaches}
 use Rattle.attributes.specs.laws.ReachLaws.{chmod_walks, chmod_itself, as_chmod}
 use Rattle.attributes.proofs.begin_chmod.Goals as goal
 
-pub judge_reach-w-requires : goal.judge_reach-w-requires
-judge_reach-w-requires c =
+pub judge_reach-judged-requires : goal.judge_reach-judged-requires
+judge_reach-judged-requires c =
     let f = counts_fit c.args.m.now _ c.load-g.ensures in
     let e = ap (λ (x : Guard). x.nodes) c.load-g.ensures in
     (omega (arith, e, c.requires.0), f.0, omega arith)
@@ -22,7 +22,7 @@ begin_on_node-requires c =
     let a = c.args in
     let f = counts_fit a.m.now _ c.load-g.ensures in
     let e = ap (λ (x : Guard). x.nodes) c.load-g.ensures in
-    let y = (c.judge_reach-w.ensures c.load-g.result.opens ∙ as_chmod a.mode _ a.path.now) in
+    let y = (c.judge_reach-judged.ensures c.load-g.result.opens ∙ as_chmod a.mode _ a.path.now) in
     let r = reaches a.path.now (chmod a.mode) (chmod_walks a.mode) a.m.now _ _
     (omega (arith, e, c.requires.0)) f.0 _ y in
     (for_chmod, r, omega arith, omega arith)
@@ -33,7 +33,7 @@ returns c =
     let make = (chmod a.mode) in (
       λ q d w h.
           c.begin_on_node.ensures.0 q make
-          ((c.judge_reach-w.ensures c.load-g.result.opens ∙ as_chmod a.mode _ a.path.now)
+          ((c.judge_reach-judged.ensures c.load-g.result.opens ∙ as_chmod a.mode _ a.path.now)
           ∙ ap (λ (t : Tables). node_for t a.path.now make) (tables-loaded a.m.now _ c.load-g.ensures q))
           (chmod_itself a.mode),
       omega arith,

@@ -11,8 +11,8 @@ use Rattle.path_calls.specs.laws.BegunLaws.{reaches}
 use Rattle.attributes.specs.laws.ReachLaws.{stat_walks, stat_itself}
 use Rattle.attributes.proofs.begin_stat.Goals as goal
 
-pub judge_reach-w-requires : goal.judge_reach-w-requires
-judge_reach-w-requires c =
+pub judge_reach-judged-requires : goal.judge_reach-judged-requires
+judge_reach-judged-requires c =
     let f = counts_fit c.args.m.now _ c.load-g.ensures in
     let e = ap (λ (x : Guard). x.nodes) c.load-g.ensures in
     (omega (arith, e, c.requires.0), f.0, omega arith)
@@ -22,7 +22,7 @@ begin_on_node-requires c =
     let a = c.args in
     let f = counts_fit a.m.now _ c.load-g.ensures in
     let e = ap (λ (x : Guard). x.nodes) c.load-g.ensures in
-    let y = c.judge_reach-w.ensures c.load-g.result.opens in
+    let y = c.judge_reach-judged.ensures c.load-g.result.opens in
     let r = reaches a.path.now stat stat_walks a.m.now _ _ (omega (arith, e, c.requires.0)) f.0 _ y in
     (for_stat, r, omega arith, omega arith)
 
@@ -32,7 +32,7 @@ returns c =
     let make = stat in (
       λ q d w h.
           c.begin_on_node.ensures.0 q make
-          (c.judge_reach-w.ensures c.load-g.result.opens ∙ ap (λ (t : Tables). node_for t a.path.now make)
+          (c.judge_reach-judged.ensures c.load-g.result.opens ∙ ap (λ (t : Tables). node_for t a.path.now make)
           (tables-loaded a.m.now _ c.load-g.ensures q)) stat_itself,
       omega arith,
     )

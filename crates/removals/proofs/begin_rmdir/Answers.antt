@@ -11,8 +11,8 @@ use Rattle.path_calls.specs.laws.BegunLaws.{reaches}
 use Rattle.removals.specs.laws.RemoveLaws.{rmdir_walks, rmdir_itself}
 use Rattle.removals.proofs.begin_rmdir.Goals as goal
 
-pub judge_rmdir-w-requires : goal.judge_rmdir-w-requires
-judge_rmdir-w-requires c =
+pub judge_rmdir-judged-requires : goal.judge_rmdir-judged-requires
+judge_rmdir-judged-requires c =
     let f = counts_fit c.args.m.now _ c.load-g.ensures in
     let e = ap (λ (x : Guard). x.nodes) c.load-g.ensures in
     (omega (arith, e, c.requires.0), f.0, omega arith)
@@ -22,7 +22,7 @@ begin_on_node-requires c =
     let a = c.args in
     let f = counts_fit a.m.now _ c.load-g.ensures in
     let e = ap (λ (x : Guard). x.nodes) c.load-g.ensures in
-    let y = c.judge_rmdir-w.ensures c.load-g.result.opens in
+    let y = c.judge_rmdir-judged.ensures c.load-g.result.opens in
     let r = reaches a.path.now rmdir rmdir_walks a.m.now _ _ (omega (arith, e, c.requires.0)) f.0 _ y in
     (for_remove, r, omega arith, omega arith)
 
@@ -32,7 +32,7 @@ returns c =
     let make = rmdir in (
       λ q d w h.
           c.begin_on_node.ensures.0 q make
-          (c.judge_rmdir-w.ensures c.load-g.result.opens ∙ ap (λ (t : Tables). node_for t a.path.now make)
+          (c.judge_rmdir-judged.ensures c.load-g.result.opens ∙ ap (λ (t : Tables). node_for t a.path.now make)
           (tables-loaded a.m.now _ c.load-g.ensures q)) rmdir_itself,
       omega arith,
     )

@@ -29,9 +29,9 @@ returns-then-node_mode-ne1 c =
     ∙ check_stops Err 13 _ _ _
     (ap not (no_bit a.n ns a.d (omega arith) _ 2 c.node_mode.ensures c.if-node_mode-ne1.true)))
 
-pub returns-then-find_handle-o : goal.returns-then-find_handle-o
+pub returns-then-is_some : goal.returns-then-is_some
 unfolding remove_own tables_in
-returns-then-find_handle-o c =
+returns-then-is_some c =
     let if1 = c.if-node_kind-eq-DIRECTORY in
     let node-kind = c.node_kind in
     let a = c.args in
@@ -39,9 +39,8 @@ returns-then-find_handle-o c =
     let f = no-folder a.n ns a.k (omega arith) _ node-kind.ensures if1.false in
     let g = bit a.n ns a.d (omega arith) _ 2 c.node_mode.ensures
     c.if-node_mode-ne1.false in
-    let h = is_open_lem a.m.now a.n a.o a.k (omega arith) (omega arith) _ _
-    c.node_id.ensures
-    c.find_handle.ensures (omega arith) in
+    let h = is_open_lem a.m.now a.n a.o a.k (omega arith) (omega arith) _ c.node_id.ensures _
+    c.find_handle.ensures (sym c.is_some.ensures ∙ c.if-is_some.true) in
     sym (check_passes Err 21 _ _ _ f ∙ check_passes Err 13 _ _ _ (ap not g)
     ∙ check_stops Err 16 _ _ _ h)
 
@@ -55,7 +54,6 @@ returns c =
     let f = no-folder a.n ns a.k (omega arith) _ node-kind.ensures if1.false in
     let g = bit a.n ns a.d (omega arith) _ 2 c.node_mode.ensures
     c.if-node_mode-ne1.false in
-    let h = not_open a.m.now a.n a.o a.k (omega arith) (omega arith) _ _
-    c.node_id.ensures
-    c.find_handle.ensures (omega arith) in
+    let h = not_open a.m.now a.n a.o a.k (omega arith) (omega arith) _ c.node_id.ensures _
+    c.find_handle.ensures (sym c.is_some.ensures ∙ c.if-is_some.false) in
     sym (decide_passed Err _ _ (both f (both (ap not g) (both h none))))
