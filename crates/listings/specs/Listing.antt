@@ -3,7 +3,7 @@
 --   names_child, entry_place          whether it is the child that it names, and that child's place
 --   unseen, marks                   the children that no entry has named yet
 -- Assumes nothing.
-use Rattle.std.specs.Prelude.{ℕ, suc, ◌+◌, Bool, ◌&&◌, List, [], ◌∷◌, eqb, leb, length, get_or}
+use Rattle.std.specs.Prelude.{ℕ, suc, ◌+◌, Bool, ◌&&◌, List, [], ◌∷◌, eqb, leb, length, get_or, Option, Some, None}
 use Rattle.lists.specs.Pick.{pick}
 use Rattle.lists.specs.Parts.{part}
 use Rattle.lists.specs.LittleEndian.{decode}
@@ -17,9 +17,9 @@ entry_at w s at = (decode (part at w s), (get_or s (at + w) 0, part (at + w + 2)
 unfoldable pub entry_end : ℕ → List ℕ → ℕ → ℕ
 entry_end w s at = at + w + 2 + get_or s (at + w + 1) 0
 
--- the same where the bytes reach it, else 0
-unfoldable pub end_within : ℕ → List ℕ → ℕ → ℕ
-end_within w s at = pick (leb (entry_end w s at) (length s)) (entry_end w s at) 0
+-- the same where the bytes reach it
+unfoldable pub end_within : ℕ → List ℕ → ℕ → Option ℕ
+end_within w s at = pick (leb (entry_end w s at) (length s)) (Some (entry_end w s at)) None
 
 -- the node is the child of p that an entry names
 abbrev pub names_child : ℕ → Entry → Node → Bool

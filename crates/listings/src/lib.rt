@@ -1,13 +1,14 @@
 // readdir: judged, the host asked for the listing; each child must have one entry, and nothing else may.
 #![tactic(auto)]
 
-ghost use Rattle.std.specs.Prelude.{true, ◌≡◌, ℕ, ◌<◌, ◌≤◌, length};
+ghost use Rattle.std.specs.Prelude.{true, ◌≡◌, ℕ, ◌<◌, ◌≤◌, length, IfSome};
 ghost use Rattle.filesystem.specs.Image.{sound_nodes};
 ghost use Rattle.filesystem.specs.Tables.{NODES, node_at, ID_BYTES};
 ghost use Rattle.rules.specs.Calls.{readdir};
 ghost use Rattle.rules.specs.Requests.{asked, listing};
 ghost use Rattle.refusals.specs.Numbers.{numbered, reason_or_0};
 ghost use Rattle.memory.specs.Memories.{IsMemory, nodes_of, was};
+ghost use Rattle.tables.specs.Found.{found};
 ghost use Rattle.tables.specs.View.{tables_in};
 ghost use Rattle.guard_state.specs.Calls.{LISTING};
 ghost use Rattle.guard_state.specs.State.{numbers_in, HasRoot};
@@ -68,24 +69,23 @@ pub fn begin_readdir(m: &mut [u8], path: &[u8], request: &mut [u8]) -> Outcome
 // A listing's entry up to its name: id, kind and the name's length.
 const ENTRY_FRONT: usize = Guard::ID_BYTES + 2;
 
-// The place behind the entry at `at`, or 0 where the reply ends before that.
-fn entry_end(reply: &[u8], at: usize) -> usize
+// The place behind the entry at `at`, where the reply has all of it.
+fn entry_end(reply: &[u8], at: usize) -> Option<usize>
     requires { at ≤ length reply.now }
     ensures { result ≡ end_within ID_BYTES reply.now at }
 {
     if reply.len() - at < ENTRY_FRONT {
-        return 0;
+        return None;
     }
     let size = reply[at + Guard::ID_BYTES + 1] as usize;
     let end = at + ENTRY_FRONT + size;
     if reply.len() < end {
-        return 0;
+        return None;
     }
-    end
+    Some(end)
 }
 
-// The place of the node with the id of the entry at `at`, or n where there is none or it is not the child that the
-// entry names.
+// The place of the node with the id of the entry at `at`, where it is the child that the entry names.
 fn entry_place(
     m: &[u8],
     n: usize,
@@ -95,36 +95,28 @@ fn entry_place(
     end: usize,
     next: usize,
     places: &mut [u8; tables::PLACES],
-) -> usize
+) -> Option<usize>
     requires { (n ≤ NODES) × IsMemory m.now × (end ≡ entry_end ID_BYTES reply.now at) × (end ≤ length reply.now) }
-    ensures { sound_nodes ID_BYTES (nodes_of n m.now) ≡ true
-        → result ≡ entry_place (nodes_of n m.now) id (entry_at ID_BYTES reply.now at) }
+    ensures place { sound_nodes ID_BYTES (nodes_of n m.now) ≡ true
+        → result ≡ found n (entry_place (nodes_of n m.now) id (entry_at ID_BYTES reply.now at)) }
+    ensures within { IfSome result (λ k. k < n) }
 {
-    let k = tables::find_listed(
-        m,
-        n,
-        numbers::number_at(reply, at, Guard::ID_BYTES),
-        next,
-        places,
-    );
-    if n <= k {
-        return n;
-    }
+    let entry_id = numbers::number_at(reply, at, Guard::ID_BYTES);
+    let k = tables::find_listed(m, n, entry_id, next, places)?;
     if reply[at + Guard::ID_BYTES] != memory::node_kind(m, k) {
-        return n;
+        return None;
     }
     let start = at + ENTRY_FRONT;
     if !memory::is_child(m, k, id, &reply[start..end]) {
-        return n;
+        return None;
     }
-    k
+    Some(k)
 }
 
 // A listing of the children of the node with this id: 7 unless each has one entry. Ids differ among sound nodes, so
-// each entry has one place.
-// `next` is the place behind the last entry's: children that stand together, listed in their order, need no table of
-// places.
-fn judge_listing(m: &[u8], n: usize, id: u64, reply: &[u8]) -> u8
+// each entry has one place. `next` is the place behind the last entry's: children that stand together, listed in their
+// order, need no table of places.
+fn judge_listing(m: &[u8], n: usize, id: u64, reply: &[u8]) -> Result<(), StopReason>
     requires { (n ≤ NODES) × IsMemory m.now }
     ensures { sound_nodes ID_BYTES (nodes_of n m.now) ≡ true → (k o : ℕ) → (node_at (nodes_of n m.now) k).id ≡ id
         → reason_or_0 result ≡ reason_for (tables_in n o (was m.now)) reply.now (asked (listing k)) }
@@ -135,16 +127,14 @@ fn judge_listing(m: &[u8], n: usize, id: u64, reply: &[u8]) -> u8
     let mut at = 0;
     let mut next = 0;
     while at < reply.len() {
-        let end = entry_end(reply, at);
-        if end == 0 {
-            return 7;
-        }
-        let k = entry_place(m, n, id, reply, at, end, next, &mut places);
-        if n <= k {
-            return 7;
-        }
+        let Some(end) = entry_end(reply, at) else {
+            return Err(StopReason::Listing);
+        };
+        let Some(k) = entry_place(m, n, id, reply, at, end, next, &mut places) else {
+            return Err(StopReason::Listing);
+        };
         if seen[k] != 0 {
-            return 7;
+            return Err(StopReason::Listing);
         }
         seen[k] = 1;
         count += 1;
@@ -152,9 +142,9 @@ fn judge_listing(m: &[u8], n: usize, id: u64, reply: &[u8]) -> u8
         next = k + 1;
     }
     if count != tables::count_children(m, n, id) {
-        return 7;
+        return Err(StopReason::Listing);
     }
-    0
+    Ok(())
 }
 
 // readdir: done with the number of entries, and the reply's bytes. A right listing is no longer than the answer buffer.

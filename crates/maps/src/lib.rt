@@ -15,6 +15,8 @@ ghost use Rattle.outcomes.specs.Clauses.{BeginsMap, Accepts};
 ghost use Rattle.maps.specs.Judged.{new_map, is_misplaced, map_reason};
 
 use guard_state::Guard;
+use outcomes::Outcome;
+use refusals::{Refusal, StopReason};
 
 // ---- the table
 
@@ -162,69 +164,67 @@ fn judge_map(m: &[u8], n: usize, size: usize, reply: &[u8]) -> u8
 
 // ---- map
 
-pub fn begin_map(m: &mut [u8], size: u32, request: &mut [u8]) -> outcomes::Outcome
+pub fn begin_map(m: &mut [u8], size: u32, request: &mut [u8]) -> Outcome
     requires { (is_map_size size ≡ true) × IsMemory m.old × HoldsRequest request.old }
     ensures { BeginsMap m request (map_memory size) result }
 {
     if Guard::MAPS <= guard_state::map_count(m) {
-        return outcomes::Outcome::Refused(12);
+        return Outcome::Refused(Refusal::TooManyMaps);
     }
     guard_state::wait_map(m, size as usize);
-    outcomes::Outcome::Ask(requests::write_map(request, size))
+    Outcome::Ask(requests::write_map(request, size))
 }
 
 // The map joins the table; done with its address. No consistent state lacks room for it.
-pub fn accept_map(m: &mut [u8], reply: &[u8]) -> outcomes::Outcome
+pub fn accept_map(m: &mut [u8], reply: &[u8]) -> Outcome
     requires { ((numbers_in m.old).call ≡ MAPPING) × IsMemory m.old }
     ensures { Accepts m reply.now result }
 {
     let g = Guard::load(m);
     let n = guard_state::map_count(m);
-    let b = judge_map(m, n, g.size, reply);
-    if b != 0 {
-        return outcomes::Outcome::Stopped(b);
+    if let Err(reason) = judge_map(m, n, g.size, reply) {
+        return Outcome::Stopped(reason);
     }
     if Guard::MAPS <= n {
-        return outcomes::Outcome::Stopped(8);
+        return Outcome::Stopped(StopReason::Map);
     }
     let number = numbers::u64_at(reply, 0);
     memory::put_map(m, n, number, g.size as u32);
     guard_state::rest_maps(m, n + 1);
-    outcomes::Outcome::Done { number, length: 0 }
+    Outcome::Done { number, length: 0 }
 }
 
 // ---- unmap
 
-pub fn begin_unmap(m: &mut [u8], address: u64, request: &mut [u8]) -> outcomes::Outcome
+pub fn begin_unmap(m: &mut [u8], address: u64, request: &mut [u8]) -> Outcome
     requires { IsMemory m.old × HoldsRequest request.old }
     ensures { BeginsMap m request (unmap address) result }
 {
     let n = guard_state::map_count(m);
     if n <= find(m, n, address) {
-        return outcomes::Outcome::Refused(22);
+        return Outcome::Refused(Refusal::Invalid);
     }
     guard_state::wait_unmap(m, address);
-    outcomes::Outcome::Ask(requests::write_unmap(request, address))
+    Outcome::Ask(requests::write_unmap(request, address))
 }
 
 // The map is taken out; those behind it move up. No consistent state lacks it.
-pub fn accept_unmap(m: &mut [u8], reply: &[u8]) -> outcomes::Outcome
+pub fn accept_unmap(m: &mut [u8], reply: &[u8]) -> Outcome
     requires { ((numbers_in m.old).call ≡ UNMAPPING) × IsMemory m.old }
     ensures { Accepts m reply.now result }
 {
-    let b = replies::judge_status(reply, 0);
-    if b != 0 {
-        return outcomes::Outcome::Stopped(b);
+    if let Err(reason) = replies::judge_status(reply, 0) {
+        return Outcome::Stopped(reason);
     }
     let g = Guard::load(m);
     let n = guard_state::map_count(m);
     let k = find(m, n, g.parent);
     if n <= k {
-        return outcomes::Outcome::Stopped(2);
+        return Outcome::Stopped(StopReason::Status);
     }
     memory::move_maps(m, k + 1, k, n - (k + 1));
     guard_state::rest_maps(m, n - 1);
-    outcomes::Outcome::Done {
+    Outcome::Done {
         number: 0,
         length: 0,
     }

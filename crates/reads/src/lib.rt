@@ -23,18 +23,21 @@ ghost use Rattle.reads.specs.Begun.{read_of, left_of, cursor_to};
 ghost use Rattle.reads.specs.Taken.{InRead, Gathers, page_taken};
 
 use guard_state::Guard;
+use handle_calls::Handled;
+use outcomes::Outcome;
+use refusals::{Refusal, StopReason};
 
 // read: 9 without right 1.
-fn judge_read(m: &[u8], n: usize, o: usize, handle: u64) -> handle_calls::Handled
+fn judge_read(m: &[u8], n: usize, o: usize, handle: u64) -> Result<Handled, Refusal>
     requires { (n ≤ NODES) × (o ≤ open_rows) × IsMemory m.now }
     ensures { (count : ℕ) → Judgement m.now n o handle (read handle count) result }
 {
     let k = tables::find_handle(m, o, handle);
     if handle_calls::lacks_right(m, o, k, 1) {
-        return handle_calls::Handled::Refused(9);
+        return Err(Refusal::BadHandle);
     }
     let node = handle_calls::file_place(m, n, k, handle);
-    handle_calls::Handled::Open { opened: k, node }
+    Ok(Handled { opened: k, node })
 }
 
 // The read waits for the page that its position lies in, and asks for it.
@@ -45,7 +48,7 @@ fn fetch(
     position: usize,
     count: usize,
     request: &mut [u8],
-) -> outcomes::Outcome
+) -> Outcome
     requires { (node < NODES) × (opened < open_rows) × (position ≤ FILE_BYTES) × (count ≤ DATA_BYTES) × IsMemory m.old
         × HoldsRequest request.old }
     ensures { Asks m request (reading node opened position count (page_at position))
@@ -55,7 +58,7 @@ fn fetch(
     let page = position / Guard::PAGE_BYTES;
     guard_state::wait_read(m, node, opened, position, count, page);
     let l = requests::write_fetch(request, descriptor, page as u32);
-    outcomes::Outcome::Ask(l)
+    Outcome::Ask(l)
 }
 
 // A read that passed, by the places of its open file and node. Of no bytes it asks for nothing; no valid table has a
@@ -67,7 +70,7 @@ fn read_at(
     node: usize,
     count: usize,
     request: &mut [u8],
-) -> outcomes::Outcome
+) -> Outcome
     requires { (n ≡ (numbers_in m.old).nodes) × (opened < (numbers_in m.old).opens) × (n ≤ NODES) × (opened < open_rows)
         × (count ≤ DATA_BYTES) × IsMemory m.old × HoldsRequest request.old }
     ensures sends { (c : Config) → (node_at (state_of c m.old).skeleton.tables.nodes node).size ≤
@@ -82,19 +85,19 @@ fn read_at(
     let left = numbers::smaller(count, numbers::excess(size, cursor));
     if left == 0 {
         guard_state::finish(m);
-        return outcomes::Outcome::Done {
+        return Outcome::Done {
             number: 0,
             length: 0,
         };
     }
     if Guard::FILE_BYTES < size {
-        return outcomes::Outcome::Refused(27);
+        return Outcome::Refused(Refusal::FileTooLarge);
     }
     fetch(m, node, opened, cursor, left, request)
 }
 
 // read: at most count bytes from the cursor on, of the open file with this handle.
-pub fn begin_read(m: &mut [u8], handle: u64, count: usize, request: &mut [u8]) -> outcomes::Outcome
+pub fn begin_read(m: &mut [u8], handle: u64, count: usize, request: &mut [u8]) -> Outcome
     requires { (count ≤ DATA_BYTES) × IsMemory m.old × HoldsRequest request.old }
     ensures { Begins m request (read handle count) result }
 {
@@ -103,7 +106,7 @@ pub fn begin_read(m: &mut [u8], handle: u64, count: usize, request: &mut [u8]) -
     let j = judge_read(m, n, g.opens, handle);
     match j {
         handle_calls::Handled::Open { opened, node } => read_at(m, n, opened, node, count, request),
-        handle_calls::Handled::Refused(b) => outcomes::Outcome::Refused(b),
+        handle_calls::Handled::Refused(b) => Outcome::Refused(b),
     }
 }
 
@@ -120,7 +123,7 @@ fn next_page(
     bytes: usize,
     more: &[u8],
     request: &mut [u8],
-) -> outcomes::Outcome
+) -> Outcome
     requires { (opened < (numbers_in m.old).opens) × (page * PAGE_BYTES + PAGE_BYTES < position + count)
         × (bytes + length more.now ≤ DATA_BYTES) × (node < NODES) × (opened < open_rows) × (position ≤ FILE_BYTES)
         × (count ≤ DATA_BYTES) × (page < file_pages) × IsMemory m.old × HoldsRequest request.old }
@@ -133,7 +136,7 @@ fn next_page(
     let next = page + 1;
     guard_state::wait_page(m, node, opened, position, count, next, bytes, more);
     let l = requests::write_fetch(request, descriptor, next as u32);
-    outcomes::Outcome::Ask(l)
+    Outcome::Ask(l)
 }
 
 // The bytes of a read that is done, over the front of the answer buffer: those that are staged, and those of the last
@@ -166,7 +169,7 @@ fn last_page(
     bytes: usize,
     more: &[u8],
     answer: &mut [u8],
-) -> outcomes::Outcome
+) -> Outcome
     requires { (opened < (numbers_in m.old).opens) × (opened < open_rows) × (position ≤ FILE_BYTES) × (count ≤ DATA_BYTES)
         × (bytes + length more.now ≤ DATA_BYTES) × (DATA_BYTES ≤ length answer.old) × IsMemory m.old }
     ensures fills { (c : Config) (k i : ℕ) (x : List ℕ) → position + count ≤ i * PAGE_BYTES + PAGE_BYTES
@@ -179,7 +182,7 @@ fn last_page(
     let end = position + count;
     put_answer(m, bytes, more, answer);
     end_read(m, opened, end);
-    outcomes::Outcome::Done {
+    Outcome::Done {
         number: count as u64,
         length: l,
     }
@@ -226,7 +229,7 @@ fn take_page(
     reply: &[u8],
     answer: &mut [u8],
     request: &mut [u8],
-) -> outcomes::Outcome
+) -> Outcome
     requires { (opened < (numbers_in m.old).opens) × (InRead position count page) × (length reply.now ≡ PAGE_BYTES)
         × (bytes ≤ DATA_BYTES) × (node < NODES) × (opened < open_rows) × (count ≤ DATA_BYTES)
         × (DATA_BYTES ≤ length answer.old) × IsMemory m.old × HoldsRequest request.old }
@@ -238,7 +241,7 @@ fn take_page(
 {
     let more = page_part(reply, position, count, page);
     if Guard::DATA_BYTES < bytes + more.len() {
-        return outcomes::Outcome::Stopped(5);
+        return Outcome::Stopped(StopReason::Page);
     }
     if page * Guard::PAGE_BYTES + Guard::PAGE_BYTES < position + count {
         return next_page(m, node, opened, position, count, page, bytes, more, request);
@@ -252,24 +255,23 @@ pub fn accept_page(
     reply: &[u8],
     answer: &mut [u8],
     request: &mut [u8],
-) -> outcomes::Outcome
+) -> Outcome
     requires { ((numbers_in m.old).call ≡ READING) × (DATA_BYTES ≤ length answer.old) × IsMemory m.old
         × HoldsRequest request.old }
     ensures { AcceptsBoth m reply.now answer request result }
 {
     let g = Guard::load(m);
-    let b = replies::judge_page(m, g.nodes, g.node, g.page, reply);
-    if b != 0 {
-        return outcomes::Outcome::Stopped(b);
+    if let Err(reason) = replies::judge_page(m, g.nodes, g.node, g.page, reply) {
+        return Outcome::Stopped(reason);
     }
     if reply.len() != Guard::PAGE_BYTES {
-        return outcomes::Outcome::Stopped(1);
+        return Outcome::Stopped(StopReason::Length);
     }
     if g.opens <= g.opened {
-        return outcomes::Outcome::Stopped(5);
+        return Outcome::Stopped(StopReason::Page);
     }
     if !in_read(g.position, g.count, g.page) {
-        return outcomes::Outcome::Stopped(5);
+        return Outcome::Stopped(StopReason::Page);
     }
     take_page(
         m, g.node, g.opened, g.position, g.count, g.page, g.bytes, reply, answer, request,

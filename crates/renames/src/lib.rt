@@ -20,6 +20,8 @@ ghost use Rattle.renames.specs.Judged.{Short, Moves, Fits, FitsBoth};
 ghost use Rattle.renames.specs.Begun.{BeginsRename};
 
 use guard_state::Guard;
+use outcomes::Outcome;
+use refusals::{Refusal, StopReason};
 
 // What a rename is judged to be: the node becomes what the second path has from `start` on, in the directory in place
 // `parent`; or both paths lead to it; or a number.
@@ -151,7 +153,7 @@ fn send_rename(
     second: &[u8],
     start: usize,
     request: &mut [u8],
-) -> outcomes::Outcome
+) -> Outcome
     requires { (node < NODES) × (parent < NODES) × (start ≤ length second.now)
         × (length (drop start second.now) ≤ NAME_BYTES) × (length first.now ≤ PATH_BYTES)
         × (length second.now ≤ PATH_BYTES) × IsMemory m.old × HoldsRequest request.old }
@@ -162,16 +164,16 @@ fn send_rename(
     let id = memory::node_id(m, parent);
     guard_state::wait_rename(m, node, id, &second[start..]);
     let l = requests::write_rename(request, first, second);
-    outcomes::Outcome::Ask(l)
+    Outcome::Ask(l)
 }
 
 // A node's own path: done, and nothing is sent.
-fn finish_same(m: &mut [u8]) -> outcomes::Outcome
+fn finish_same(m: &mut [u8]) -> Outcome
     requires { IsMemory m.old }
     ensures { Turns m (λ c s. ends c s s.skeleton.tables s.contents) × (result ≡ Done 0 0) }
 {
     guard_state::finish(m);
-    outcomes::Outcome::Done {
+    Outcome::Done {
         number: 0,
         length: 0,
     }
@@ -183,13 +185,13 @@ pub fn begin_rename(
     first: &[u8],
     second: &[u8],
     request: &mut [u8],
-) -> outcomes::Outcome
+) -> Outcome
     requires { IsMemory m.old × HoldsRequest request.old }
     ensures { BeginsRename m request first.now second.now result }
 {
     let n = guard_state::node_count(m);
     if n == 0 {
-        return outcomes::Outcome::Refused(34);
+        return Outcome::Refused(Refusal::ShortBuffer);
     }
     let w = judge_rename(m, n, first, second);
     match w {
@@ -199,22 +201,21 @@ pub fn begin_rename(
             start,
         } => send_rename(m, node, parent, first, second, start, request),
         Renaming::Same => finish_same(m),
-        Renaming::Refused(b) => outcomes::Outcome::Refused(b),
+        Renaming::Refused(b) => Outcome::Refused(b),
     }
 }
 
 // rename: the node's row has the new parent and name, all else of it stays.
-pub fn accept_rename(m: &mut [u8], reply: &[u8]) -> outcomes::Outcome
+pub fn accept_rename(m: &mut [u8], reply: &[u8]) -> Outcome
     requires { ((numbers_in m.old).call ≡ RENAMING) × IsMemory m.old }
     ensures { Accepts m reply.now result }
 {
-    let b = replies::judge_status(reply, 0);
-    if b != 0 {
-        return outcomes::Outcome::Stopped(b);
+    if let Err(reason) = replies::judge_status(reply, 0) {
+        return Outcome::Stopped(reason);
     }
     let g = Guard::load(m);
     if Guard::NAME_BYTES < g.bytes {
-        return outcomes::Outcome::Stopped(2);
+        return Outcome::Stopped(StopReason::Status);
     }
     let k = g.node;
     let row = memory::node_row(
@@ -227,7 +228,7 @@ pub fn accept_rename(m: &mut [u8], reply: &[u8]) -> outcomes::Outcome
     );
     memory::put_node(m, k, row);
     guard_state::finish(m);
-    outcomes::Outcome::Done {
+    Outcome::Done {
         number: 0,
         length: 0,
     }

@@ -22,29 +22,32 @@ ghost use Rattle.page_changes.specs.Clauses.{Goes, Moves, StartsAt};
 ghost use Rattle.truncations.specs.Shrinking.{Shrinking, shrink_in};
 
 use guard_state::Guard;
+use handle_calls::Handled;
+use outcomes::Outcome;
+use refusals::{Refusal, StopReason};
 
 // truncate: 9 without right 2, 27, 28. A size that passes is a file's.
-fn judge_truncate(m: &[u8], n: usize, o: usize, handle: u64, size: u64) -> handle_calls::Handled
+fn judge_truncate(m: &[u8], n: usize, o: usize, handle: u64, size: u64) -> Result<Handled, Refusal>
     requires { (n ≤ NODES) × (o ≤ open_rows) × IsMemory m.now }
     ensures judgement { Judgement m.now n o handle (truncate handle size) result }
     ensures by_index { (i j : ℕ) → result ≡ Open i j → size ≤ FILE_BYTES }
 {
     let k = tables::find_handle(m, o, handle);
     if handle_calls::lacks_right(m, o, k, 2) {
-        return handle_calls::Handled::Refused(9);
+        return Err(Refusal::BadHandle);
     }
     if (Guard::FILE_BYTES as u64) < size {
-        return handle_calls::Handled::Refused(27);
+        return Err(Refusal::FileTooLarge);
     }
     let node = handle_calls::file_place(m, n, k, handle);
     if handle_calls::is_full(m, n, node, size as u32) {
-        return handle_calls::Handled::Refused(28);
+        return Err(Refusal::NoSpace);
     }
-    handle_calls::Handled::Open { opened: k, node }
+    Ok(Handled { opened: k, node })
 }
 
 // The pending truncation asks for the cut.
-fn ask_cut(m: &mut [u8], request: &mut [u8]) -> outcomes::Outcome
+fn ask_cut(m: &mut [u8], request: &mut [u8]) -> Outcome
     requires { Shrinking (numbers_in m.old).call × IsMemory m.old × HoldsRequest request.old }
     ensures { Moves m request (λ c s. pages_stored c (digest_store c) s (numbers_in m.old).node
         (numbers_in m.old).opened (shrink_in m.old)) result }
@@ -53,11 +56,11 @@ fn ask_cut(m: &mut [u8], request: &mut [u8]) -> outcomes::Outcome
     let d = memory::open_descriptor(m, g.opened);
     guard_state::wait_further(m, guard_state::calls::CUTTING, g.page);
     let l = requests::write_cut(request, d, g.size as u32);
-    outcomes::Outcome::Ask(l)
+    Outcome::Ask(l)
 }
 
 // The page that the new end lies in goes out, with zeros from there on.
-fn store_page(m: &mut [u8], fetched: &[u8], request: &mut [u8]) -> outcomes::Outcome
+fn store_page(m: &mut [u8], fetched: &[u8], request: &mut [u8]) -> Outcome
     requires { Shrinking (numbers_in m.old).call × ((numbers_in m.old).digests < new_digests)
         × (length fetched.now ≤ PAGE_BYTES) × IsMemory m.old × HoldsRequest request.old }
     ensures { Goes m request shrink_in (numbers_in m.old).page (λ c s k o q. ask_store c (digest_store c) s k o
@@ -72,7 +75,7 @@ fn store_page(m: &mut [u8], fetched: &[u8], request: &mut [u8]) -> outcomes::Out
 }
 
 // The pending truncation asks for its first page, or, on a page's edge, for the cut.
-fn start(m: &mut [u8], request: &mut [u8]) -> outcomes::Outcome
+fn start(m: &mut [u8], request: &mut [u8]) -> Outcome
     requires { Shrinking (numbers_in m.old).call × IsMemory m.old × HoldsRequest request.old }
     ensures { Moves m request (λ c s. pages_from c (digest_store c) s (numbers_in m.old).node
         (numbers_in m.old).opened (shrink_in m.old) ((numbers_in m.old).size / PAGE_BYTES)) result }
@@ -96,7 +99,7 @@ fn ask_growth(
     node: usize,
     size: usize,
     request: &mut [u8],
-) -> outcomes::Outcome
+) -> Outcome
     requires { (opened < open_rows) × (node < NODES) × (size ≤ FILE_BYTES) × IsMemory m.old × HoldsRequest request.old }
     ensures { Asks m request (cutting node opened (growing size))
         (cut_request (open_at (was m.old).opens opened).descriptor size) result }
@@ -104,7 +107,7 @@ fn ask_growth(
     let d = memory::open_descriptor(m, opened);
     guard_state::wait_truncate(m, guard_state::calls::GROWING, node, opened, size);
     let l = requests::write_cut(request, d, size as u32);
-    outcomes::Outcome::Ask(l)
+    Outcome::Ask(l)
 }
 
 // A truncation that passed, by the places of its open file and node.
@@ -114,18 +117,18 @@ fn truncate_at(
     node: usize,
     size: usize,
     request: &mut [u8],
-) -> outcomes::Outcome
+) -> Outcome
     requires { (opened < open_rows) × (size ≤ FILE_BYTES) × IsMemory m.old × HoldsRequest request.old }
     ensures { StartsAt m request (λ handle. truncate handle size) opened node result }
 {
     // no valid table has such a place
     if Guard::NODES <= node {
-        return outcomes::Outcome::Refused(9);
+        return Outcome::Refused(Refusal::BadHandle);
     }
     let old = memory::node_size(m, node) as usize;
     if size == old {
         guard_state::finish(m);
-        return outcomes::Outcome::Done {
+        return Outcome::Done {
             number: 0,
             length: 0,
         };
@@ -138,7 +141,7 @@ fn truncate_at(
 }
 
 // truncate: the open file with this handle has this size.
-pub fn begin_truncate(m: &mut [u8], handle: u64, size: u64, request: &mut [u8]) -> outcomes::Outcome
+pub fn begin_truncate(m: &mut [u8], handle: u64, size: u64, request: &mut [u8]) -> Outcome
     requires { IsMemory m.old × HoldsRequest request.old }
     ensures { Begins m request (truncate handle size) result }
 {
@@ -152,39 +155,37 @@ pub fn begin_truncate(m: &mut [u8], handle: u64, size: u64, request: &mut [u8]) 
             size as usize,
             request,
         ),
-        handle_calls::Handled::Refused(b) => outcomes::Outcome::Refused(b),
+        handle_calls::Handled::Refused(b) => Outcome::Refused(b),
     }
 }
 
 // ---- replies
 
 // The page that the truncation fetched came.
-pub fn accept_fetched(m: &mut [u8], reply: &[u8], request: &mut [u8]) -> outcomes::Outcome
+pub fn accept_fetched(m: &mut [u8], reply: &[u8], request: &mut [u8]) -> Outcome
     requires { ((numbers_in m.old).call ≡ SHRINK_FETCHING) × IsMemory m.old × HoldsRequest request.old }
     ensures { AcceptsAsking m reply.now request result }
 {
-    let b = page_changes::judge_fetched(m, reply);
-    if b != 0 {
-        return outcomes::Outcome::Stopped(b);
+    if let Err(reason) = page_changes::judge_fetched(m, reply) {
+        return Outcome::Stopped(reason);
     }
     store_page(m, reply, request)
 }
 
 // The page that the truncation stored is taken: the file is cut.
-pub fn accept_stored(m: &mut [u8], reply: &[u8], request: &mut [u8]) -> outcomes::Outcome
+pub fn accept_stored(m: &mut [u8], reply: &[u8], request: &mut [u8]) -> Outcome
     requires { ((numbers_in m.old).call ≡ SHRINK_STORING) × IsMemory m.old × HoldsRequest request.old }
     ensures { AcceptsAsking m reply.now request result }
 {
-    let b = replies::judge_status(reply, Guard::PAGE_BYTES as i32);
-    if b != 0 {
-        return outcomes::Outcome::Stopped(b);
+    if let Err(reason) = replies::judge_status(reply, Guard::PAGE_BYTES as i32) {
+        return Outcome::Stopped(reason);
     }
     ask_cut(m, request)
 }
 
 // The file is cut to more bytes: its added pages are zero, the cursor stays, the truncation is done; or the disk is
 // full.
-pub fn accept_growth(m: &mut [u8], reply: &[u8]) -> outcomes::Outcome
+pub fn accept_growth(m: &mut [u8], reply: &[u8]) -> Outcome
     requires { ((numbers_in m.old).call ≡ GROWING) × IsMemory m.old }
     ensures { Accepts m reply.now result }
 {
@@ -193,28 +194,27 @@ pub fn accept_growth(m: &mut [u8], reply: &[u8]) -> outcomes::Outcome
         if replies::is_full(reply) {
             return replies::give_up(m);
         }
-        return outcomes::Outcome::Stopped(b);
+        return Outcome::Stopped(b);
     }
     let g = Guard::load(m);
     // no consistent state has a growth that its tables cannot take
     if !tables::grow_file(m, g.nodes, g.node, g.size as u32) {
-        return outcomes::Outcome::Stopped(2);
+        return Outcome::Stopped(StopReason::Status);
     }
     guard_state::rest(m, g.nodes, g.opens);
-    outcomes::Outcome::Done {
+    Outcome::Done {
         number: 0,
         length: 0,
     }
 }
 
 // The file is cut to fewer bytes: the truncation is done.
-pub fn accept_cut(m: &mut [u8], reply: &[u8]) -> outcomes::Outcome
+pub fn accept_cut(m: &mut [u8], reply: &[u8]) -> Outcome
     requires { ((numbers_in m.old).call ≡ CUTTING) × IsMemory m.old }
     ensures { Accepts m reply.now result }
 {
-    let b = replies::judge_status(reply, 0);
-    if b != 0 {
-        return outcomes::Outcome::Stopped(b);
+    if let Err(reason) = replies::judge_status(reply, 0) {
+        return Outcome::Stopped(reason);
     }
     let g = Guard::load(m);
     let size = g.size as u32;

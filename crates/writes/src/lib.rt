@@ -25,32 +25,35 @@ ghost use Rattle.page_changes.specs.Clauses.{Goes, StartsAt};
 ghost use Rattle.writes.specs.Writing.{Writing, write_in, EndsAt};
 
 use guard_state::Guard;
+use handle_calls::Handled;
+use outcomes::Outcome;
+use refusals::{Refusal, StopReason};
 
 const FILE_PAGES: usize = Guard::FILE_BYTES / Guard::PAGE_BYTES;
 
 // write: 9 without right 2, 27, 28.
-fn judge_write(m: &[u8], n: usize, o: usize, handle: u64, bytes: &[u8]) -> handle_calls::Handled
+fn judge_write(m: &[u8], n: usize, o: usize, handle: u64, bytes: &[u8]) -> Result<Handled, Refusal>
     requires { (n ≤ NODES) × (o ≤ open_rows) × IsMemory m.now }
     ensures { Judgement m.now n o handle (write handle bytes.now) result }
 {
     let k = tables::find_handle(m, o, handle);
     if handle_calls::lacks_right(m, o, k, 2) {
-        return handle_calls::Handled::Refused(9);
+        return Err(Refusal::BadHandle);
     }
     // before the sum, which has to fit
     if Guard::FILE_BYTES < bytes.len() {
-        return handle_calls::Handled::Refused(27);
+        return Err(Refusal::FileTooLarge);
     }
     let end = memory::open_cursor(m, k) as usize + bytes.len();
     if Guard::FILE_BYTES < end {
-        return handle_calls::Handled::Refused(27);
+        return Err(Refusal::FileTooLarge);
     }
     let node = handle_calls::file_place(m, n, k, handle);
     let size = numbers::larger(handle_calls::size_at(m, n, node), end as u32);
     if handle_calls::is_full(m, n, node, size) {
-        return handle_calls::Handled::Refused(28);
+        return Err(Refusal::NoSpace);
     }
-    handle_calls::Handled::Open { opened: k, node }
+    Ok(Handled { opened: k, node })
 }
 
 // Whether a byte of the page below the old end is not overwritten, so that the page is fetched first.
@@ -69,7 +72,7 @@ fn is_fetched(position: usize, end: usize, size: usize, page: usize) -> bool
 }
 
 // A page of the pending write goes out, made from the one that was fetched or from none.
-fn store_page(m: &mut [u8], page: usize, fetched: &[u8], request: &mut [u8]) -> outcomes::Outcome
+fn store_page(m: &mut [u8], page: usize, fetched: &[u8], request: &mut [u8]) -> Outcome
     requires { Writing (numbers_in m.old).call × ((numbers_in m.old).digests < new_digests) × (page ≤ file_pages)
         × (length fetched.now ≤ PAGE_BYTES) × IsMemory m.old × HoldsRequest request.old }
     ensures { Goes m request write_in page (λ c s k o q. ask_store c (digest_store c) s k o q page
@@ -86,7 +89,7 @@ fn store_page(m: &mut [u8], page: usize, fetched: &[u8], request: &mut [u8]) -> 
 }
 
 // The pending write is done with its bytes before `end`: the file's size, the digests of `count` pages and the cursor.
-fn end_write(m: &mut [u8], end: usize, count: usize) -> outcomes::Outcome
+fn end_write(m: &mut [u8], end: usize, count: usize) -> Outcome
     requires { ((numbers_in m.old).position ≤ end) × (end ≤ FILE_BYTES + DATA_BYTES) × IsMemory m.old }
     ensures sends { (c : Config) (d : List ℕ) → EndsAt c m.old d end count → (b : List ℕ)
         → Sends c (finish_change c (digest_store c) (trimmed c (digest_store c) (state_of c m.old) count)
@@ -111,7 +114,7 @@ fn end_write(m: &mut [u8], end: usize, count: usize) -> outcomes::Outcome
 
 // The disk is full where a page of the pending write was to be stored: the write is done with the pages before it, and
 // without one it is refused.
-fn keep_pages(m: &mut [u8]) -> outcomes::Outcome
+fn keep_pages(m: &mut [u8]) -> Outcome
     requires { ((numbers_in m.old).call ≡ STORING) × IsMemory m.old }
     ensures sends { (c : Config) → Consistent c (state_of c m.old) → (b : List ℕ)
         → Sends c (apply c (digest_store c) (state_of c m.old) (full_action
@@ -128,7 +131,7 @@ fn keep_pages(m: &mut [u8]) -> outcomes::Outcome
 }
 
 // A page of the pending write: it is fetched, or goes out at once.
-fn on_page(m: &mut [u8], page: usize, request: &mut [u8]) -> outcomes::Outcome
+fn on_page(m: &mut [u8], page: usize, request: &mut [u8]) -> Outcome
     requires { Writing (numbers_in m.old).call × ((numbers_in m.old).digests < new_digests) × (page ≤ file_pages) × IsMemory m.old
         × HoldsRequest request.old }
     ensures { Goes m request write_in page (λ c s k o q. on_page c (digest_store c) s k o q page) result }
@@ -143,7 +146,7 @@ fn on_page(m: &mut [u8], page: usize, request: &mut [u8]) -> outcomes::Outcome
 }
 
 // The pending write goes on with this page, or is done. No consistent write has more digests than there is room for.
-fn carry_on(m: &mut [u8], page: usize, request: &mut [u8]) -> outcomes::Outcome
+fn carry_on(m: &mut [u8], page: usize, request: &mut [u8]) -> Outcome
     requires { Writing (numbers_in m.old).call × (page ≤ file_pages) × IsMemory m.old × HoldsRequest request.old }
     ensures { Goes m request write_in page (λ c s k o q. pages_from c (digest_store c) s k o q page) result }
 {
@@ -152,7 +155,7 @@ fn carry_on(m: &mut [u8], page: usize, request: &mut [u8]) -> outcomes::Outcome
         return end_write(m, g.position + g.bytes, g.digests);
     }
     if memory::NEW_DIGESTS <= g.digests {
-        return outcomes::Outcome::Stopped(2);
+        return Outcome::Stopped(StopReason::Status);
     }
     on_page(m, page, request)
 }
@@ -164,13 +167,13 @@ fn write_at(
     node: usize,
     bytes: &[u8],
     request: &mut [u8],
-) -> outcomes::Outcome
+) -> Outcome
     requires { (opened < open_rows) × (length bytes.now ≤ DATA_BYTES) × IsMemory m.old × HoldsRequest request.old }
     ensures { StartsAt m request (λ handle. write handle bytes.now) opened node result }
 {
     if bytes.len() == 0 {
         guard_state::finish(m);
-        return outcomes::Outcome::Done {
+        return Outcome::Done {
             number: 0,
             length: 0,
         };
@@ -178,17 +181,17 @@ fn write_at(
     let cursor = memory::open_cursor(m, opened) as usize;
     // no valid table has such a place or such a cursor
     if Guard::NODES <= node {
-        return outcomes::Outcome::Refused(9);
+        return Outcome::Refused(Refusal::BadHandle);
     }
     if Guard::FILE_BYTES < cursor {
-        return outcomes::Outcome::Refused(27);
+        return Outcome::Refused(Refusal::FileTooLarge);
     }
     guard_state::wait_write(m, node, opened, cursor, bytes);
     carry_on(m, cursor / Guard::PAGE_BYTES, request)
 }
 
 // write: these bytes at the cursor of the open file with this handle.
-pub fn begin_write(m: &mut [u8], handle: u64, bytes: &[u8], request: &mut [u8]) -> outcomes::Outcome
+pub fn begin_write(m: &mut [u8], handle: u64, bytes: &[u8], request: &mut [u8]) -> Outcome
     requires { (length bytes.now ≤ DATA_BYTES) × IsMemory m.old × HoldsRequest request.old }
     ensures { Begins m request (write handle bytes.now) result }
 {
@@ -196,27 +199,26 @@ pub fn begin_write(m: &mut [u8], handle: u64, bytes: &[u8], request: &mut [u8]) 
     let j = judge_write(m, g.nodes, g.opens, handle, bytes);
     match j {
         handle_calls::Handled::Open { opened, node } => write_at(m, opened, node, bytes, request),
-        handle_calls::Handled::Refused(b) => outcomes::Outcome::Refused(b),
+        handle_calls::Handled::Refused(b) => Outcome::Refused(b),
     }
 }
 
 // ---- replies
 
 // The page that the write fetched came.
-pub fn accept_fetched(m: &mut [u8], reply: &[u8], request: &mut [u8]) -> outcomes::Outcome
+pub fn accept_fetched(m: &mut [u8], reply: &[u8], request: &mut [u8]) -> Outcome
     requires { ((numbers_in m.old).call ≡ FETCHING) × IsMemory m.old × HoldsRequest request.old }
     ensures { AcceptsAsking m reply.now request result }
 {
-    let b = page_changes::judge_fetched(m, reply);
-    if b != 0 {
-        return outcomes::Outcome::Stopped(b);
+    if let Err(reason) = page_changes::judge_fetched(m, reply) {
+        return Outcome::Stopped(reason);
     }
     let g = Guard::load(m);
     store_page(m, g.page, reply, request)
 }
 
 // The page that the write stored is taken: 1,024 bytes of it; or the disk is full.
-pub fn accept_stored(m: &mut [u8], reply: &[u8], request: &mut [u8]) -> outcomes::Outcome
+pub fn accept_stored(m: &mut [u8], reply: &[u8], request: &mut [u8]) -> Outcome
     requires { ((numbers_in m.old).call ≡ STORING) × IsMemory m.old × HoldsRequest request.old }
     ensures { AcceptsAsking m reply.now request result }
 {
@@ -225,13 +227,13 @@ pub fn accept_stored(m: &mut [u8], reply: &[u8], request: &mut [u8]) -> outcomes
         if replies::is_full(reply) {
             return keep_pages(m);
         }
-        return outcomes::Outcome::Stopped(b);
+        return Outcome::Stopped(b);
     }
     let g = Guard::load(m);
     let page = g.page + 1;
     // no consistent write stores a page behind the largest file
     if FILE_PAGES < page {
-        return outcomes::Outcome::Stopped(2);
+        return Outcome::Stopped(StopReason::Status);
     }
     carry_on(m, page, request)
 }

@@ -49,8 +49,8 @@ returns-then-answer-reply c =
           let t = (state_of d a.m.now).skeleton.tables in
           let n = (numbers_of (mem_of a.m.now).head).node in
           let h : 0 ≡ reason_for t a.reply.now (asked (listing n)) =
-          sym (sym c.in_default.ensures) ∙ listing_reason d a.m.now _ c.load-g.ensures fits.1 _
-          c.node_id-id.ensures _ a.reply.now fits.0 c.judge_listing-b.ensures in
+          listing_reason d a.m.now _ c.load-g.ensures fits.1 _
+          c.node_id-id.ensures _ a.reply.now fits.0 c.in_default.ensures in
           let b : Bytes a.reply.now = bytes_of a.reply.now (λ x. omega (arith, c.type_inv.reply x))
           in
           let y = listing_long t a.reply.now n fits.0 (listing_node d a.m.now _ c.load-g.ensures fits.1
@@ -73,8 +73,8 @@ returns c =
           let s = state_of d a.m.now in
           let n = (numbers_of (mem_of a.m.now).head).node in
           let h : 0 ≡ reason_for s.skeleton.tables a.reply.now (asked (listing n)) =
-          sym (sym c.in_default.ensures) ∙ listing_reason d a.m.now _ c.load-g.ensures fits.1 _
-          c.node_id-id.ensures _ a.reply.now fits.0 c.judge_listing-b.ensures in
+          listing_reason d a.m.now _ c.load-g.ensures fits.1 _
+          c.node_id-id.ensures _ a.reply.now fits.0 c.in_default.ensures in
           let q = c.count_children-count.ensures ∙ listing_count d a.m.now _ c.load-g.ensures fits.1 _
           c.node_id-id.ensures in
           answer_fills d w s a.reply.now _ (listing_pending d a.m.now c.requires.0) refl s.skeleton.tables

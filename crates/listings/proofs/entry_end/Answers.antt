@@ -1,8 +1,9 @@
 -- `listings::entry_end` meets its contract. Assumes nothing.
 use native.Mathlib.Omega.{arith}
 use Prim.Native.Nat.{◌+◌}
-use mathlib.Core.Path.{◌≡◌, ◌∙◌}
+use mathlib.Core.Path.{◌≡◌, ap, ◌∙◌}
 use lib.ListN.{get_or}
+use Rattle.std.specs.Prelude.{Some}
 use Rattle.filesystem.specs.Tables.{ID_BYTES}
 use Rattle.listings.specs.Listing.{entry_end}
 use Rattle.listings.specs.laws.ListingLaws.{end-front, end_cut, end-there}
@@ -24,4 +25,4 @@ returns c =
     let a = c.args in
     let e : a.at + 6 + get_or a.reply.now (a.at + ID_BYTES + 1) 0 ≡ entry_end ID_BYTES a.reply.now a.at =
     omega arith in
-    e ∙ end-there ID_BYTES a.reply.now a.at (omega arith)
+    ap Some e ∙ end-there ID_BYTES a.reply.now a.at (omega arith)

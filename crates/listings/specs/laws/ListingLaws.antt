@@ -1,6 +1,6 @@
 -- A listing judged entry by entry.
 -- Assumes nothing.
-use Rattle.std.specs.Prelude.{◌≡◌, Bool, ◌&&◌, leb, ltb, take, set}
+use Rattle.std.specs.Prelude.{◌≡◌, Bool, ◌&&◌, leb, ltb, take, set, Option as Place, Some, None, is_some, unwrap_or}
 use Rattle.std.proofs.Math.Path.{refl, ap, sym}
 use Rattle.std.proofs.Common.{◌∙◌, true≢false, drop_of_length-le, drop-drop, get_or-set_same, get_or-set_other}
 use Rattle.std.proofs.Math.Bool.{true, false, not}
@@ -447,31 +447,31 @@ module _ (w : ℕ) (s : List ℕ) (at : ℕ) where
   unfolding entry_end
   end-front = omega arith
 
-  pub end_cut : length s < entry_end w s at → 0 ≡ end_within w s at
+  pub end_cut : length s < entry_end w s at → None ≡ end_within w s at
   unfolding end_within
   end_cut h = sym (pick-false _ _ _ (lt-leb _ _ h))
 
-  pub end-there : entry_end w s at ≤ length s → entry_end w s at ≡ end_within w s at
+  pub end-there : entry_end w s at ≤ length s → Some (entry_end w s at) ≡ end_within w s at
   unfolding end_within
   end-there h = sym (pick_true _ _ _ (le-leb _ _ h))
 
-  module _ (e : ℕ) (is_end_lem : e ≡ end_within w s at) where
-    pub cut-end : e ≡ 0 → length s < entry_end w s at
-    unfolding end_within
-    cut-end z = go (is (leb (entry_end w s at) (length s)))
-      where
-        go : Is (leb (entry_end w s at) (length s)) → length s < entry_end w s at
-        go (is_t t) = let q : e ≡ entry_end w s at = is_end_lem ∙ pick_true _ _ _ t in let f = end-front in absurd
-            (omega arith)
-        go (is_f t) = leb-false _ _ t
+  pub cut-end : None ≡ end_within w s at → length s < entry_end w s at
+  unfolding end_within
+  cut-end e = go (is (leb (entry_end w s at) (length s)))
+    where
+      go : Is (leb (entry_end w s at) (length s)) → length s < entry_end w s at
+      go (is_t t) = let q : ◌≡◌ {A = Place ℕ} None (Some (entry_end w s at)) = e ∙ pick_true _ _ _ t in
+          absurd (true≢false (sym (ap is_some q)))
+      go (is_f t) = leb-false _ _ t
 
-    pub there-end : (e ≡ 0 → ⊥) → (e ≡ entry_end w s at) × (entry_end w s at ≤ length s)
-    unfolding end_within
-    there-end d = go (is (leb (entry_end w s at) (length s)))
-      where
-        go : Is (leb (entry_end w s at) (length s)) → (e ≡ entry_end w s at) × (entry_end w s at ≤ length s)
-        go (is_t t) = (is_end_lem ∙ pick_true _ _ _ t, leb-true _ _ t)
-        go (is_f t) = absurd (d (is_end_lem ∙ pick-false _ _ _ t))
+  pub there-end : (e : ℕ) → Some e ≡ end_within w s at → (e ≡ entry_end w s at) × (entry_end w s at ≤ length s)
+  unfolding end_within
+  there-end e i = go (is (leb (entry_end w s at) (length s)))
+    where
+      go : Is (leb (entry_end w s at) (length s)) → (e ≡ entry_end w s at) × (entry_end w s at ≤ length s)
+      go (is_t t) = (ap (λ o. unwrap_or o 0) (i ∙ pick_true _ _ _ t), leb-true _ _ t)
+      go (is_f t) = let q : ◌≡◌ {A = Place ℕ} (Some e) None = i ∙ pick-false _ _ _ t in
+          absurd (true≢false (ap is_some q))
 
 -- The place that an entry names, by its fields.
 module _ (ns : List Node) (p : ℕ) (x : Entry) (k : ℕ) (named-is : k ≡ find_id ns x.0) where

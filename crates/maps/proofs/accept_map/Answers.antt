@@ -20,20 +20,20 @@ use Rattle.maps.specs.laws.AnsweredLaws.{maps_count, count_fits, maps_loaded, ma
 use Rattle.maps.specs.laws.AnsweredLaws.{over_maps}
 use Rattle.maps.proofs.accept_map.Goals as goal
 
-pub judge_map-b-requires : goal.judge_map-b-requires
-judge_map-b-requires c =
+pub judge_map-requires : goal.judge_map-requires
+judge_map-requires c =
     let a = c.args in
     let f = in_range _ _ c.load-g.ensures in
     (omega (arith, c.map_count-n.ensures, count_fits (mem_of a.m.now).head), f.size, omega arith)
 
-pub returns-then-b-ne0 : goal.returns-then-b-ne0
-returns-then-b-ne0 c =
+pub returns-in-Err : goal.returns-in-Err
+returns-in-Err c =
     let a = c.args in (
       λ d sha w h q.
           let s = state_of d a.m.now in
           let e = ap (λ (g : Guard). map_reason s.skeleton.maps g.size a.reply.now) c.load-g.ensures in
           map-stops d w s a.reply.now _ (map_pending d a.m.now c.requires.0) _ a.m.now q
-          (c.judge_map-b.ensures.value
+          (c.in-Err.ensures.value
           ∙ ap (λ (ms : List Map). map_reason ms c.load-g.result.size a.reply.now) (maps_loaded d a.m.now _
           c.map_count-n.ensures) ∙ e)
           (omega arith) refl,

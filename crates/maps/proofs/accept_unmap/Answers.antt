@@ -19,14 +19,14 @@ use Rattle.maps.specs.laws.AnsweredLaws.{maps_count, count_fits, maps_loaded, ma
 use Rattle.maps.specs.laws.AnsweredLaws.{over_maps}
 use Rattle.maps.proofs.accept_unmap.Goals as goal
 
-pub returns-then-b-ne0 : goal.returns-then-b-ne0
-returns-then-b-ne0 c =
+pub returns-in-Err : goal.returns-in-Err
+returns-in-Err c =
     let a = c.args in (
       λ d sha w h q.
           let s = state_of d a.m.now in
           let p = unmap_pending d a.m.now c.requires.0 in
           answer-stops d w s a.reply.now _ p refl _ _ q
-          (c.judge_status-b.ensures ∙ sym (unmap_reason d w s a.reply.now _ p)) (omega arith) refl,
+          (c.in-Err.ensures ∙ sym (unmap_reason d w s a.reply.now _ p)) (omega arith) refl,
       refl,
     )
 

@@ -12,18 +12,17 @@ use Rattle.reads.specs.laws.TakenLaws.{loaded_within, loaded-reads, loaded_gathe
 use Rattle.reads.specs.laws.TakenLaws.{loaded-stops, loaded-goes_on}
 use Rattle.reads.proofs.accept_page.Goals as goal
 
-pub judge_page-b-requires : goal.judge_page-b-requires
-judge_page-b-requires c =
+pub judge_page-requires : goal.judge_page-requires
+judge_page-requires c =
     let a = c.args in
     ((counts_fit a.m.now _ c.load-g.ensures).0, omega arith)
 
-pub returns-then-b-ne0 : goal.returns-then-b-ne0
-returns-then-b-ne0 c =
+pub returns-in-Err : goal.returns-in-Err
+returns-in-Err c =
     let a = c.args in (
       λ d h wide ok long.
           loaded-stops d a.m.now a.reply.now _ c.load-g.ensures c.requires.0 (omega arith) ok _
-          c.judge_page-b.ensures.value h
-          (omega (arith, c.if-b-ne0.true)) a.answer.now a.request.now,
+          c.in-Err.ensures.value h a.answer.now a.request.now,
       refl,
     )
 
@@ -78,7 +77,7 @@ returns c =
       λ d h wide ok long.
           let z : memory_size ≤ length a.m.now = omega arith in
           loaded-goes_on d a.m.now a.reply.now _ c.load-g.ensures c.requires.0 z ok _
-          c.judge_page-b.ensures.value h c.if-b-ne0.false
+          c.judge_page-b.ensures.value h (sym c.in_default.ensures)
           _ a.answer.now _ a.request.now _ _
           (c.take_page.ensures.leaves d (loaded_fits d a.m.now a.reply.now _ c.load-g.ensures c.requires.0 z ok)
           (loaded_gathered d a.m.now a.reply.now _ c.load-g.ensures c.requires.0 z ok)),

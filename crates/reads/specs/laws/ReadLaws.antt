@@ -19,9 +19,10 @@ use Rattle.rules.specs.Requests.{reading, fetch_request, store_length}
 use Rattle.rules.specs.Skeleton.{Config, at_front}
 use Rattle.rules.specs.Rules.{Move, refuse, send, call_checks, call_action, read_action}
 use Rattle.machine.specs.Machine.{State, apply, guard as digest_store}
+use Rattle.refusals.specs.Numbers.{Judged}
 use Rattle.handle_calls.specs.declared.Handled.{Handled}
-use Rattle.handle_calls.specs.declared.Handled.TheVariants.{Open, Refused as refused_handle}
-use Rattle.handle_calls.specs.Judged.{handled_for}
+use Rattle.std.specs.Prelude.{Err}
+use Rattle.handle_calls.specs.Judged.{at_file, handled_for}
 use Rattle.handle_calls.specs.laws.HandledLaws.{size_past}
 use Rattle.handle_calls.specs.laws.MoveLaws.{move_refused, move_passed, passed_at}
 use Rattle.guard_state.specs.State.{numbers_of, state_of, gathered_none}
@@ -101,8 +102,8 @@ size_most w ns s k = go (is (leb (length ns) k))
         (λ x y. y) (λ x y. omega arith)
 
 -- a read that was judged
-module _ (t : Tables) (h count : ℕ) (r : Handled) (known : r ≡ handled_for t h (read h count)) where
-  read-move : (w i j : ℕ) → r ≡ Open i j → decide refuse (call_checks t (read h count))
+module _ (t : Tables) (h count : ℕ) (r : Judged Handled) (known : r ≡ handled_for t h (read h count)) where
+  read-move : (w i j : ℕ) → r ≡ at_file i j → decide refuse (call_checks t (read h count))
       (call_action t w (read h count)) ≡ read_of t i j (left_of t i j count)
   unfolding call_action read_action read_of left_of
   read-move w i j e =
@@ -110,18 +111,18 @@ module _ (t : Tables) (h count : ℕ) (r : Handled) (known : r ≡ handled_for t
       move_passed t h (read h count) r known _ i j e ∙ ap₂ (λ (x y : ℕ). read_of t x y (left_of t x y count))
       p.open_place_lem p.file_place_lem
 
-  read_stop : (w n : ℕ) → r ≡ refused_handle n → decide refuse (call_checks t (read h count))
+  read_stop : (w n : ℕ) → r ≡ Err n → decide refuse (call_checks t (read h count))
       (call_action t w (read h count)) ≡ refuse n
   read_stop w n e = move_refused t h (read h count) r known _ n e
 
-module _ (c : Config) (s : State (digest_store c)) (h count : ℕ) (r : Handled)
+module _ (c : Config) (s : State (digest_store c)) (h count : ℕ) (r : Judged Handled)
     (known : r ≡ handled_for s.skeleton.tables h (read h count)) where
-  pub refused_sends : (n : ℕ) (m q : List ℕ) → r ≡ refused_handle n → state_of c m ≡ s
+  pub refused_sends : (n : ℕ) (m q : List ℕ) → r ≡ Err n → state_of c m ≡ s
       → Sends c (started_by c s (read h count)) (Refused n) m q q
   unfolding started_by
   refused_sends n m q e g = refusal_sends c s _ n m q (read_stop s.skeleton.tables h count r known c.width n e) g
 
-  pub read_sends : (i j : ℕ) (m q q' : List ℕ) (o : Outcome) → r ≡ Open i j
+  pub read_sends : (i j : ℕ) (m q q' : List ℕ) (o : Outcome) → r ≡ at_file i j
       → Sends c (apply c (digest_store c) s (read_of s.skeleton.tables i j (left_of s.skeleton.tables i j count)))
       o m q q'
       → Sends c (started_by c s (read h count)) o m q q'

@@ -14,15 +14,14 @@ use Rattle.replies.specs.laws.TakenLaws.{answer-stops, answer_finishes}
 use Rattle.renames.specs.laws.RenamedLaws.{renaming_reason, rename-ends, rename_premises}
 use Rattle.renames.proofs.accept_rename.Goals as goal
 
-pub returns-then-b-ne0 : goal.returns-then-b-ne0
-returns-then-b-ne0 c =
+pub returns-in-Err : goal.returns-in-Err
+returns-in-Err c =
     let a = c.args in (
       λ d sha w held q.
           answer-stops d w (state_of d a.m.now) a.reply.now _
           (rename_pending d a.m.now c.requires.0) refl _ _ q
-          (c.judge_status-b.ensures
-          ∙ sym (renaming_reason (state_of d a.m.now).skeleton.tables a.reply.now _ _ _))
-          (omega (arith, c.if-b-ne0.true)) refl,
+          (c.in-Err.ensures
+          ∙ sym (renaming_reason (state_of d a.m.now).skeleton.tables a.reply.now _ _ _)) refl,
       refl,
     )
 
@@ -104,7 +103,7 @@ returns c =
           let fits = rename_premises d a.m.now held c.requires.1 c.requires.0 in
           answer_finishes d e (state_of d a.m.now) a.reply.now _
           (rename_pending d a.m.now c.requires.0) refl _ 0 _ q
-          (sym c.if-b-ne0.false ∙ c.judge_status-b.ensures
+          (c.in_default.ensures
           ∙ sym (renaming_reason (state_of d a.m.now).skeleton.tables a.reply.now _ _ _)) refl
           (c.finish.ensures.0 d
           ∙ rename-ends d a.m.now _ n.node n.parent name

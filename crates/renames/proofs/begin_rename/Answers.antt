@@ -3,6 +3,7 @@ use native.Mathlib.Omega.{arith}
 use mathlib.Core.Path.{refl, ap, ◌∙◌}
 use Prim.Native.Nat.{ℕ}
 use lib.ListN.{drop}
+use Rattle.refusals.specs.Numbers.{numbered}
 use Rattle.memory.specs.Layout.{mem_of}
 use Rattle.rules.specs.Requests.{asked, renaming, store_length}
 use Rattle.guard_state.specs.State.{numbers_of, state_of, gathered_none}
@@ -78,11 +79,11 @@ returns-in-Same c =
       omega arith,
     )
 
-pub returns-in-Refused : goal.returns-in-Refused
-returns-in-Refused c =
+pub returns-in-Err : goal.returns-in-Err
+returns-in-Err c =
     let a = c.args in (
       λ q sha w h. rename_refused a.first.now a.second.now q (state_of q a.m.now) _
           (judged-here q a.m.now _ c.node_count-n.ensures h _ a.first.now a.second.now
-          c.judge_rename-w.ensures.by_index) _ a.m.now a.request.now c.in-Refused.is refl,
+          c.judge_rename-w.ensures.by_index) _ a.m.now a.request.now (ap numbered c.in-Err.is) refl,
       refl,
     )

@@ -5,6 +5,7 @@ use mathlib.Core.List.{List}
 use mathlib.Core.Path.{◌≡◌, sym, ap, subst, ◌∙◌}
 use lib.ListN.{length, take, drop, length-drop}
 use lib.Seq.{take_all}
+use Rattle.refusals.specs.Numbers.{numbered}
 use Rattle.filesystem.specs.Tables.{NAME_BYTES, PATH_BYTES}
 use Rattle.filesystem.specs.Image.{length_in}
 use Rattle.memory.specs.Layout.{mem_of}
@@ -78,11 +79,11 @@ returns-in-In c =
           );
     }
 
-pub returns-in-Refused : goal.returns-in-Refused
-returns-in-Refused c =
+pub returns-in-Err : goal.returns-in-Err
+returns-in-Err c =
     let a = c.args in record {
       by_index = λ w sound. sym (second_stops (take a.n (mem_of a.m.now).nodes) a.k a.from a.second.now _
-          (sym c.walk_parent-w.ensures ∙ c.in-Refused.is));
+          (sym c.walk_parent-w.ensures ∙ (ap numbered c.in-Err.is)));
       fits = λ i j x e. absurd (let z : ◌≡◌ {A = ℕ} 0 1 = cc in omega arith);
     }
 

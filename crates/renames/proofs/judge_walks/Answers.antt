@@ -1,8 +1,9 @@
 -- `renames::judge_walks` meets its contract. Assumes nothing.
 use native.Mathlib.Omega.{arith}
 use Prim.Native.Nat.{ℕ}
-use mathlib.Core.Path.{◌≡◌, sym, ◌∙◌}
+use mathlib.Core.Path.{ap, ◌≡◌, sym, ◌∙◌}
 use lib.ListN.{length, take}
+use Rattle.refusals.specs.Numbers.{numbered}
 use Rattle.memory.specs.Layout.{mem_of}
 use Rattle.tables.specs.laws.RowsInUse.{count-nodes}
 use Rattle.renames.specs.laws.WalkLaws.{walks_stop, walks_go}
@@ -29,10 +30,10 @@ returns-in-At c =
       fits = c.judge_second.ensures.fits;
     }
 
-pub returns-in-Refused : goal.returns-in-Refused
-returns-in-Refused c =
+pub returns-in-Err : goal.returns-in-Err
+returns-in-Err c =
     let a = c.args in record {
       by_index = λ w s. sym (walks_stop (take a.n (mem_of a.m.now).nodes) a.first.now a.second.now _
-          (sym c.walk_both-w.ensures ∙ c.in-Refused.is));
+          (sym c.walk_both-w.ensures ∙ (ap numbered c.in-Err.is)));
       fits = λ i j x e. absurd (let z : ◌≡◌ {A = ℕ} 0 1 = cc in omega arith);
     }

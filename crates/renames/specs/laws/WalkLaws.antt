@@ -28,9 +28,10 @@ use Rattle.paths.specs.Walks.{walked, placed}
 use Rattle.paths.specs.laws.PartsLaws.{Some, some as more}
 use Rattle.paths.specs.laws.FormAnswers.{read_components, forms_malformed, forms_long, forms_good}
 use Rattle.paths.specs.laws.WalkAnswers.{Holds, placed_none, placed-stops, placed_goes, walked_refused, walked-node}
-use Rattle.paths.specs.declared.PathForm.TheVariants.{Malformed, Long, Good}
+use Rattle.paths.specs.declared.PathFault.TheVariants.{Malformed, TooLong}
 use Rattle.paths.specs.declared.Placed.TheVariants.{Root, Refused as refused_place}
-use Rattle.path_calls.specs.declared.Way.TheVariants.{At, Refused as refused_way}
+use Rattle.std.specs.Prelude.{Err}
+use Rattle.path_calls.specs.Ways.{at_way}
 use Rattle.path_calls.specs.Judged.{judged}
 use Rattle.path_calls.specs.Ways.{walked_both}
 use Rattle.path_calls.specs.laws.ReachedLaws.{form_check, judged-decide, way_at, way_refused, holder-place, last-short}
@@ -41,7 +42,7 @@ use Rattle.renames.specs.declared.Renaming.TheVariants.{Move, Refused}
 
 -- the second walk
 module _ (ns : List Node) (k from : ℕ) (t : List ℕ) where
-  pub second_stops : (b : ℕ) → placed ns t ≡ refused_place b → second_own ns k from t ≡ Refused b
+  pub second_stops : (b : ℕ) → placed ns t ≡ Err b → second_own ns k from t ≡ Refused b
   unfolding second_own
   second_stops b e = placed-stops ns t Refused _ _ b e
 
@@ -113,13 +114,13 @@ root_refuses k i j x = pick_ind (λ (r : Renaming). r ≡ Move i j x → ⊥) (e
 
 -- the first walk
 module _ (ns : List Node) (s t : List ℕ) where
-  pub walks_stop : (b : ℕ) → walked_both ns (components_of s) ≡ refused_way b → walks_own ns s t ≡ Refused b
+  pub walks_stop : (b : ℕ) → walked_both ns (components_of s) ≡ Err b → walks_own ns s t ≡ Refused b
   unfolding walked_both walks_own
   walks_stop b e =
       decide-first Refused _ (walked_refused ns (components_of s) b
       (way_refused (parent_of ns 0 (components_of s)) (walked ns (components_of s)) b e))
 
-  pub walks_go : (k d : ℕ) → 0 < length ns → walked_both ns (components_of s) ≡ At k d
+  pub walks_go : (k d : ℕ) → 0 < length ns → walked_both ns (components_of s) ≡ at_way k d
       → (walks_own ns s t ≡ second_own ns k d t) × (k < length ns) × (d < length ns)
   unfolding walked_both walks_own
   walks_go k d h e =

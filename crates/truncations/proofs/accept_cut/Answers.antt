@@ -9,14 +9,14 @@ use Rattle.truncations.specs.laws.RepliedLaws.{cut_waits, cut_ended, cut_done_le
 use Rattle.truncations.specs.Shrinking.{shrink_in}
 use Rattle.truncations.proofs.accept_cut.Goals as goal
 
-pub returns-then-b-ne0 : goal.returns-then-b-ne0
-returns-then-b-ne0 c =
+pub returns-in-Err : goal.returns-in-Err
+returns-in-Err c =
     let a = c.args in (
       λ d sha w h q. answer-stops d w (state_of d a.m.now) a.reply.now _ (cut_waits d a.m.now c.requires.0)
           (unfold shrink_in in refl) _
           _ q
-          (c.judge_status-b.ensures ∙ sym (cutting_reason (state_of d a.m.now).skeleton.tables a.reply.now _ _
-          _)) (omega (arith, c.if-b-ne0.true)) refl,
+          (c.in-Err.ensures ∙ sym (cutting_reason (state_of d a.m.now).skeleton.tables a.reply.now _ _
+          _)) refl,
       refl,
     )
 
@@ -36,7 +36,7 @@ pub returns : goal.returns
 returns c =
     let a = c.args in (
       λ d sha w h q. cut_done_lem d a.m.now h c.requires.0 _ c.load-g.ensures w a.reply.now _ _ q q
-          (sym c.if-b-ne0.false ∙ c.judge_status-b.ensures)
+          (c.in_default.ensures)
           (c.end_change.ensures.sends d _ (cut_ended d a.m.now h c.requires.0 _ c.load-g.ensures _ _
           c.open_cursor.ensures c.smaller-cursor.ensures) q),
       omega arith,

@@ -5,14 +5,14 @@ use Rattle.page_changes.specs.laws.FetchedLaws.{judged-stops, judged-stores}
 use Rattle.truncations.specs.laws.RepliedLaws.{fetch_waits, page_sending, page_room}
 use Rattle.truncations.proofs.accept_fetched.Goals as goal
 
-pub returns-then-b-ne0 : goal.returns-then-b-ne0
-returns-then-b-ne0 c =
+pub returns-in-Err : goal.returns-in-Err
+returns-in-Err c =
     let a = c.args in
-    let f = c.judge_fetched-b.ensures in (
+    let f = c.in-Err.ensures in (
       λ d s w h. judged-stops d a.m.now _ h (omega (arith, c.requires.0), omega (arith, c.requires.0))
           (fetch_waits d a.m.now c.requires.0) _ refl _ a.reply.now
           (f.judged (page_room d a.m.now h c.requires.0))
-          s (omega (arith, c.if-b-ne0.true)) a.request.now,
+          s a.request.now,
       refl,
     )
 
@@ -21,8 +21,8 @@ returns c =
     let a = c.args in
     let f = c.judge_fetched-b.ensures in (
       λ d s w h. judged-stores d a.m.now _ h (omega (arith, c.requires.0), omega (arith, c.requires.0))
-          (fetch_waits d a.m.now c.requires.0) _ refl _ a.reply.now (f.judged (f.room c.if-b-ne0.false))
-          s c.if-b-ne0.false _ _ a.request.now _
+          (fetch_waits d a.m.now c.requires.0) _ refl _ a.reply.now (f.judged (f.room (sym c.in_default.ensures)))
+          s (sym c.in_default.ensures) _ _ a.request.now _
           (c.store_page.ensures.0 d s (page_sending d a.m.now h c.requires.0)),
       omega arith,
     )

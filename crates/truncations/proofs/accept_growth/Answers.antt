@@ -22,13 +22,13 @@ returns-then-is_full c =
       omega arith,
     )
 
-pub returns-then-b-ne0 : goal.returns-then-b-ne0
-returns-then-b-ne0 c =
+pub returns-in-Err : goal.returns-in-Err
+returns-in-Err c =
     let a = c.args in (
       λ d sha w h q. answer-stops d w (state_of d a.m.now) a.reply.now _ (grow_pending d a.m.now c.requires.0)
           (sym c.is_full.ensures ∙ c.if-is_full.false) _ _ q
-          (c.judge_status-b.ensures ∙ sym (cutting_reason (state_of d a.m.now).skeleton.tables a.reply.now _ _
-          _)) (omega (arith, c.if-b-ne0.true)) refl,
+          (c.in-Err.ensures ∙ sym (cutting_reason (state_of d a.m.now).skeleton.tables a.reply.now _ _
+          _)) refl,
       refl,
     )
 
@@ -59,7 +59,7 @@ returns c =
     let a = c.args in (
       λ d sha w h q.
           growth_done d a.m.now h c.requires.0 _ c.load-g.ensures sha w a.reply.now
-          (sym c.if-b-ne0.false ∙ c.judge_status-b.ensures) _ _ q
+          (c.in_default.ensures) _ _ q
           ((c.grow_file.ensures.value (can_grow d a.m.now h c.requires.0 _ c.load-g.ensures)).1
           c.load-g.result.opens) (c.rest.ensures.0 d),
       omega arith,

@@ -1,6 +1,7 @@
 -- `truncations::begin_truncate` meets its contract. Assumes nothing.
 use native.Mathlib.Omega.{arith}
-use mathlib.Core.Path.{refl}
+use mathlib.Core.Path.{ap, refl}
+use Rattle.refusals.specs.Numbers.{numbered}
 use Rattle.rules.specs.Calls.{truncate}
 use Rattle.handle_calls.specs.laws.HandledLaws.{judged-at}
 use Rattle.guard_state.specs.State.{state_of}
@@ -8,8 +9,8 @@ use Rattle.guard_state.specs.laws.LoadedLaws.{counts_fit, tables-loaded}
 use Rattle.page_changes.specs.laws.BegunLaws.{call_refused, call_passed}
 use Rattle.truncations.proofs.begin_truncate.Goals as goal
 
-pub judge_truncate-j-requires : goal.judge_truncate-j-requires
-judge_truncate-j-requires c =
+pub judge_truncate-requires : goal.judge_truncate-requires
+judge_truncate-requires c =
     let a = c.args in
     ((counts_fit a.m.now _ c.load-g.ensures).0, (counts_fit a.m.now _ c.load-g.ensures).1, omega arith)
 
@@ -17,28 +18,28 @@ pub truncate_at-requires : goal.truncate_at-requires
 truncate_at-requires c =
     let a = c.args in
     let o = (counts_fit a.m.now _ c.load-g.ensures).1 in
-    let p = c.judge_truncate-j.ensures.judgement.there _ _ c.in-Open.is in
-    let z = c.judge_truncate-j.ensures.by_index _ _ c.in-Open.is in
+    let p = c.judge_truncate.ensures.judgement.there _ _ (ap numbered c.in-Ok.is) in
+    let z = c.judge_truncate.ensures.by_index _ _ (ap numbered c.in-Ok.is) in
     (omega (arith, p, o), omega (arith, z), omega arith, omega (arith, c.requires.1))
 
-pub returns-in-Open : goal.returns-in-Open
-returns-in-Open c =
+pub returns-in-Ok : goal.returns-in-Ok
+returns-in-Ok c =
     let a = c.args in (
       λ d sha w h.
           call_passed d (state_of d a.m.now) a.handle (truncate a.handle a.size) _
-          (judged-at _ c.judge_truncate-j.ensures.judgement _ (tables-loaded a.m.now _ c.load-g.ensures d) d.width
+          (judged-at _ c.judge_truncate.ensures.judgement _ (tables-loaded a.m.now _ c.load-g.ensures d) d.width
           h.holds.valid.tables.nodes_valid.sound)
-          _ _ c.in-Open.is _ _ a.request.now _ (c.truncate_at.ensures.0 d sha h a.handle),
+          _ _ (ap numbered c.in-Ok.is) _ _ a.request.now _ (c.truncate_at.ensures.0 d sha h a.handle),
       omega arith,
     )
 
-pub returns-in-Refused : goal.returns-in-Refused
-returns-in-Refused c =
+pub returns-in-Err : goal.returns-in-Err
+returns-in-Err c =
     let a = c.args in (
       λ d sha w h.
           call_refused d (state_of d a.m.now) a.handle (truncate a.handle a.size) _
-          (judged-at _ c.judge_truncate-j.ensures.judgement _ (tables-loaded a.m.now _ c.load-g.ensures d) d.width
+          (judged-at _ c.judge_truncate.ensures.judgement _ (tables-loaded a.m.now _ c.load-g.ensures d) d.width
           h.holds.valid.tables.nodes_valid.sound)
-          _ a.m.now a.request.now c.in-Refused.is refl,
+          _ a.m.now a.request.now (ap numbered c.in-Err.is) refl,
       refl,
     )

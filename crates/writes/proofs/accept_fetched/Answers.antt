@@ -8,14 +8,14 @@ use Rattle.writes.specs.laws.RepliedLaws.{fetch_waits, page_sending, page_room, 
 use Rattle.page_changes.specs.Fetched.{JudgedPage}
 use Rattle.writes.proofs.accept_fetched.Goals as goal
 
-pub returns-then-b-ne0 : goal.returns-then-b-ne0
-returns-then-b-ne0 c =
+pub returns-in-Err : goal.returns-in-Err
+returns-in-Err c =
     let a = c.args in
-    let f = c.judge_fetched-b.ensures in (
+    let f = c.in-Err.ensures in (
       λ d s w h. judged-stops d a.m.now _ h (omega (arith, c.requires.0), omega (arith, c.requires.0))
           (fetch_waits d a.m.now c.requires.0) _ refl _ a.reply.now
           (f.judged (page_room d a.m.now h _ refl c.requires.0 (omega arith)))
-          s (omega (arith, c.if-b-ne0.true)) a.request.now,
+          s a.request.now,
       refl,
     )
 
@@ -23,9 +23,9 @@ pub store_page-requires : goal.store_page-requires
 store_page-requires c =
     let f = c.judge_fetched-b.ensures in (
       (omega (arith, c.requires.0), omega (arith, c.requires.0)),
-      f.room c.if-b-ne0.false,
+      f.room (sym c.in_default.ensures),
       (in_range _ _ c.load-g.ensures).page,
-      omega (arith, f.long c.if-b-ne0.false),
+      omega (arith, f.long (sym c.in_default.ensures)),
       omega arith,
       omega (arith, c.requires.2),
     )
@@ -37,8 +37,8 @@ returns c =
       λ d s w h. page_goes d a.m.now h _ c.load-g.ensures c.requires.0 s _ a.reply.now
           (subst (λ (x : Guard). JudgedPage a.m.now x c.judge_fetched-b.result a.reply.now)
           (sym c.load-g.ensures)
-          (f.judged (f.room c.if-b-ne0.false)))
-          c.if-b-ne0.false _ _ a.request.now _
+          (f.judged (f.room (sym c.in_default.ensures))))
+          (sym c.in_default.ensures) _ _ a.request.now _
           (c.store_page.ensures.0 d s (page_sending d a.m.now h _ c.load-g.ensures c.requires.0)),
       omega arith,
     )

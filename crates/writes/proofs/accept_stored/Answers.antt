@@ -19,15 +19,14 @@ returns-then-is_full c =
       omega arith,
     )
 
-pub returns-then-b-ne0 : goal.returns-then-b-ne0
-returns-then-b-ne0 c =
+pub returns-in-Err : goal.returns-in-Err
+returns-in-Err c =
     let a = c.args in (
       λ d u w h. answer-stops d w (state_of d a.m.now) a.reply.now _ (store_waits d a.m.now c.requires.0)
           (and-false (stores_more (write_in a.m.now)) _ (sym c.is_full.ensures ∙ c.if-is_full.false)) _ _
           a.request.now
-          (c.judge_status-b.ensures ∙ sym (storing_reason (state_of d a.m.now).skeleton.tables a.reply.now _ _
-          _ _))
-          (omega (arith, c.if-b-ne0.true)) refl,
+          (c.in-Err.ensures ∙ sym (storing_reason (state_of d a.m.now).skeleton.tables a.reply.now _ _
+          _ _)) refl,
       refl,
     )
 
@@ -49,7 +48,7 @@ returns c =
     let a = c.args in (
       λ d u w h. stored_next d a.m.now h _ c.load-g.ensures c.requires.0 _ refl w a.reply.now _ _
           a.request.now _
-          (sym c.if-b-ne0.false ∙ c.judge_status-b.ensures)
+          (c.in_default.ensures)
           (c.carry_on.ensures.0 d u (next-sending d a.m.now h _ c.load-g.ensures c.requires.0 _ refl)),
       omega arith,
     )
