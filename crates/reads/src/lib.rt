@@ -18,6 +18,7 @@ ghost use Rattle.guard_state.specs.Waits.{Turns, ends};
 ghost use Rattle.outcomes.specs.Clauses.{AcceptsBoth, Begins};
 ghost use Rattle.outcomes.specs.Sent.{Sends, Asks, Fills, Leaves};
 ghost use Rattle.requests.specs.Room.{HoldsRequest};
+ghost use Rattle.refusals.specs.Numbers.{numbered};
 ghost use Rattle.handle_calls.specs.Judged.{Judgement};
 ghost use Rattle.reads.specs.Begun.{read_of, left_of, cursor_to};
 ghost use Rattle.reads.specs.Taken.{InRead, Gathers, page_taken};
@@ -30,12 +31,9 @@ use refusals::{Refusal, StopReason};
 // read: 9 without right 1.
 fn judge_read(m: &[u8], n: usize, o: usize, handle: u64) -> Result<Handled, Refusal>
     requires { (n ≤ NODES) × (o ≤ open_rows) × IsMemory m.now }
-    ensures { (count : ℕ) → Judgement m.now n o handle (read handle count) result }
+    ensures { (count : ℕ) → Judgement m.now n o handle (read handle count) (numbered result) }
 {
-    let k = tables::find_handle(m, o, handle);
-    if handle_calls::lacks_right(m, o, k, 1) {
-        return Err(Refusal::BadHandle);
-    }
+    let k = handle_calls::find_with_right(m, o, handle, 1)?;
     let node = handle_calls::file_place(m, n, k, handle);
     Ok(Handled { opened: k, node })
 }
@@ -103,10 +101,9 @@ pub fn begin_read(m: &mut [u8], handle: u64, count: usize, request: &mut [u8]) -
 {
     let g = Guard::load(m);
     let n = g.nodes;
-    let j = judge_read(m, n, g.opens, handle);
-    match j {
-        handle_calls::Handled::Open { opened, node } => read_at(m, n, opened, node, count, request),
-        handle_calls::Handled::Refused(b) => Outcome::Refused(b),
+    match judge_read(m, n, g.opens, handle) {
+        Ok(file) => read_at(m, n, file.opened, file.node, count, request),
+        Err(refusal) => Outcome::Refused(refusal),
     }
 }
 
@@ -263,9 +260,6 @@ pub fn accept_page(
     let g = Guard::load(m);
     if let Err(reason) = replies::judge_page(m, g.nodes, g.node, g.page, reply) {
         return Outcome::Stopped(reason);
-    }
-    if reply.len() != Guard::PAGE_BYTES {
-        return Outcome::Stopped(StopReason::Length);
     }
     if g.opens <= g.opened {
         return Outcome::Stopped(StopReason::Page);

@@ -1,6 +1,6 @@
 -- The calls by handle check after check, and the tables of a memory read through the rows in use.
 -- Assumes nothing.
-use Rattle.std.specs.Prelude.{◌≡◌, Bool, true, false, not, ℕ, ◌/◌, ◌%◌, ◌≤◌, ◌<◌, eqb, length, take, Result, Ok, Err, IfOk, OnOk}
+use Rattle.std.specs.Prelude.{◌≡◌, Bool, true, false, not, ℕ, ◌/◌, ◌%◌, ◌≤◌, ◌<◌, eqb, length, take, Result, Ok, Err, IfOk, OnOk, IsErrAnd}
 use Rattle.std.proofs.Math.Path.{refl, ap}
 use Rattle.std.proofs.Common.{sym, subst, ◌∙◌, arith, get_or-take}
 use mathlib.Core.List.{List, []}
@@ -19,8 +19,9 @@ use Rattle.rules.specs.Calls.{Call}
 use Rattle.rules.specs.Rules.{no_room}
 use Rattle.handle_calls.specs.Judged.{at_file, handled_for, Judgement, lacks_right, found_with, end_checked}
 use Rattle.handle_calls.specs.declared.Handled.{Handled}
-use Rattle.refusals.specs.Numbers.{Judged, numbered}
+use Rattle.refusals.specs.Numbers.{Judged, number_of, numbered}
 use Rattle.refusals.specs.declared.Refusal.{Refusal}
+use Rattle.refusals.specs.laws.NumberLaws.{passed_on}
 use Rattle.tables.specs.View.{tables_in}
 use Rattle.tables.specs.laws.RowsInUse.{count-opens, open_front}
 use Rattle.tables.specs.laws.ContentLaws.{total-split}
@@ -44,6 +45,12 @@ module _ {m : List ℕ} {n o h : ℕ} {q : Call} where
     there = λ i j f. absurd (let z : ◌≡◌ {A = ℕ} 0 1 = cc in
         omega arith);
   }
+
+  -- a bad handle, passed on
+  pub judged_bad : (r : Result Handled Refusal) (e : Refusal) → IsErrAnd r (λ y. y ≡ e) → number_of e ≡ 9
+      → ((w : ℕ) → sound_nodes w (take n (mem_of m).nodes) ≡ true → handled_for (tables_in n o (mem_of m)) h q ≡ Err 9)
+      → Judgement m n o h q (numbered r)
+  judged_bad r e p b f = subst (Judgement m n o h q) (sym (passed_on r e p ∙ ap Err b)) (judged_refused 9 f)
 
   pub judged_open : (k j : ℕ) → k < o → ((w : ℕ) → sound_nodes w (take n (mem_of m).nodes) ≡ true
       → handled_for (tables_in n o (mem_of m)) h q ≡ at_file k j)

@@ -22,7 +22,7 @@ returns-in-Err c =
     let a = c.args in (
       λ d h wide ok long.
           loaded-stops d a.m.now a.reply.now _ c.load-g.ensures c.requires.0 (omega arith) ok _
-          c.in-Err.ensures.value h a.answer.now a.request.now,
+          c.in-Err.ensures.value h _ refl a.answer.now a.request.now,
       refl,
     )
 
@@ -61,7 +61,7 @@ take_page-requires c =
     c.load-g.ensures in (
       omega (arith, e, c.if-g.false),
       c.in_read.ensures.0 c.if-not-in_read.false,
-      c.if-reply-ne-PAGE_BYTES.false,
+      c.in_default.ensures.reply_len,
       w.bytes_most,
       w.node_most,
       w.open_most,
@@ -77,7 +77,7 @@ returns c =
       λ d h wide ok long.
           let z : memory_size ≤ length a.m.now = omega arith in
           loaded-goes_on d a.m.now a.reply.now _ c.load-g.ensures c.requires.0 z ok _
-          c.judge_page-b.ensures.value h (sym c.in_default.ensures)
+          c.in_default.ensures.value h refl
           _ a.answer.now _ a.request.now _ _
           (c.take_page.ensures.leaves d (loaded_fits d a.m.now a.reply.now _ c.load-g.ensures c.requires.0 z ok)
           (loaded_gathered d a.m.now a.reply.now _ c.load-g.ensures c.requires.0 z ok)),

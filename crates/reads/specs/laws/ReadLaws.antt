@@ -19,7 +19,7 @@ use Rattle.rules.specs.Requests.{reading, fetch_request, store_length}
 use Rattle.rules.specs.Skeleton.{Config, at_front}
 use Rattle.rules.specs.Rules.{Move, refuse, send, call_checks, call_action, read_action}
 use Rattle.machine.specs.Machine.{State, apply, guard as digest_store}
-use Rattle.refusals.specs.Numbers.{Judged}
+use Rattle.refusals.specs.Numbers.{Judged, number_of}
 use Rattle.handle_calls.specs.declared.Handled.{Handled}
 use Rattle.std.specs.Prelude.{Err}
 use Rattle.handle_calls.specs.Judged.{at_file, handled_for}
@@ -28,6 +28,7 @@ use Rattle.handle_calls.specs.laws.MoveLaws.{move_refused, move_passed, passed_a
 use Rattle.guard_state.specs.State.{numbers_of, state_of, gathered_none}
 use Rattle.guard_state.specs.laws.LoadedLaws.{node-loaded, open_loaded}
 use Rattle.guard_state.specs.Waits.{waits, ends}
+use Rattle.refusals.specs.declared.Refusal.{Refusal}
 use Rattle.outcomes.specs.declared.Outcome.{Outcome}
 use Rattle.outcomes.specs.declared.Outcome.TheVariants.{Done, Ask, Refused}
 use Rattle.outcomes.specs.Sent.{Sends}
@@ -117,10 +118,11 @@ module _ (t : Tables) (h count : ℕ) (r : Judged Handled) (known : r ≡ handle
 
 module _ (c : Config) (s : State (digest_store c)) (h count : ℕ) (r : Judged Handled)
     (known : r ≡ handled_for s.skeleton.tables h (read h count)) where
-  pub refused_sends : (n : ℕ) (m q : List ℕ) → r ≡ Err n → state_of c m ≡ s
-      → Sends c (started_by c s (read h count)) (Refused n) m q q
+  pub refused_sends : (b : Refusal) (m q : List ℕ) → r ≡ Err (number_of b) → state_of c m ≡ s
+      → Sends c (started_by c s (read h count)) (Refused b) m q q
   unfolding started_by
-  refused_sends n m q e g = refusal_sends c s _ n m q (read_stop s.skeleton.tables h count r known c.width n e) g
+  refused_sends b m q e g =
+      refusal_sends c s _ b m q (read_stop s.skeleton.tables h count r known c.width (number_of b) e) g
 
   pub read_sends : (i j : ℕ) (m q q' : List ℕ) (o : Outcome) → r ≡ at_file i j
       → Sends c (apply c (digest_store c) s (read_of s.skeleton.tables i j (left_of s.skeleton.tables i j count)))

@@ -37,6 +37,9 @@ use Rattle.guard_state.specs.State.{gathered_in, state_in, state_of, file_pages}
 use Rattle.guard_state.specs.laws.WaitLaws.{pending_at}
 use Rattle.guard_state.specs.laws.LoadedLaws.{counts_fit, tables-loaded, nodes-loaded, node-there}
 use Rattle.replies.specs.Judged.{page_reason}
+use Rattle.refusals.specs.Numbers.{reason_number}
+use Rattle.refusals.specs.declared.StopReason.{StopReason}
+use Rattle.refusals.specs.laws.NumberLaws.{reason_positive}
 use Rattle.outcomes.specs.declared.Outcome.{Outcome}
 use Rattle.outcomes.specs.declared.Outcome.TheVariants.{Stopped}
 use Rattle.outcomes.specs.Sent.{Sends, Leaves}
@@ -91,13 +94,13 @@ module _ (c : Config) (hashed : c.digest ≡ sha256) (s : State (digest_store c)
       (apply c (digest_store c) s (halt 1))) hashed
 
   -- another length or another digest stops the guard
-  pub page_stops : (b : ℕ) (x q : List ℕ) → b ≡ page_reason kept r → 0 < b → state_of c x ≡ s
+  pub page_stops : (b : StopReason) (x q : List ℕ) → reason_number b ≡ page_reason kept r → state_of c x ≡ s
       → Sends c (answered c s r) (Stopped b) x q q
   unfolding page_reason
-  page_stops b x q e h g =
+  page_stops b x q e g =
       let z = page_answered ∙ reason_stops (λ j. apply c (digest_store c) s (halt j)) onward (eqb (length r) PAGE_BYTES)
-      (equal (sha256 r) kept) b e h in
-      subst (λ (y : Result (digest_store c)). Sends c y (Stopped b) x q q) (sym z) (stop_sends c s (halt b) b x q refl g)
+      (equal (sha256 r) kept) (reason_number b) e (reason_positive b) in
+      subst (λ (y : Result (digest_store c)). Sends c y (Stopped b) x q q) (sym z) (stop_sends c s (halt (reason_number b)) b x q refl g)
 
   -- else the read goes on
   pub page_goes_on : (m a a' q q' : List ℕ) (v : Outcome) → 0 ≡ page_reason kept r → Leaves c onward v m a a' q q'
@@ -257,12 +260,12 @@ module _ (c : Config) (m r : List ℕ) (g : Guard) (e : g ≡ numbers_of (mem_of
     pub loaded-long : b ≡ 0 → length r ≡ PAGE_BYTES
     loaded-long z = no_reason_long _ r (sym z ∙ reason)
 
-    pub loaded-stops : c.digest ≡ sha256 → 0 < b → (a q : List ℕ) → Leaves c (answered c (state_of c m) r) (Stopped b) m
-        a a q q
-    loaded-stops h z a q =
-        sends_leaves c (answered c (state_of c m) r) (Stopped b) m q q
-        (page_stops c h (state_of c m) r g.node g.opened g.position g.count g.page loaded_pending b m q
-        reason z refl) a
+    pub loaded-stops : c.digest ≡ sha256 → (x : StopReason) → reason_number x ≡ b → (a q : List ℕ)
+        → Leaves c (answered c (state_of c m) r) (Stopped x) m a a q q
+    loaded-stops h x z a q =
+        sends_leaves c (answered c (state_of c m) r) (Stopped x) m q q
+        (page_stops c h (state_of c m) r g.node g.opened g.position g.count g.page loaded_pending x m q
+        (z ∙ reason) refl) a
 
     pub loaded-goes_on : c.digest ≡ sha256 → b ≡ 0 → (x a a' q q' : List ℕ) (v : Outcome)
         → Leaves c (read_on c (digest_store c) (state_of c m) g.node g.opened g.position g.count g.page
