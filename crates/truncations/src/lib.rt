@@ -3,7 +3,7 @@
 // the same size it is done at once.
 #![tactic(auto)]
 
-ghost use Rattle.std.specs.Prelude.{◌≡◌, ℕ, ◌<◌, ◌≤◌, ◌/◌, length};
+ghost use Rattle.std.specs.Prelude.{◌≡◌, ℕ, ◌<◌, ◌≤◌, ◌/◌, length, OnOk};
 ghost use Rattle.filesystem.specs.Tables.{NODES, PAGE_BYTES, FILE_BYTES, open_at};
 ghost use Rattle.rules.specs.Calls.{truncate};
 ghost use Rattle.rules.specs.Pages.{growing};
@@ -16,8 +16,8 @@ ghost use Rattle.guard_state.specs.State.{numbers_in};
 ghost use Rattle.outcomes.specs.Clauses.{Accepts, AcceptsAsking, Begins};
 ghost use Rattle.outcomes.specs.Sent.{Asks};
 ghost use Rattle.requests.specs.Room.{HoldsRequest};
+ghost use Rattle.refusals.specs.Numbers.{numbered};
 ghost use Rattle.handle_calls.specs.Judged.{Judgement};
-ghost use Rattle.handle_calls.specs.declared.Handled.TheVariants.{Open};
 ghost use Rattle.page_changes.specs.Clauses.{Goes, Moves, StartsAt};
 ghost use Rattle.truncations.specs.Shrinking.{Shrinking, shrink_in};
 
@@ -29,13 +29,10 @@ use refusals::{Refusal, StopReason};
 // truncate: 9 without right 2, 27, 28. A size that passes is a file's.
 fn judge_truncate(m: &[u8], n: usize, o: usize, handle: u64, size: u64) -> Result<Handled, Refusal>
     requires { (n ≤ NODES) × (o ≤ open_rows) × IsMemory m.now }
-    ensures judgement { Judgement m.now n o handle (truncate handle size) result }
-    ensures by_index { (i j : ℕ) → result ≡ Open i j → size ≤ FILE_BYTES }
+    ensures judgement { Judgement m.now n o handle (truncate handle size) (numbered result) }
+    ensures fits { OnOk result (size ≤ FILE_BYTES) }
 {
-    let k = tables::find_handle(m, o, handle);
-    if handle_calls::lacks_right(m, o, k, 2) {
-        return Err(Refusal::BadHandle);
-    }
+    let k = handle_calls::find_with_right(m, o, handle, 2)?;
     if (Guard::FILE_BYTES as u64) < size {
         return Err(Refusal::FileTooLarge);
     }
@@ -146,16 +143,9 @@ pub fn begin_truncate(m: &mut [u8], handle: u64, size: u64, request: &mut [u8]) 
     ensures { Begins m request (truncate handle size) result }
 {
     let g = Guard::load(m);
-    let j = judge_truncate(m, g.nodes, g.opens, handle, size);
-    match j {
-        handle_calls::Handled::Open { opened, node } => truncate_at(
-            m,
-            opened,
-            node,
-            size as usize,
-            request,
-        ),
-        handle_calls::Handled::Refused(b) => Outcome::Refused(b),
+    match judge_truncate(m, g.nodes, g.opens, handle, size) {
+        Ok(file) => truncate_at(m, file.opened, file.node, size as usize, request),
+        Err(refusal) => Outcome::Refused(refusal),
     }
 }
 
@@ -189,12 +179,11 @@ pub fn accept_growth(m: &mut [u8], reply: &[u8]) -> Outcome
     requires { ((numbers_in m.old).call ≡ GROWING) × IsMemory m.old }
     ensures { Accepts m reply.now result }
 {
-    let b = replies::judge_status(reply, 0);
-    if b != 0 {
+    if let Err(reason) = replies::judge_status(reply, 0) {
         if replies::is_full(reply) {
             return replies::give_up(m);
         }
-        return Outcome::Stopped(b);
+        return Outcome::Stopped(reason);
     }
     let g = Guard::load(m);
     // no consistent state has a growth that its tables cannot take

@@ -20,6 +20,7 @@ ghost use Rattle.guard_state.specs.State.{state_of, numbers_in, file_pages};
 ghost use Rattle.outcomes.specs.Clauses.{AcceptsAsking, Begins};
 ghost use Rattle.outcomes.specs.Sent.{Sends};
 ghost use Rattle.requests.specs.Room.{HoldsRequest};
+ghost use Rattle.refusals.specs.Numbers.{numbered};
 ghost use Rattle.handle_calls.specs.Judged.{Judgement};
 ghost use Rattle.page_changes.specs.Clauses.{Goes, StartsAt};
 ghost use Rattle.writes.specs.Writing.{Writing, write_in, EndsAt};
@@ -34,12 +35,9 @@ const FILE_PAGES: usize = Guard::FILE_BYTES / Guard::PAGE_BYTES;
 // write: 9 without right 2, 27, 28.
 fn judge_write(m: &[u8], n: usize, o: usize, handle: u64, bytes: &[u8]) -> Result<Handled, Refusal>
     requires { (n ≤ NODES) × (o ≤ open_rows) × IsMemory m.now }
-    ensures { Judgement m.now n o handle (write handle bytes.now) result }
+    ensures { Judgement m.now n o handle (write handle bytes.now) (numbered result) }
 {
-    let k = tables::find_handle(m, o, handle);
-    if handle_calls::lacks_right(m, o, k, 2) {
-        return Err(Refusal::BadHandle);
-    }
+    let k = handle_calls::find_with_right(m, o, handle, 2)?;
     // before the sum, which has to fit
     if Guard::FILE_BYTES < bytes.len() {
         return Err(Refusal::FileTooLarge);
@@ -196,10 +194,9 @@ pub fn begin_write(m: &mut [u8], handle: u64, bytes: &[u8], request: &mut [u8]) 
     ensures { Begins m request (write handle bytes.now) result }
 {
     let g = Guard::load(m);
-    let j = judge_write(m, g.nodes, g.opens, handle, bytes);
-    match j {
-        handle_calls::Handled::Open { opened, node } => write_at(m, opened, node, bytes, request),
-        handle_calls::Handled::Refused(b) => Outcome::Refused(b),
+    match judge_write(m, g.nodes, g.opens, handle, bytes) {
+        Ok(file) => write_at(m, file.opened, file.node, bytes, request),
+        Err(refusal) => Outcome::Refused(refusal),
     }
 }
 
@@ -222,12 +219,11 @@ pub fn accept_stored(m: &mut [u8], reply: &[u8], request: &mut [u8]) -> Outcome
     requires { ((numbers_in m.old).call ≡ STORING) × IsMemory m.old × HoldsRequest request.old }
     ensures { AcceptsAsking m reply.now request result }
 {
-    let b = replies::judge_status(reply, Guard::PAGE_BYTES as i32);
-    if b != 0 {
+    if let Err(reason) = replies::judge_status(reply, Guard::PAGE_BYTES as i32) {
         if replies::is_full(reply) {
             return keep_pages(m);
         }
-        return Outcome::Stopped(b);
+        return Outcome::Stopped(reason);
     }
     let g = Guard::load(m);
     let page = g.page + 1;

@@ -12,17 +12,17 @@ returns-in-Err c =
       λ d s w h. judged-stops d a.m.now _ h (omega (arith, c.requires.0), omega (arith, c.requires.0))
           (fetch_waits d a.m.now c.requires.0) _ refl _ a.reply.now
           (f.judged (page_room d a.m.now h c.requires.0))
-          s a.request.now,
+          s _ refl a.request.now,
       refl,
     )
 
 pub returns : goal.returns
 returns c =
     let a = c.args in
-    let f = c.judge_fetched-b.ensures in (
+    let f = c.in_default.ensures in (
       λ d s w h. judged-stores d a.m.now _ h (omega (arith, c.requires.0), omega (arith, c.requires.0))
-          (fetch_waits d a.m.now c.requires.0) _ refl _ a.reply.now (f.judged (f.room (sym c.in_default.ensures)))
-          s (sym c.in_default.ensures) _ _ a.request.now _
+          (fetch_waits d a.m.now c.requires.0) _ refl _ a.reply.now (f.judged (f.room refl))
+          s refl _ _ a.request.now _
           (c.store_page.ensures.0 d s (page_sending d a.m.now h c.requires.0)),
       omega arith,
     )

@@ -19,7 +19,7 @@ truncate_at-requires c =
     let a = c.args in
     let o = (counts_fit a.m.now _ c.load-g.ensures).1 in
     let p = c.judge_truncate.ensures.judgement.there _ _ (ap numbered c.in-Ok.is) in
-    let z = c.judge_truncate.ensures.by_index _ _ (ap numbered c.in-Ok.is) in
+    let z = c.in-Ok.ensures.fits in
     (omega (arith, p, o), omega (arith, z), omega arith, omega (arith, c.requires.1))
 
 pub returns-in-Ok : goal.returns-in-Ok

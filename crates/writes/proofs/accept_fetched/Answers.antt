@@ -15,17 +15,17 @@ returns-in-Err c =
       λ d s w h. judged-stops d a.m.now _ h (omega (arith, c.requires.0), omega (arith, c.requires.0))
           (fetch_waits d a.m.now c.requires.0) _ refl _ a.reply.now
           (f.judged (page_room d a.m.now h _ refl c.requires.0 (omega arith)))
-          s a.request.now,
+          s _ refl a.request.now,
       refl,
     )
 
 pub store_page-requires : goal.store_page-requires
 store_page-requires c =
-    let f = c.judge_fetched-b.ensures in (
+    let f = c.in_default.ensures in (
       (omega (arith, c.requires.0), omega (arith, c.requires.0)),
-      f.room (sym c.in_default.ensures),
+      f.room refl,
       (in_range _ _ c.load-g.ensures).page,
-      omega (arith, f.long (sym c.in_default.ensures)),
+      omega (arith, f.long refl),
       omega arith,
       omega (arith, c.requires.2),
     )
@@ -33,12 +33,12 @@ store_page-requires c =
 pub returns : goal.returns
 returns c =
     let a = c.args in
-    let f = c.judge_fetched-b.ensures in (
+    let f = c.in_default.ensures in (
       λ d s w h. page_goes d a.m.now h _ c.load-g.ensures c.requires.0 s _ a.reply.now
-          (subst (λ (x : Guard). JudgedPage a.m.now x c.judge_fetched-b.result a.reply.now)
+          (subst (λ (x : Guard). JudgedPage a.m.now x 0 a.reply.now)
           (sym c.load-g.ensures)
-          (f.judged (f.room (sym c.in_default.ensures))))
-          (sym c.in_default.ensures) _ _ a.request.now _
+          (f.judged (f.room refl)))
+          refl _ _ a.request.now _
           (c.store_page.ensures.0 d s (page_sending d a.m.now h _ c.load-g.ensures c.requires.0)),
       omega arith,
     )
