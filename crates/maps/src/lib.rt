@@ -2,12 +2,14 @@
 // only address and size are kept.
 #![tactic(auto)]
 
-ghost use Rattle.std.specs.Prelude.{true, ◌&&◌, ◌≡◌, ◌+◌, ◌<◌, ◌≤◌, eqb, ltb, length, take, drop};
+ghost use Rattle.std.specs.Prelude.{true, ◌&&◌, ◌≡◌, ◌+◌, ◌<◌, ◌≤◌, eqb, ltb, length, take, drop, IfSome, OnOk};
 ghost use Rattle.lists.specs.Search.{any, every};
 ghost use Rattle.filesystem.specs.MemoryMaps.{MAPS, MAP_BYTES, map_at};
 ghost use Rattle.rules.specs.MapRules.{is_map_size, find_map, overlaps};
 ghost use Rattle.rules.specs.Calls.{map_memory, unmap};
 ghost use Rattle.memory.specs.Memories.{IsMemory, was};
+ghost use Rattle.refusals.specs.Numbers.{reason_or_0};
+ghost use Rattle.tables.specs.Found.{found};
 ghost use Rattle.guard_state.specs.Calls.{MAPPING, UNMAPPING};
 ghost use Rattle.guard_state.specs.State.{numbers_in};
 ghost use Rattle.requests.specs.Room.{HoldsRequest};
@@ -58,20 +60,13 @@ fn any_overlaps(m: &[u8], n: usize, address: u64, size: u32) -> bool
     false
 }
 
-// The place of the map that begins at this address, or n: none of the first n does.
-fn find(m: &[u8], n: usize, address: u64) -> usize
+// The place of the map that begins at this address, among the first n.
+fn find(m: &[u8], n: usize, address: u64) -> Option<usize>
     requires { (n ≤ MAPS) × IsMemory m.now }
-    ensures { result ≡ find_map (take n (was m.now).maps) address }
+    ensures place { result ≡ found n (find_map (take n (was m.now).maps) address) }
+    ensures within { IfSome result (λ k. k < n) }
 {
-    let mut i = 0;
-    // none before i does
-    while i < n {
-        if memory::map_address(m, i) == address {
-            return i;
-        }
-        i += 1;
-    }
-    i
+    (0..n).find(|i| memory::map_address(m, *i) == address)
 }
 
 // ---- a reply
@@ -140,26 +135,26 @@ fn is_misplaced(address: u64, size: usize) -> bool
     u64::MAX - (size as u64) < address - 1
 }
 
-// A map's reply: 1 of another length, 8 where the address or a byte is wrong, else 0.
-fn judge_map(m: &[u8], n: usize, size: usize, reply: &[u8]) -> u8
+// A map's reply: 1 of another length, 8 where the address or a byte is wrong.
+fn judge_map(m: &[u8], n: usize, size: usize, reply: &[u8]) -> Result<(), StopReason>
     requires { (n ≤ MAPS) × (size ≤ MAP_BYTES) × IsMemory m.now }
-    ensures value { result ≡ map_reason (take n (was m.now).maps) size reply.now }
-    ensures reply_len { result ≡ 0 → length reply.now ≡ 8 + size }
+    ensures value { reason_or_0 result ≡ map_reason (take n (was m.now).maps) size reply.now }
+    ensures reply_len { OnOk result (length reply.now ≡ 8 + size) }
 {
     if reply.len() != 8 + size {
-        return 1;
+        return Err(StopReason::Length);
     }
     let address = numbers::u64_at(reply, 0);
     if is_misplaced(address, size) {
-        return 8;
+        return Err(StopReason::Map);
     }
     if any_overlaps(m, n, address, size as u32) {
-        return 8;
+        return Err(StopReason::Map);
     }
     if is_zero(&reply[8..]) {
-        return 0;
+        return Ok(());
     }
-    8
+    Err(StopReason::Map)
 }
 
 // ---- map
@@ -201,7 +196,7 @@ pub fn begin_unmap(m: &mut [u8], address: u64, request: &mut [u8]) -> Outcome
     ensures { BeginsMap m request (unmap address) result }
 {
     let n = guard_state::map_count(m);
-    if n <= find(m, n, address) {
+    if find(m, n, address).is_none() {
         return Outcome::Refused(Refusal::Invalid);
     }
     guard_state::wait_unmap(m, address);
@@ -218,10 +213,9 @@ pub fn accept_unmap(m: &mut [u8], reply: &[u8]) -> Outcome
     }
     let g = Guard::load(m);
     let n = guard_state::map_count(m);
-    let k = find(m, n, g.parent);
-    if n <= k {
+    let Some(k) = find(m, n, g.parent) else {
         return Outcome::Stopped(StopReason::Status);
-    }
+    };
     memory::move_maps(m, k + 1, k, n - (k + 1));
     guard_state::rest_maps(m, n - 1);
     Outcome::Done {

@@ -5,6 +5,7 @@ ghost use Rattle.std.specs.Prelude.{true, ◌≡◌, ℕ, ◌<◌, ◌≤◌, le
 ghost use Rattle.filesystem.specs.Tables.{NODES, NAME_BYTES, PATH_BYTES, node_at, is_directory};
 ghost use Rattle.filesystem.specs.Image.{length_in, sound_nodes};
 ghost use Rattle.rules.specs.Requests.{asked, renaming};
+ghost use Rattle.refusals.specs.Numbers.{numbered};
 ghost use Rattle.memory.specs.Memories.{IsMemory, nodes_of, was};
 ghost use Rattle.tables.specs.View.{tables_in};
 ghost use Rattle.guard_state.specs.Calls.{RENAMING};
@@ -15,7 +16,7 @@ ghost use Rattle.outcomes.specs.declared.Outcome.TheVariants.{Done};
 ghost use Rattle.outcomes.specs.Sent.{Asks};
 ghost use Rattle.requests.specs.PathRequests.{rename_request};
 ghost use Rattle.requests.specs.Room.{HoldsRequest};
-ghost use Rattle.renames.specs.Judged.{by_number, name_own, root_name, second_own, walks_own, renaming_for};
+ghost use Rattle.renames.specs.Judged.{name_own, root_name, second_own, walks_own, renaming_for};
 ghost use Rattle.renames.specs.Judged.{Short, Moves, Fits, FitsBoth};
 ghost use Rattle.renames.specs.Begun.{BeginsRename};
 
@@ -23,36 +24,16 @@ use guard_state::Guard;
 use outcomes::Outcome;
 use refusals::{Refusal, StopReason};
 
-// What a rename is judged to be: the node becomes what the second path has from `start` on, in the directory in place
-// `parent`; or both paths lead to it; or a number.
-#[derive(Clone, Copy)]
-pub enum Renaming {
-    Move {
-        node: usize,
-        parent: usize,
-        start: usize,
-    },
-    Same,
-    Refused(u8),
-}
-
-// The move, or the number that refuses it.
-fn by_number(k: usize, d: usize, at: usize, b: u8) -> Renaming
-    ensures value { result ≡ by_number k d at b }
-    ensures moves { Moves result k d at }
-{
-    if b != 0 {
-        return Renaming::Refused(b);
-    }
-    Renaming::Move {
-        node: k,
-        parent: d,
-        start: at,
-    }
+// What a rename is to do: the node becomes what the second path has from `start` on, in the directory in place `parent`.
+#[derive(Clone, Copy, PartialEq, Eq)]
+pub struct Move {
+    pub node: usize,
+    pub parent: usize,
+    pub start: usize,
 }
 
 // Of node k, which the directory in place `from` holds, to the name that stands from `at` on in the second path, in
-// directory d: 16 (the root), done if that is node k, 17, 22, 13, 36.
+// directory d: 16 (the root), no move if that is node k, 17, 22, 13, 36.
 fn judge_name(
     m: &[u8],
     n: usize,
@@ -61,87 +42,82 @@ fn judge_name(
     d: usize,
     at: usize,
     name: &[u8],
-) -> Renaming
+) -> Result<Option<Move>, Refusal>
     requires { (k < n) × (from < n) × (d < n) × (n ≤ NODES) × (length name.now ≤ NAME_BYTES) × IsMemory m.now }
     ensures by_index { (w : ℕ) → sound_nodes w (nodes_of n m.now) ≡ true → is_directory (node_at (nodes_of n m.now) d) ≡ true
         → length_in (nodes_of n m.now) d name.now ≤ PATH_BYTES
-        → result ≡ name_own (nodes_of n m.now) k from d at name.now }
-    ensures moves { Moves result k d at }
+        → numbered result ≡ name_own (nodes_of n m.now) k from d at name.now }
+    ensures moves { Moves (numbered result) k d at }
 {
     if k == 0 {
-        return Renaming::Refused(16);
+        return Err(Refusal::Busy);
     }
-    let j = tables::find_child(m, n, memory::node_id(m, d), name);
-    if j == k {
-        return Renaming::Same;
+    if let Some(j) = tables::find_child(m, n, memory::node_id(m, d), name) {
+        if j == k {
+            return Ok(None);
+        }
+        return Err(Refusal::Exists);
     }
-    if j < n {
-        return Renaming::Refused(17);
-    }
-    let b = moves::judge_move(m, n, k, from, d, name);
-    by_number(k, d, at, b)
+    moves::judge_move(m, n, k, from, d, name)?;
+    Ok(Some(Move {
+        node: k,
+        parent: d,
+        start: at,
+    }))
 }
 
 // To the root's own path: 16 of the root, 17.
-fn root_name(k: usize) -> Renaming
-    ensures { result ≡ root_name k }
+fn root_name(k: usize) -> Result<Option<Move>, Refusal>
+    ensures { numbered result ≡ root_name k }
 {
     if k == 0 {
-        return Renaming::Refused(16);
+        return Err(Refusal::Busy);
     }
-    Renaming::Refused(17)
+    Err(Refusal::Exists)
 }
 
 // The same from the way to that directory on; the root's own name is taken.
-fn judge_second(m: &[u8], n: usize, k: usize, from: usize, second: &[u8]) -> Renaming
+fn judge_second(
+    m: &[u8],
+    n: usize,
+    k: usize,
+    from: usize,
+    second: &[u8],
+) -> Result<Option<Move>, Refusal>
     requires { (k < n) × (from < n) × (n ≤ NODES) × Short second.now × IsMemory m.now }
     ensures by_index { (w : ℕ) → sound_nodes w (nodes_of n m.now) ≡ true
-        → result ≡ second_own (nodes_of n m.now) k from second.now }
-    ensures fits { Fits result n second.now }
+        → numbered result ≡ second_own (nodes_of n m.now) k from second.now }
+    ensures fits { Fits (numbered result) n second.now }
 {
-    let w = paths::walk_parent(m, n, second);
-    match w {
-        paths::Placed::In { parent, start } => judge_name(
-            m,
-            n,
-            k,
-            from,
-            parent,
-            start,
-            &second[start..],
-        ),
-        paths::Placed::Refused(b) => Renaming::Refused(b),
-        paths::Placed::Root => root_name(k),
+    match paths::walk_parent(m, n, second)? {
+        Some(place) => {
+            let name = &second[place.start..];
+            judge_name(m, n, k, from, place.parent, place.start, name)
+        }
+        None => root_name(k),
     }
 }
 
 // Both walks, the first first.
-fn judge_walks(m: &[u8], n: usize, first: &[u8], second: &[u8]) -> Renaming
+fn judge_walks(m: &[u8], n: usize, first: &[u8], second: &[u8]) -> Result<Option<Move>, Refusal>
     requires { (0 < n) × (n ≤ NODES) × Short second.now × IsMemory m.now }
     ensures by_index { (w : ℕ) → sound_nodes w (nodes_of n m.now) ≡ true
-        → result ≡ walks_own (nodes_of n m.now) first.now second.now }
-    ensures fits { Fits result n second.now }
+        → numbered result ≡ walks_own (nodes_of n m.now) first.now second.now }
+    ensures fits { Fits (numbered result) n second.now }
 {
-    let w = path_calls::walk_both(m, n, first);
-    match w {
-        path_calls::Way::At { node, parent } => judge_second(m, n, node, parent, second),
-        path_calls::Way::Refused(b) => Renaming::Refused(b),
-    }
+    let way = path_calls::walk_both(m, n, first)?;
+    judge_second(m, n, way.node, way.parent, second)
 }
 
 // 22 and 36 of both paths first.
-fn judge_rename(m: &[u8], n: usize, first: &[u8], second: &[u8]) -> Renaming
+fn judge_rename(m: &[u8], n: usize, first: &[u8], second: &[u8]) -> Result<Option<Move>, Refusal>
     requires { (0 < n) × (n ≤ NODES) × IsMemory m.now }
     ensures by_index { (w o : ℕ) → sound_nodes w (nodes_of n m.now) ≡ true
-        → result ≡ renaming_for (tables_in n o (was m.now)) first.now second.now }
-    ensures fits_both { FitsBoth result n first.now second.now }
+        → numbered result ≡ renaming_for (tables_in n o (was m.now)) first.now second.now }
+    ensures fits_both { FitsBoth (numbered result) n first.now second.now }
 {
-    let f = paths::forms(first, second);
-    match f {
-        paths::PathForm::Malformed => Renaming::Refused(22),
-        paths::PathForm::Long => Renaming::Refused(36),
-        paths::PathForm::Good => judge_walks(m, n, first, second),
-    }
+    paths::forms(first, second)?;
+    judge_walks(m, n, first, second)
 }
 
 // A rename that passed: it waits with its node, the new parent's id and the new name, and goes out as it came.
@@ -193,15 +169,10 @@ pub fn begin_rename(
     if n == 0 {
         return Outcome::Refused(Refusal::ShortBuffer);
     }
-    let w = judge_rename(m, n, first, second);
-    match w {
-        Renaming::Move {
-            node,
-            parent,
-            start,
-        } => send_rename(m, node, parent, first, second, start, request),
-        Renaming::Same => finish_same(m),
-        Renaming::Refused(b) => Outcome::Refused(b),
+    match judge_rename(m, n, first, second) {
+        Ok(Some(it)) => send_rename(m, it.node, it.parent, first, second, it.start, request),
+        Ok(None) => finish_same(m),
+        Err(refusal) => Outcome::Refused(refusal),
     }
 }
 

@@ -36,7 +36,7 @@ returns-in-Err c =
           (c.in-Err.ensures.value
           ∙ ap (λ (ms : List Map). map_reason ms c.load-g.result.size a.reply.now) (maps_loaded d a.m.now _
           c.map_count-n.ensures) ∙ e)
-          (omega arith) refl,
+          refl,
       refl,
     )
 
@@ -69,8 +69,7 @@ returns c =
           let row : new_map c.u64_at-number.result c.load-g.result.size ≡ map_in (numbers_of z.head).size r =
           λ i. new_map (c.u64_at-number.ensures i) (g i).size in
           map_joins d w s r _ (map_pending d a.m.now c.requires.0) _ _ q
-          (omega arith
-          ∙ c.judge_map-b.ensures.value
+          (c.in_default.ensures.value
           ∙ ap (λ (x : List Map). map_reason x c.load-g.result.size r) ms ∙ e)
           c.u64_at-number.ensures
           (c.rest_maps.ensures.0 d

@@ -17,6 +17,7 @@ use Rattle.tables.specs.laws.ViewLaws.{front_removed}
 use Rattle.replies.specs.laws.TakenLaws.{answer-stops}
 use Rattle.maps.specs.laws.AnsweredLaws.{maps_count, count_fits, maps_loaded, map-known, unmap_reason, map_leaves}
 use Rattle.maps.specs.laws.AnsweredLaws.{over_maps}
+use Rattle.tables.specs.laws.FoundLaws.{found_none, found_some}
 use Rattle.maps.proofs.accept_unmap.Goals as goal
 
 pub returns-in-Err : goal.returns-in-Err
@@ -26,23 +27,23 @@ returns-in-Err c =
           let s = state_of d a.m.now in
           let p = unmap_pending d a.m.now c.requires.0 in
           answer-stops d w s a.reply.now _ p refl _ _ q
-          (c.in-Err.ensures ∙ sym (unmap_reason d w s a.reply.now _ p)) (omega arith) refl,
+          (c.in-Err.ensures ∙ sym (unmap_reason d w s a.reply.now _ p)) refl,
       refl,
     )
 
-pub find-k-requires : goal.find-k-requires
-find-k-requires c =
+pub find-requires : goal.find-requires
+find-requires c =
     let a = c.args in
     (omega (arith, c.map_count-n.ensures, count_fits (mem_of a.m.now).head), omega arith)
 
-pub returns-then-n-k : goal.returns-then-n-k
-returns-then-n-k c =
+pub returns-in_default-find : goal.returns-in_default-find
+returns-in_default-find c =
     let a = c.args in (
       λ d sha w h q.
           let x = map-known d a.m.now h _ (unmap_pending d a.m.now c.requires.0) in
           let n = c.map_count-n.ensures in
-          let e = c.find-k.ensures
-          ∙ ap (λ (y : List Map). find_map y c.load-g.result.parent) (maps_loaded d a.m.now _ n)
+          let b = found_none _ _ (sym c.in_default-find.is ∙ c.find.ensures.place) in
+          let e = ap (λ (y : List Map). find_map y c.load-g.result.parent) (maps_loaded d a.m.now _ n)
           ∙ ap (λ (g : Guard). find_map (state_of d a.m.now).skeleton.maps g.parent) c.load-g.ensures in
           absurd (omega (arith, x, n, e, maps_count d a.m.now)),
       refl,
@@ -52,7 +53,8 @@ pub move_maps-requires : goal.move_maps-requires
 move_maps-requires c =
     let a = c.args in
     let f = count_fits (mem_of a.m.now).head in
-    (omega (arith, c.map_count-n.ensures, f), omega (arith, c.map_count-n.ensures, f), omega arith)
+    let k = c.in-Some.ensures.within in
+    (omega (arith, k, c.map_count-n.ensures, f), omega (arith, k, c.map_count-n.ensures, f), omega arith)
 
 pub rest_maps-requires : goal.rest_maps-requires
 rest_maps-requires c =
@@ -70,16 +72,16 @@ returns c =
           let p = unmap_pending d a.m.now c.requires.0 in
           let ms = maps_loaded d a.m.now _ n in
           let i = count_fits z.head in
-          let e = c.find-k.ensures
+          let e = (found_some _ _ (sym c.in-Some.is ∙ c.find.ensures.place)).0
           ∙ ap (λ (y : List Map). find_map y c.load-g.result.parent) ms
           ∙ ap (λ (g : Guard). find_map s.skeleton.maps g.parent) c.load-g.ensures in
           map_leaves d w s a.reply.now _ p _ q
-          (omega arith ∙ c.judge_status-b.ensures ∙ sym (unmap_reason d w s a.reply.now _ p))
+          (c.in_default.ensures ∙ sym (unmap_reason d w s a.reply.now _ p))
           (c.rest_maps.ensures.0 d
           ∙ over_maps d a.m.now _ _ _ c.move_maps.ensures.0
           ∙ ap (λ (x : Mem). remaps d s (take (c.map_count-n.result - 1) x.maps)) c.move_maps.ensures.0
           ∙ ap (remaps d s) (front_removed z.maps c.map_count-n.result
-          (omega (arith, n, i, length_maps a.m.now)) c.find-k.result (omega arith)
-          ∙ ap (without c.find-k.result) ms ∙ ap (λ (x : ℕ). without x s.skeleton.maps) e)),
+          (omega (arith, n, i, length_maps a.m.now)) c.in-Some.k c.in-Some.ensures.within
+          ∙ ap (without c.in-Some.k) ms ∙ ap (λ (x : ℕ). without x s.skeleton.maps) e)),
       omega arith,
     )

@@ -17,7 +17,7 @@ pub returns-then-reply-size : goal.returns-then-reply-size
 returns-then-reply-size c =
     let a = c.args in record {
       value = reason_length (take a.n (mem_of a.m.now).maps) a.size a.reply.now c.if-reply-size.true;
-      reply_len = λ z. absurd (omega arith);
+      reply_len = tt;
     }
 
 pub returns-then-is_misplaced : goal.returns-then-is_misplaced
@@ -27,7 +27,7 @@ returns-then-is_misplaced c =
     let x = ap (λ (i : ℕ). is_misplaced i a.size) (sym c.u64_at-address.ensures) in record {
       value = reason_address (take a.n (mem_of a.m.now).maps) a.size a.reply.now c.if-reply-size.false
           (x ∙ sym c.is_misplaced.ensures ∙ c.if-is_misplaced.true);
-      reply_len = λ z. absurd (omega arith);
+      reply_len = tt;
     }
 
 pub returns-then-any_overlaps : goal.returns-then-any_overlaps
@@ -40,7 +40,7 @@ returns-then-any_overlaps c =
       value = reason_overlap ms a.size a.reply.now c.if-reply-size.false
           (x ∙ sym c.is_misplaced.ensures ∙ c.if-is_misplaced.false)
           (y ∙ sym c.any_overlaps.ensures ∙ c.if-any_overlaps.true);
-      reply_len = λ z. absurd (omega arith);
+      reply_len = tt;
     }
 
 pub returns-then-is_zero : goal.returns-then-is_zero
@@ -56,7 +56,7 @@ returns-then-is_zero c =
       value = reason_none ms a.size r c.if-reply-size.false (x ∙ sym c.is_misplaced.ensures ∙ c.if-is_misplaced.false)
           (y ∙ sym c.any_overlaps.ensures ∙ c.if-any_overlaps.false)
           (ap (every (eqb 0)) (sym z) ∙ sym c.is_zero.ensures ∙ c.if-is_zero.true);
-      reply_len = λ i. c.if-reply-size.false;
+      reply_len = c.if-reply-size.false;
     }
 
 pub returns : goal.returns
@@ -72,5 +72,5 @@ returns c =
       value = reason_dirty ms a.size r c.if-reply-size.false (x ∙ sym c.is_misplaced.ensures ∙ c.if-is_misplaced.false)
           (y ∙ sym c.any_overlaps.ensures ∙ c.if-any_overlaps.false)
           (ap (every (eqb 0)) (sym z) ∙ sym c.is_zero.ensures ∙ c.if-is_zero.false);
-      reply_len = λ i. absurd (omega arith);
+      reply_len = tt;
     }

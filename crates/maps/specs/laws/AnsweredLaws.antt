@@ -24,6 +24,10 @@ use Rattle.machine.specs.Consistent.{Consistent}
 use Rattle.guard_state.specs.State.{numbers_of, map_count, state_in, state_of, gathered_none}
 use Rattle.guard_state.specs.Waits.{waits, remaps}
 use Rattle.tables.specs.View.{view_of}
+use Rattle.refusals.specs.Numbers.{reason_number}
+use Rattle.refusals.specs.declared.Refusal.TheVariants.{TooManyMaps, Invalid}
+use Rattle.refusals.specs.declared.StopReason.{StopReason}
+use Rattle.refusals.specs.laws.NumberLaws.{reason_positive}
 use Rattle.outcomes.specs.declared.Outcome.TheVariants.{Done, Ask, Refused, Stopped}
 use Rattle.outcomes.specs.Sent.{Sends}
 use Rattle.outcomes.specs.Started.{map_started}
@@ -58,9 +62,9 @@ module _ (c : Config) (s : State (digest_store c)) where
   live = s.skeleton.maps
 
   pub map_refused : (n : ℕ) (m q : List ℕ) → MAPS ≤ length live → state_of c m ≡ s
-      → Sends c (map_started c s (map_memory n)) (Refused 12) m q q
+      → Sends c (map_started c s (map_memory n)) (Refused TooManyMaps) m q q
   unfolding map_started map_checks
-  map_refused n m q h g = refusal_sends c s _ 12 m q (check_stops refuse 12 _ _ _ (le-leb _ _ h)) g
+  map_refused n m q h g = refusal_sends c s _ TooManyMaps m q (check_stops refuse 12 _ _ _ (le-leb _ _ h)) g
 
   pub map_sends : (n k : ℕ) (m q q' : List ℕ) → k ≡ 5 → length live < MAPS → state_of c m ≡ waits c s (asked (mapping n)) gathered_none
       → q' ≡ at_front (14 ∷ encode 4 n) q → store_length ≤ length q
@@ -72,9 +76,9 @@ module _ (c : Config) (s : State (digest_store c)) where
       (check_last refuse 12 _ _ (lt-leb _ _ h)) g u (ap Ask (z ∙ sym e)) (omega arith)
 
   pub unmap_refused : (a : ℕ) (m q : List ℕ) → length live ≤ find_map live a → state_of c m ≡ s
-      → Sends c (map_started c s (unmap a)) (Refused 22) m q q
+      → Sends c (map_started c s (unmap a)) (Refused Invalid) m q q
   unfolding map_started map_checks
-  unmap_refused a m q h g = refusal_sends c s _ 22 m q (check_stops refuse 22 _ _ _ (le-leb _ _ h)) g
+  unmap_refused a m q h g = refusal_sends c s _ Invalid m q (check_stops refuse 22 _ _ _ (le-leb _ _ h)) g
 
   pub unmap_sends : (a k : ℕ) (m q q' : List ℕ) → k ≡ 9 → find_map live a < length live
       → state_of c m ≡ waits c s (asked (unmapping a)) gathered_none → q' ≡ at_front (15 ∷ encode 8 a) q
@@ -101,10 +105,11 @@ module _ (c : Config) (wide : c.width ≡ ID_BYTES) (s : State (digest_store c))
     unfolding reply_checks map_reasons reply_action decide
     map-taken = at_width c wide s r (asked (mapping n)) waiting refl
 
-    pub map-stops : (b : ℕ) (m q : List ℕ) → b ≡ map_reason s.skeleton.maps n r → 0 < b → state_of c m ≡ s
+    pub map-stops : (b : StopReason) (m q : List ℕ) → reason_number b ≡ map_reason s.skeleton.maps n r → state_of c m ≡ s
         → Sends c (answered c s r) (Stopped b) m q q
     unfolding answered map_reason
-    map-stops b m q e h g = stop_sends c s _ b m q (map-taken ∙ stopped_by _ _ all_positive b e h) g
+    map-stops b m q e g =
+        stop_sends c s _ b m q (map-taken ∙ stopped_by _ _ all_positive (reason_number b) e (reason_positive b)) g
 
     pub map_joins : (a : ℕ) (m q : List ℕ) → 0 ≡ map_reason s.skeleton.maps n r → a ≡ (map_in n r).address
         → state_of c m ≡ remaps c s (s.skeleton.maps ++ (map_in n r ∷ []))

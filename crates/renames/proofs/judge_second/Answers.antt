@@ -5,7 +5,8 @@ use mathlib.Core.List.{List}
 use mathlib.Core.Path.{◌≡◌, sym, ap, subst, ◌∙◌}
 use lib.ListN.{length, take, drop, length-drop}
 use lib.Seq.{take_all}
-use Rattle.refusals.specs.Numbers.{numbered}
+use Rattle.std.specs.Prelude.{Ok}
+use Rattle.refusals.specs.laws.NumberLaws.{passed_on}
 use Rattle.filesystem.specs.Tables.{NAME_BYTES, PATH_BYTES}
 use Rattle.filesystem.specs.Image.{length_in}
 use Rattle.memory.specs.Layout.{mem_of}
@@ -17,28 +18,28 @@ use Rattle.renames.specs.laws.WalkLaws.{root_refuses}
 use borrow.Author.Rules.{rules}
 use Rattle.renames.proofs.judge_second.Goals as goal
 
-pub slice_bounds-judge_name-count : goal.slice_bounds-judge_name-count
-slice_bounds-judge_name-count c =
+pub slice_bounds-name-count : goal.slice_bounds-name-count
+slice_bounds-name-count c =
     let a = c.args in
     (holds_front a.m.now a.n a.second.now (omega arith) (omega arith) _ _ _
-    c.walk_parent-w.ensures
-    c.in-In.is).0.start_within
+    c.in_ok-place.ensures
+    (ap Ok c.in-Some.is)).0.start_within
 
-pub slice_bounds-judge_name-start : goal.slice_bounds-judge_name-start
-slice_bounds-judge_name-start c =
+pub slice_bounds-name-start : goal.slice_bounds-name-start
+slice_bounds-name-start c =
     let a = c.args in
     let h = (holds_front a.m.now a.n a.second.now (omega arith) (omega arith) _ _ _
-    c.walk_parent-w.ensures c.in-In.is).0.start_within in
+    c.in_ok-place.ensures (ap Ok c.in-Some.is)).0.start_within in
     search rules
 
 pub judge_name-requires : goal.judge_name-requires
 judge_name-requires c =
     let a = c.args in
     let s = a.second.now in
-    let at = c.in-In.start in
+    let at = c.in-Some.place.start in
     let (h, l) = holds_front a.m.now a.n s (omega arith) (omega arith) _ _ _
-    c.walk_parent-w.ensures
-    c.in-In.is in
+    c.in_ok-place.ensures
+    (ap Ok c.in-Some.is) in
     let t : take (length s - at) (drop at s) ≡ drop at s = take_all (length s - at) (drop at s)
     (omega (arith, length-drop at s)) in
     let p = c.requires in (
@@ -51,17 +52,17 @@ judge_name-requires c =
       omega arith,
     )
 
-pub returns-in-In : goal.returns-in-In
-returns-in-In c =
+pub returns-in-Some : goal.returns-in-Some
+returns-in-Some c =
     let a = c.args in
     let s = a.second.now in
     let ns = take a.n (mem_of a.m.now).nodes in
     let n : length ns ≡ a.n = count-nodes a.m.now a.n (omega arith) in
-    let d = c.in-In.parent in
-    let at = c.in-In.start in
+    let d = c.in-Some.place.parent in
+    let at = c.in-Some.place.start in
     let (h, l) = holds_front a.m.now a.n s (omega arith) (omega arith) _ _ _
-    c.walk_parent-w.ensures
-    c.in-In.is in
+    c.in_ok-place.ensures
+    (ap Ok c.in-Some.is) in
     let t : take (length s - at) (drop at s) ≡ drop at s = take_all (length s - at) (drop at s)
     (omega (arith, length-drop at s)) in
     let p = c.requires in record {
@@ -79,22 +80,22 @@ returns-in-In c =
           );
     }
 
-pub returns-in-Err : goal.returns-in-Err
-returns-in-Err c =
-    let a = c.args in record {
-      by_index = λ w sound. sym (second_stops (take a.n (mem_of a.m.now).nodes) a.k a.from a.second.now _
-          (sym c.walk_parent-w.ensures ∙ (ap numbered c.in-Err.is)));
-      fits = λ i j x e. absurd (let z : ◌≡◌ {A = ℕ} 0 1 = cc in omega arith);
+pub returns-in_err-place : goal.returns-in_err-place
+returns-in_err-place c =
+    let a = c.args in
+    let g = passed_on _ _ c.from_residual.ensures.1 in record {
+      by_index = λ w sound. g ∙ sym (second_stops (take a.n (mem_of a.m.now).nodes) a.k a.from a.second.now _
+          (sym c.in_err-place.ensures));
+      fits = λ i j x e. let q = sym g ∙ e in absurd (let z : ◌≡◌ {A = ℕ} 0 1 = cc in omega arith);
     }
 
-pub returns-in-Root : goal.returns-in-Root
-returns-in-Root c =
+pub returns-in-None : goal.returns-in-None
+returns-in-None c =
     let a = c.args in
     let ns = take a.n (mem_of a.m.now).nodes in
     let n : length ns ≡ a.n = count-nodes a.m.now a.n (omega arith) in record {
       by_index = λ w sound.
           c.root_name.ensures
-          ∙ sym (second_root ns a.k a.from a.second.now (omega arith)
-          (sym c.walk_parent-w.ensures ∙ c.in-Root.is));
+          ∙ sym (second_root ns a.k a.from a.second.now (omega arith) (sym c.in_ok-place.ensures ∙ ap Ok c.in-None.is));
       fits = λ i j x e. absurd (root_refuses a.k i j x (sym c.root_name.ensures ∙ e));
     }

@@ -34,10 +34,13 @@ use Rattle.outcomes.specs.Sent.{Sends}
 use Rattle.outcomes.specs.laws.SentLaws.{refusal_sends, request_sends, finish_sends}
 use Rattle.path_calls.specs.Judged.{judged}
 use Rattle.path_calls.specs.laws.BegunLaws.{both-judged}
-use Rattle.renames.specs.Judged.{judged_both, renaming_for}
+use Rattle.renames.specs.Judged.{moved, judged_both, renaming_for}
 use Rattle.renames.specs.Begun.{rename_begun}
-use Rattle.renames.specs.declared.Renaming.{Renaming}
-use Rattle.renames.specs.declared.Renaming.TheVariants.{Move, Same, Refused}
+use Rattle.refusals.specs.Numbers.{Judged, number_of}
+use Rattle.refusals.specs.declared.Refusal.{Refusal}
+use Rattle.renames.specs.laws.NameLaws.{node_in, parent_in, start_in}
+use Rattle.renames.specs.declared.Move.{Move}
+use Rattle.std.specs.Prelude.{Option as Maybe, Some, None, Ok, Err}
 
 -- two answers by the same checks
 module _ {A B : Type 0} (F : A → B → Type 0) (a : ℕ → A) (b : ℕ → B) (stop : (n : ℕ) → F (a n) (b n)) where
@@ -75,30 +78,30 @@ module _ (first second : List ℕ) (t : Tables) (w : ℕ) where
   abbrev sent : (k d at : ℕ) → Step
   sent k d at = send (asked (renaming k (node_at t.nodes d).id (drop at second))) (rename_request first second)
 
-  record Says (r : Renaming) (m : Step) : Type 0 where
-    refuses : (n : ℕ) → r ≡ Refused n → m ≡ refuse n
-    same : r ≡ Same → m ≡ finish t 0 []
-    moves : (k d at : ℕ) → r ≡ Move k d at → m ≡ sent k d at
+  record Says (r : Judged (Maybe Move)) (m : Step) : Type 0 where
+    refuses : (n : ℕ) → r ≡ Err n → m ≡ refuse n
+    same : r ≡ (Ok None) → m ≡ finish t 0 []
+    moves : (k d at : ℕ) → r ≡ moved k d at → m ≡ sent k d at
 
-  says_refused : (n : ℕ) → Says (Refused n) (refuse n)
+  says_refused : (n : ℕ) → Says (Err n) (refuse n)
   says_refused n = record {
     refuses = λ k e. let z : n ≡ k = cc in ap refuse z;
     same = λ e. absurd (let z : ◌≡◌ {A = ℕ} 0 1 = cc in omega arith);
     moves = λ k d at e. absurd (let z : ◌≡◌ {A = ℕ} 0 1 = cc in omega arith);
   }
 
-  says_same : Says Same (finish t 0 [])
+  says_same : Says (Ok None) (finish t 0 [])
   says_same = record {
     refuses = λ n e. absurd (let z : ◌≡◌ {A = ℕ} 0 1 = cc in omega arith);
     same = λ e. refl;
     moves = λ k d at e. absurd (let z : ◌≡◌ {A = ℕ} 0 1 = cc in omega arith);
   }
 
-  says_moves : (k d at : ℕ) → Says (Move k d at) (sent k d at)
+  says_moves : (k d at : ℕ) → Says (moved k d at) (sent k d at)
   says_moves k d at = record {
     refuses = λ n e. absurd (let z : ◌≡◌ {A = ℕ} 0 1 = cc in omega arith);
     same = λ e. absurd (let z : ◌≡◌ {A = ℕ} 0 1 = cc in omega arith);
-    moves = λ i j x e. let u : k ≡ i = cc in let v : d ≡ j = cc in let y : at ≡ x = cc in
+    moves = λ i j x e. let u = ap node_in e in let v = ap parent_in e in let y = ap start_in e in
         λ z. sent (u z) (v z) (y z);
   }
 
@@ -115,33 +118,33 @@ module _ (first second : List ℕ) (t : Tables) (w : ℕ) where
       (judged_both refuse (λ p q. call_checks t (rename p q)) (λ p q. call_action t w (rename p q)) first second)
   unfolding renaming_for call_action
   says =
-      two-judged Says Refused refuse says_refused _ _ _ first second
+      two-judged Says Err refuse says_refused _ _ _ first second
       (λ p q e f. pick-both Says (same_path t p q) (λ _. says_same) (λ _.
       let k = walk t.nodes 0 p in
       let d = parent_of t.nodes 0 q in
-      subst (Says (Move k d (length second - length (last_of q))))
+      subst (Says (moved k d (length second - length (last_of q))))
       (λ i. send (asked (renaming k (node_at t.nodes d).id (name-at second q f i))) (goes_out p q e f i))
       (says_moves k d (length second - length (last_of q)))))
 
-module _ (first second : List ℕ) (c : Config) (s : State (digest_store c)) (r : Renaming)
+module _ (first second : List ℕ) (c : Config) (s : State (digest_store c)) (r : Judged (Maybe Move))
     (e : r ≡ renaming_for s.skeleton.tables first second) where
   abbrev t : Tables
   t = s.skeleton.tables
 
-  pub rename_refused : (n : ℕ) (m q : List ℕ) → r ≡ Refused n → state_of c m ≡ s
-      → Sends c (rename_begun c s first second) (refused_with n) m q q
+  pub rename_refused : (b : Refusal) (m q : List ℕ) → r ≡ Err (number_of b) → state_of c m ≡ s
+      → Sends c (rename_begun c s first second) (refused_with b) m q q
   unfolding rename_begun
-  rename_refused n m q f g =
-      refusal_sends c s _ n m q ((says first second t c.width).refuses n (sym e ∙ f)) g
+  rename_refused b m q f g =
+      refusal_sends c s _ b m q ((says first second t c.width).refuses (number_of b) (sym e ∙ f)) g
 
-  pub rename_same : (m q : List ℕ) (o : Outcome) → r ≡ Same → state_of c m ≡ ends c s t s.contents
+  pub rename_same : (m q : List ℕ) (o : Outcome) → r ≡ (Ok None) → state_of c m ≡ ends c s t s.contents
       → o ≡ done_with 0 0 → Sends c (rename_begun c s first second) o m q q
   unfolding rename_begun
   rename_same m q o f g u =
       subst (λ (x : Outcome). Sends c (rename_begun c s first second) x m q q) (sym u)
       (finish_sends c s _ t 0 m q ((says first second t c.width).same (sym e ∙ f)) g)
 
-  pub rename_sends : (k d at : ℕ) (m q q' : List ℕ) (o : Outcome) → r ≡ Move k d at
+  pub rename_sends : (k d at : ℕ) (m q q' : List ℕ) (o : Outcome) → r ≡ moved k d at
       → state_of c m ≡ waits c s (asked (renaming k (node_at t.nodes d).id (drop at second))) gathered_none
       → q' ≡ at_front (rename_request first second) q → o ≡ Ask (length (rename_request first second))
       → length (rename_request first second) ≤ length q → Sends c (rename_begun c s first second) o m q q'
@@ -163,7 +166,7 @@ module _ (c : Config) (m : List ℕ) (n : ℕ) (counted : n ≡ (numbers_of (mem
       h.holds.valid.tables.nodes_valid.sound).has-root in
       omega (arith, nodes-count c m)
 
-  pub judged-here : (r : Renaming) (first second : List ℕ)
+  pub judged-here : (r : Judged (Maybe Move)) (first second : List ℕ)
       → ((w o : ℕ) → sound_nodes w (take n (mem_of m).nodes) ≡ true
       → r ≡ renaming_for (tables_in n o (mem_of m)) first second)
       → r ≡ renaming_for (state_of c m).skeleton.tables first second

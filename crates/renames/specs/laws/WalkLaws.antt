@@ -23,43 +23,44 @@ use Rattle.rules.specs.Calls.{rename}
 use Rattle.rules.specs.Rules.{call_checks, is_none}
 use Rattle.rules.proofs.Lengths.{path_short}
 use Rattle.paths.specs.Parts.{components_of}
-use Rattle.paths.specs.PathForms.{forms_of}
+use Rattle.paths.specs.PathForms.{forms_of, refusal_for}
 use Rattle.paths.specs.Walks.{walked, placed}
 use Rattle.paths.specs.laws.PartsLaws.{Some, some as more}
 use Rattle.paths.specs.laws.FormAnswers.{read_components, forms_malformed, forms_long, forms_good}
 use Rattle.paths.specs.laws.WalkAnswers.{Holds, placed_none, placed-stops, placed_goes, walked_refused, walked-node}
+use Rattle.paths.specs.declared.PathFault.{PathFault}
 use Rattle.paths.specs.declared.PathFault.TheVariants.{Malformed, TooLong}
-use Rattle.paths.specs.declared.Placed.TheVariants.{Root, Refused as refused_place}
 use Rattle.std.specs.Prelude.{Err}
 use Rattle.path_calls.specs.Ways.{at_way}
 use Rattle.path_calls.specs.Judged.{judged}
 use Rattle.path_calls.specs.Ways.{walked_both}
 use Rattle.path_calls.specs.laws.ReachedLaws.{form_check, judged-decide, way_at, way_refused, holder-place, last-short}
-use Rattle.renames.specs.Judged.{judged_both, renaming_for, own_checks, own_answer, name_own, root_name, second_own}
+use Rattle.renames.specs.Judged.{moved, judged_both, renaming_for, own_checks, own_answer, name_own, root_name, second_own}
 use Rattle.renames.specs.Judged.{walks_own, Short}
-use Rattle.renames.specs.declared.Renaming.{Renaming}
-use Rattle.renames.specs.declared.Renaming.TheVariants.{Move, Refused}
+use Rattle.refusals.specs.Numbers.{Judged, number_of}
+use Rattle.renames.specs.declared.Move.{Move}
+use Rattle.std.specs.Prelude.{Option as Maybe, None, Ok, Err}
 
 -- the second walk
 module _ (ns : List Node) (k from : ℕ) (t : List ℕ) where
-  pub second_stops : (b : ℕ) → placed ns t ≡ Err b → second_own ns k from t ≡ Refused b
+  pub second_stops : (b : ℕ) → placed ns t ≡ Err b → second_own ns k from t ≡ Err b
   unfolding second_own
-  second_stops b e = placed-stops ns t Refused _ _ b e
+  second_stops b e = placed-stops ns t Err _ _ b e
 
-  pub second_root : 0 < length ns → placed ns t ≡ Root → second_own ns k from t ≡ root_name k
+  pub second_root : 0 < length ns → placed ns t ≡ Ok None → second_own ns k from t ≡ root_name k
   unfolding second_own root_name
   second_root h e = go (components_of t) (placed_none ns t e) (is (eqb k 0))
     where
       go : (q : Path) → q ≡ [] → Is (eqb k 0)
-          → decide Refused (parent_checks ns 0 q ++ own_checks ns k from (parent_of ns 0 q) (walk ns 0 q) (last_of q))
+          → decide Err (parent_checks ns 0 q ++ own_checks ns k from (parent_of ns 0 q) (walk ns 0 q) (last_of q))
           (own_answer ns k from (parent_of ns 0 q) (walk ns 0 q) (last_of q) (length t - length (last_of q)))
-          ≡ pick (eqb k 0) (Refused 16) (Refused 17)
+          ≡ pick (eqb k 0) (Err 16) (Err 17)
       go [] q (is_t r) =
-          unfold parent_checks in check_stops Refused 16 _ _ _ r ∙ sym (pick_true (eqb k 0) _ _ r)
+          unfold parent_checks in check_stops Err 16 _ _ _ r ∙ sym (pick_true (eqb k 0) _ _ r)
       go [] q (is_f r) =
           unfold parent_checks walk in
-          check_passes Refused 16 _ _ _ r
-          ∙ check_stops Refused 17 _ _ _
+          check_passes Err 16 _ _ _ r
+          ∙ check_stops Err 17 _ _ _
           (ap (λ x. not x && present ns 0) (ne_eqb 0 k (λ z. eqb-false k 0 r (sym z)))
           ∙ ap not (lt-leb (length ns) 0 h))
           ∙ sym (pick-false (eqb k 0) _ _ r)
@@ -77,8 +78,8 @@ module _ (ns : List Node) (k from : ℕ) (t : List ℕ) where
       ∙ (λ i. child_at ns (h.parent i) (h.last i)) in
       let j : length t - length (last_of q) ≡ at = ap (λ (c : List ℕ). length t - length c) h.last
       ∙ omega (arith, length-drop at t, h.start_within) in
-      placed_goes ns t Refused _ _ d at h
-      ∙ (λ i. decide Refused (own_checks ns k from (h.parent i) (e i) (h.last i))
+      placed_goes ns t Err _ _ d at h
+      ∙ (λ i. decide Err (own_checks ns k from (h.parent i) (e i) (h.last i))
       (own_answer ns k from (h.parent i) (e i) (h.last i) (j i)))
 
   -- what is known of the directory and the name
@@ -107,17 +108,17 @@ module _ (ns : List Node) (k from : ℕ) (t : List ℕ) where
           (subst (λ (n : List ℕ). length_in ns (parent_of ns 0 (c ∷ cs)) n ≤ PATH_BYTES) l (omega arith))
       go [] x5 a e l b = elim x5 [ ]
 
-pub root_refuses : (k i j x : ℕ) → root_name k ≡ Move i j x → ⊥
+pub root_refuses : (k i j x : ℕ) → root_name k ≡ moved i j x → ⊥
 unfolding root_name pick
-root_refuses k i j x = pick_ind (λ (r : Renaming). r ≡ Move i j x → ⊥) (eqb k 0)
+root_refuses k i j x = pick_ind (λ (r : Judged (Maybe Move)). r ≡ moved i j x → ⊥) (eqb k 0)
     (λ _ e. let z : ◌≡◌ {A = ℕ} 0 1 = cc in omega arith) (λ _ e. let z : ◌≡◌ {A = ℕ} 0 1 = cc in omega arith)
 
 -- the first walk
 module _ (ns : List Node) (s t : List ℕ) where
-  pub walks_stop : (b : ℕ) → walked_both ns (components_of s) ≡ Err b → walks_own ns s t ≡ Refused b
+  pub walks_stop : (b : ℕ) → walked_both ns (components_of s) ≡ Err b → walks_own ns s t ≡ Err b
   unfolding walked_both walks_own
   walks_stop b e =
-      decide-first Refused _ (walked_refused ns (components_of s) b
+      decide-first Err _ (walked_refused ns (components_of s) b
       (way_refused (parent_of ns 0 (components_of s)) (walked ns (components_of s)) b e))
 
   pub walks_go : (k d : ℕ) → 0 < length ns → walked_both ns (components_of s) ≡ at_way k d
@@ -127,7 +128,7 @@ module _ (ns : List Node) (s t : List ℕ) where
       let p = components_of s in
       let (x, y) = way_at (parent_of ns 0 p) (walked ns p) k d e in
       let r = walked-node ns p k h x in (
-        decide_passed Refused (walk_checks ns 0 p) _ r.passed ∙ (λ i. second_own ns (r.node-place i) (y i) t),
+        decide_passed Err (walk_checks ns 0 p) _ r.passed ∙ (λ i. second_own ns (r.node-place i) (y i) t),
         r.node_within,
         subst (λ i. i < length ns) y (holder-place ns p r.passed h),
       )
@@ -151,40 +152,44 @@ module _ {A : Type 0} (stop : ℕ → A) (checks : Path → Path → List Check)
           (sym (read_components s p r))
 
 module _ (x : Tables) (s t : List ℕ) where
-  pub renaming_malformed : forms_of s t ≡ Malformed → renaming_for x s t ≡ Refused 22
+  pub renaming_malformed : forms_of s t ≡ Err Malformed → renaming_for x s t ≡ Err 22
   unfolding renaming_for is_none
-  renaming_malformed e = both-decide Refused _ _ s t ∙ go _ (forms_malformed s t e) (is (is_none (read_path s)))
+  renaming_malformed e = both-decide Err _ _ s t ∙ go _ (forms_malformed s t e) (is (is_none (read_path s)))
     where
-      go : (a : Renaming) → (read_path s ≡ none) ⊎ (read_path t ≡ none) → Is (is_none (read_path s))
-          → decide Refused (form_check s ∷ form_check t ∷ call_checks x (rename (components_of s) (components_of t))) a
-          ≡ Refused 22
-      go a o (is_t r) = check_stops Refused 22 _ _ _ r
-      go a (inl o) (is_f r) = check_stops Refused 22 _ _ _ (ap is_none o)
-      go a (inr o) (is_f r) = check_passes Refused 22 _ _ _ r ∙ check_stops Refused 22 _ _ _ (ap is_none o)
+      go : (a : Judged (Maybe Move)) → (read_path s ≡ none) ⊎ (read_path t ≡ none) → Is (is_none (read_path s))
+          → decide Err (form_check s ∷ form_check t ∷ call_checks x (rename (components_of s) (components_of t))) a
+          ≡ Err 22
+      go a o (is_t r) = check_stops Err 22 _ _ _ r
+      go a (inl o) (is_f r) = check_stops Err 22 _ _ _ (ap is_none o)
+      go a (inr o) (is_f r) = check_passes Err 22 _ _ _ r ∙ check_stops Err 22 _ _ _ (ap is_none o)
 
-  pub renaming-long : forms_of s t ≡ Long → renaming_for x s t ≡ Refused 36
+  pub renaming-long : forms_of s t ≡ Err TooLong → renaming_for x s t ≡ Err 36
   unfolding renaming_for is_none call_checks
   renaming-long e =
       let (a, b, c) = forms_long s t e in
-      both-decide Refused _ _ s t ∙ check_passes Refused 22 _ _ _ (ap is_none a)
-      ∙ check_passes Refused 22 _ _ _ (ap is_none b) ∙ go _ c
+      both-decide Err _ _ s t ∙ check_passes Err 22 _ _ _ (ap is_none a)
+      ∙ check_passes Err 22 _ _ _ (ap is_none b) ∙ go _ c
     where
-      go : (a : Renaming) → (too_long (components_of s) ≡ true) ⊎ ((too_long (components_of s) ≡ false)
+      go : (a : Judged (Maybe Move)) → (too_long (components_of s) ≡ true) ⊎ ((too_long (components_of s) ≡ false)
           × (too_long (components_of t) ≡ true))
-          → decide Refused (call_checks x (rename (components_of s) (components_of t))) a ≡ Refused 36
-      go a (inl o) = check_stops Refused 36 _ _ _ o
-      go a (inr (o, u)) = check_passes Refused 36 _ _ _ o ∙ check_stops Refused 36 _ _ _ u
+          → decide Err (call_checks x (rename (components_of s) (components_of t))) a ≡ Err 36
+      go a (inl o) = check_stops Err 36 _ _ _ o
+      go a (inr (o, u)) = check_passes Err 36 _ _ _ o ∙ check_stops Err 36 _ _ _ u
 
-  pub renaming_good : forms_of s t ≡ Good → renaming_for x s t ≡ walks_own x.nodes s t
+  pub renaming_fault : (f : PathFault) → forms_of s t ≡ Err f → renaming_for x s t ≡ Err (number_of (refusal_for f))
+  renaming_fault Malformed e = renaming_malformed e
+  renaming_fault TooLong e = renaming-long e
+
+  pub renaming_good : forms_of s t ≡ Ok tt → renaming_for x s t ≡ walks_own x.nodes s t
   unfolding renaming_for is_none call_checks walks_own second_own
   renaming_good e =
       let (a, b, c, d) = forms_good s t e in
-      both-decide Refused _ _ s t ∙ check_passes Refused 22 _ _ _ (ap is_none a)
-      ∙ check_passes Refused 22 _ _ _ (ap is_none b)
-      ∙ check_passes Refused 36 _ _ _ c ∙ check_passes Refused 36 _ _ _ d
-      ∙ decide-append Refused (walk_checks x.nodes 0 (components_of s)) _ _
+      both-decide Err _ _ s t ∙ check_passes Err 22 _ _ _ (ap is_none a)
+      ∙ check_passes Err 22 _ _ _ (ap is_none b)
+      ∙ check_passes Err 36 _ _ _ c ∙ check_passes Err 36 _ _ _ d
+      ∙ decide-append Err (walk_checks x.nodes 0 (components_of s)) _ _
 
-  pub both-short : forms_of s t ≡ Good → Short s × Short t
+  pub both-short : forms_of s t ≡ Ok tt → Short s × Short t
   both-short e =
       let (a, b, c, d) = forms_good s t e in
       ((short s a c, a, c), (short t b d, b, d))
