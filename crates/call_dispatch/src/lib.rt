@@ -10,6 +10,8 @@ ghost use Rattle.path_calls.specs.Begun.{BeginsPath};
 ghost use Rattle.call_dispatch.specs.Called.{Calls};
 
 use limits::kinds;
+use outcomes::Outcome;
+use refusals::Refusal;
 
 // A call by path, by its kind. A memory without a node holds no guard.
 fn begin_by_path(
@@ -18,12 +20,12 @@ fn begin_by_path(
     number: u8,
     path: &[u8],
     request: &mut [u8],
-) -> outcomes::Outcome
+) -> Outcome
     requires { NumberFits kind number × IsMemory m.old × HoldsRequest request.old }
     ensures { BeginsPath m request path.now (made_by kind number) result }
 {
     if guard_state::node_count(m) == 0 {
-        return outcomes::Outcome::Refused(34);
+        return Outcome::Refused(Refusal::ShortBuffer);
     }
     match kind {
         kinds::CREATE => creations::begin_new(m, kind, number, path, request),
@@ -37,7 +39,7 @@ fn begin_by_path(
     }
 }
 
-pub fn begin_call(m: &mut [u8], call: &[u8], request: &mut [u8]) -> outcomes::Outcome
+pub fn begin_call(m: &mut [u8], call: &[u8], request: &mut [u8]) -> Outcome
     requires { IsMemory m.old × HoldsRequest request.old }
     ensures { Calls m request call.now result }
 {
@@ -75,6 +77,6 @@ pub fn begin_call(m: &mut [u8], call: &[u8], request: &mut [u8]) -> outcomes::Ou
             &call[second..],
             request,
         ),
-        call_reader::ParsedCall::Malformed => outcomes::Outcome::Refused(22),
+        call_reader::ParsedCall::Malformed => Outcome::Refused(Refusal::Invalid),
     }
 }

@@ -21,6 +21,8 @@ use Rattle.machine.specs.Machine.{State, Result, step, fresh, guard as digest_st
 use Rattle.machine.specs.Consistent.{Consistent}
 use Rattle.read_only.specs.ReadOnly.{takes, read_only_step}
 use Rattle.guard_state.specs.State.{state_of}
+use Rattle.refusals.specs.declared.Refusal.TheVariants.{ShortBuffer}
+use Rattle.refusals.specs.declared.StopReason.{StopReason}
 use Rattle.outcomes.specs.declared.Outcome.{Outcome}
 use Rattle.outcomes.specs.declared.Outcome.TheVariants.{Done, Ask, Refused, Stopped}
 use Rattle.outcomes.specs.Values.{answer_in, kind_of, value_of, length_of, bytes_in}
@@ -52,8 +54,7 @@ first_of busy quiet sk = pick sk.stopped 5 (pick (is_idle sk.pending) quiet busy
 
 -- Nothing is asked where one of the first numbers refuses the event (5; 114 or 61; then 34 of a call or a reply), and
 -- nothing of a load; of a save that there are no more pages than the limit. A call or a reply that goes on asks that
--- the
--- state is consistent.
+-- the state is consistent.
 unfoldable pub Ready : GuardState → Event → Type 0
 Ready s (call b a q) = first_of 114 0 s.skeleton ≡ 0 → answer_length delivered ≤ a → request_length delivered ≤ q
     → Consistent delivered s
@@ -85,7 +86,7 @@ buffers a q = record { answer = a; request = q }
 pub record EntersAs (R : Type 0) (x : GuardResult) (r : Outcome) (s' : GuardState) (b b' : Buffers) : Type 0 where
   pub steps : R → StepsAs x r s' b'.answer b'.request
   pub buffers_after_lem : R → b' ≡ buffers_after x.outcome.answer b
-  pub stops : (n : ℕ) → r ≡ Stopped n → s'.skeleton.stopped ≡ true
+  pub stops : (e : StopReason) → r ≡ Stopped e → s'.skeleton.stopped ≡ true
 
 pub record PromiseAs (m : List ℕ) (e : Event) (R : Type 0) (x : GuardResult) (r : Outcome) (m' : List ℕ)
     (b b' : Buffers) : Type 0 where
@@ -93,7 +94,7 @@ pub record PromiseAs (m : List ℕ) (e : Event) (R : Type 0) (x : GuardResult) (
   pub own : Own m m'
   pub enters : memory_size ≤ length m → EntersAs R x r (held m') b b'
   -- a memory that is too short is refused
-  pub short : length m < memory_size → (r ≡ Refused 34) × (m' ≡ m) × (b' ≡ b)
+  pub short : length m < memory_size → (r ≡ Refused ShortBuffer) × (m' ≡ m) × (b' ≡ b)
 
 -- the guard's
 abbrev pub Enters : GuardState → Event → Outcome → GuardState → (b b' : Buffers) → Type 0
@@ -120,7 +121,7 @@ pub record FreshPromise (m : List ℕ) (r : Outcome) (m' : List ℕ) : Type 0 wh
   pub own : Own m m'
   pub done : memory_size ≤ length m → r ≡ Done 0 0
   pub state : memory_size ≤ length m → held m' ≡ fresh delivered (digest_store delivered)
-  pub short : length m < memory_size → (r ≡ Refused 34) × (m' ≡ m)
+  pub short : length m < memory_size → (r ≡ Refused ShortBuffer) × (m' ≡ m)
 
 -- Of a save: the image buffer and the digest's 32 bytes, before i and d, afterwards i' and d'. A refused save leaves
 -- both alone.
@@ -133,24 +134,18 @@ pub record SavePromise (m : List ℕ) (r : Outcome) (m' i i' d d' : List ℕ) : 
   pub own : Own m m'
   pub room : length d ≡ DIGEST_BYTES
   pub saves : memory_size ≤ length m → Ready (held m) (save (length i)) → Saving (held m) r (held m') i i' d d'
-  pub short : length m < memory_size → (r ≡ Refused 34) × (m' ≡ m) × (i' ≡ i) × (d' ≡ d)
+  pub short : length m < memory_size → (r ≡ Refused ShortBuffer) × (m' ≡ m) × (i' ≡ i) × (d' ≡ d)
 
 -- Of a load of image i, of the current version, with digest d.
 pub record LoadPromise (m i d : List ℕ) (r : Outcome) (m' : List ℕ) : Type 0 where
   pub bytes : EventBytes (load current i d)
   pub own : Own m m'
   pub loads : memory_size ≤ length m → Steps (held m) (load current i d) r (held m') [] []
-  pub short : length m < memory_size → (r ≡ Refused 34) × (m' ≡ m)
+  pub short : length m < memory_size → (r ≡ Refused ShortBuffer) × (m' ≡ m)
 
 -- What C sees of an outcome.
 unfoldable pub shown_as : Outcome → GuardOutcome
 shown_as o = record { kind = pos (kind_of o); number = value_of o; length = length_of o }
-
-abbrev pub NotDone : Outcome → Type 0
-NotDone o = (number bytes : ℕ) → o ≡ Done number bytes → ⊥
-
-abbrev pub NotAsked : Outcome → Type 0
-NotAsked o = (bytes : ℕ) → o ≡ Ask bytes → ⊥
 
 pub record Shown (P : Outcome → Type 0) (r : GuardOutcome) : Type 0 where
   pub outcome : Outcome

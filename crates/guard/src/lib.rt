@@ -10,13 +10,16 @@ ghost use Rattle.rules.specs.Skeleton.{call, reply, save, load, answer_length, r
 ghost use Rattle.machine.specs.Machine.{fresh, guard as digest_store};
 ghost use Rattle.configuration.specs.Delivered.{delivered};
 ghost use Rattle.numbers.specs.Slices.{KeepsLength};
+ghost use Rattle.refusals.specs.Numbers.{number_or_0};
 ghost use Rattle.memory.specs.Memories.{IsMemory};
 ghost use Rattle.outcomes.specs.Sent.{settled};
 ghost use Rattle.guard.specs.Entries.{Takes, Called, Replied, Saved, Loaded, MadeFresh};
 ghost use Rattle.guard.specs.Numbers.{waits};
-ghost use Rattle.guard.specs.Promise.{held, first_of, Ready, Steps, Saving, Shown, NotDone, NotAsked, shown_as};
+ghost use Rattle.guard.specs.Promise.{held, first_of, Ready, Steps, Saving, Shown, shown_as};
 
 use guard_state::Guard;
+use outcomes::Outcome;
+use refusals::Refusal;
 
 pub mod reader;
 
@@ -26,8 +29,7 @@ pub const ANSWER_LENGTH: usize = outcomes::ANSWER_LENGTH;
 pub const REQUEST_LENGTH: usize = requests::STORE_LENGTH;
 
 // What C sees of an outcome: 0 done, 1 a request, 2 refused, 3 stopped; its number; how many bytes stand at the front
-// of
-// the answer or the request buffer.
+// of the answer or the request buffer. Numbers, not an enum: include/guard.h has them.
 #[repr(C)]
 #[derive(Clone, Copy)]
 pub struct GuardOutcome {
@@ -42,22 +44,18 @@ pub struct GuardOutcome {
 fn is_pending(number: u64) -> bool
     ensures { result ≡ waits number }
 {
-    if number == guard_state::calls::IDLE {
-        return false;
-    }
-    number <= guard_state::calls::LAST
+    number != guard_state::calls::IDLE && number <= guard_state::calls::LAST
 }
 
 // Why an event is refused before what it hands in is looked at: 5, then `busy` where a call is pending and `quiet`
-// where
-// none is. 0: it goes on.
-fn first_number(m: &[u8], busy: u8, quiet: u8) -> u8
+// where none is.
+fn first_refusal(m: &[u8], busy: Option<Refusal>, quiet: Option<Refusal>) -> Option<Refusal>
     requires { IsMemory m.now }
-    ensures { result ≡ first_of busy quiet (held m.now).skeleton }
+    ensures { number_or_0 result ≡ first_of (number_or_0 busy) (number_or_0 quiet) (held m.now).skeleton }
 {
     let g = Guard::load(m);
     if g.stopped {
-        return 5;
+        return Some(Refusal::Stopped);
     }
     if is_pending(g.call) {
         return busy;
@@ -69,19 +67,16 @@ fn first_number(m: &[u8], busy: u8, quiet: u8) -> u8
 fn is_short(answer: usize, request: usize) -> bool
     ensures { result ≡ (ltb answer (answer_length delivered) || ltb request (request_length delivered)) }
 {
-    if answer < ANSWER_LENGTH {
-        return true;
-    }
-    request < REQUEST_LENGTH
+    answer < ANSWER_LENGTH || request < REQUEST_LENGTH
 }
 
 // The one place where the guard stops: whichever branch found a reason, it is for good.
-fn settle(m: &mut [u8], o: outcomes::Outcome) -> outcomes::Outcome
+fn settle(m: &mut [u8], o: Outcome) -> Outcome
     requires { IsMemory m.old }
     ensures value { (result ≡ o) × (held m.new ≡ settled delivered o (held m.old)) }
     ensures keeps_length { KeepsLength m }
 {
-    let outcomes::Outcome::Stopped(reason) = o else {
+    let Outcome::Stopped(reason) = o else {
         return o;
     };
     guard_state::stop(m);
@@ -89,17 +84,16 @@ fn settle(m: &mut [u8], o: outcomes::Outcome) -> outcomes::Outcome
 }
 
 // A call: 5, 114, 34, then what its bytes say.
-fn take_call(m: &mut [u8], bytes: &[u8], answer: &mut [u8], request: &mut [u8]) -> outcomes::Outcome
+fn take_call(m: &mut [u8], bytes: &[u8], answer: &mut [u8], request: &mut [u8]) -> Outcome
     requires { IsMemory m.old }
     ensures takes { Takes call m bytes.now answer request result }
     ensures keeps_length { KeepsLength m }
 {
-    let b = first_number(m, 114, 0);
-    if b != 0 {
-        return outcomes::Outcome::Refused(b);
+    if let Some(refusal) = first_refusal(m, Some(Refusal::Pending), None) {
+        return Outcome::Refused(refusal);
     }
     if is_short(answer.len(), request.len()) {
-        return outcomes::Outcome::Refused(34);
+        return Outcome::Refused(Refusal::ShortBuffer);
     }
     let o = call_dispatch::begin_call(m, bytes, request);
     settle(m, o)
@@ -111,47 +105,44 @@ fn take_reply(
     bytes: &[u8],
     answer: &mut [u8],
     request: &mut [u8],
-) -> outcomes::Outcome
+) -> Outcome
     requires { IsMemory m.old }
     ensures takes { Takes reply m bytes.now answer request result }
     ensures keeps_length { KeepsLength m }
 {
-    let b = first_number(m, 0, 61);
-    if b != 0 {
-        return outcomes::Outcome::Refused(b);
+    if let Some(refusal) = first_refusal(m, None, Some(Refusal::NotPending)) {
+        return Outcome::Refused(refusal);
     }
     if is_short(answer.len(), request.len()) {
-        return outcomes::Outcome::Refused(34);
+        return Outcome::Refused(Refusal::ShortBuffer);
     }
     let o = reply_dispatch::accept_reply(m, bytes, answer, request);
     settle(m, o)
 }
 
 // A save: 5, 114, then 16, 34, or the image and its digest.
-fn take_save(m: &mut [u8], image: &mut [u8], digest: &mut [u8]) -> outcomes::Outcome
+fn take_save(m: &mut [u8], image: &mut [u8], digest: &mut [u8]) -> Outcome
     requires { (length digest.old ≡ DIGEST_BYTES) × IsMemory m.old }
     ensures saving { Ready (held m.old) (save (length image.old))
         → Saving (held m.old) result (held m.new) image.old image.new
         digest.old digest.new }
     ensures keeps_length { KeepsLength m }
 {
-    let b = first_number(m, 114, 0);
-    if b != 0 {
-        return outcomes::Outcome::Refused(b);
+    if let Some(refusal) = first_refusal(m, Some(Refusal::Pending), None) {
+        return Outcome::Refused(refusal);
     }
     saves::save(m, image, digest)
 }
 
 // A load: 5, 114, then 16, 74, 84, or the image's tables.
-fn take_load(m: &mut [u8], image: &[u8], digest: &[u8]) -> outcomes::Outcome
+fn take_load(m: &mut [u8], image: &[u8], digest: &[u8]) -> Outcome
     requires { IsMemory m.old }
     ensures steps { Steps (held m.old) (load current image.now digest.now) result
         (held m.new) [] [] }
     ensures keeps_length { KeepsLength m }
 {
-    let b = first_number(m, 114, 0);
-    if b != 0 {
-        return outcomes::Outcome::Refused(b);
+    if let Some(refusal) = first_refusal(m, Some(Refusal::Pending), None) {
+        return Outcome::Refused(refusal);
     }
     saves::load(m, image, digest)
 }
@@ -163,11 +154,11 @@ pub fn on_call(
     bytes: &[u8],
     answer: &mut [u8],
     request: &mut [u8],
-) -> outcomes::Outcome
+) -> Outcome
     ensures { Called memory bytes.now answer request result }
 {
     if memory.len() < memory::SIZE {
-        return outcomes::Outcome::Refused(34);
+        return Outcome::Refused(Refusal::ShortBuffer);
     }
     take_call(&mut memory[..memory::SIZE], bytes, answer, request)
 }
@@ -177,22 +168,22 @@ pub fn on_reply(
     bytes: &[u8],
     answer: &mut [u8],
     request: &mut [u8],
-) -> outcomes::Outcome
+) -> Outcome
     ensures { Replied memory bytes.now answer request result }
 {
     if memory.len() < memory::SIZE {
-        return outcomes::Outcome::Refused(34);
+        return Outcome::Refused(Refusal::ShortBuffer);
     }
     take_reply(&mut memory[..memory::SIZE], bytes, answer, request)
 }
 
 // A part of its own, over a slice: of a reference to an array a proof learns the length where it is lent as one.
-fn save_into(memory: &mut [u8], image: &mut [u8], digest: &mut [u8]) -> outcomes::Outcome
+fn save_into(memory: &mut [u8], image: &mut [u8], digest: &mut [u8]) -> Outcome
     requires { length digest.old ≡ DIGEST_BYTES }
     ensures { Saved memory image digest result }
 {
     if memory.len() < memory::SIZE {
-        return outcomes::Outcome::Refused(34);
+        return Outcome::Refused(Refusal::ShortBuffer);
     }
     take_save(&mut memory[..memory::SIZE], image, digest)
 }
@@ -201,17 +192,17 @@ pub fn on_save(
     memory: &mut [u8],
     image: &mut [u8],
     digest: &mut [u8; Guard::DIGEST_BYTES],
-) -> outcomes::Outcome
+) -> Outcome
     ensures { Saved memory image digest result }
 {
     save_into(memory, image, digest)
 }
 
-pub fn on_load(memory: &mut [u8], image: &[u8], digest: &[u8]) -> outcomes::Outcome
+pub fn on_load(memory: &mut [u8], image: &[u8], digest: &[u8]) -> Outcome
     ensures { Loaded memory image.now digest.now result }
 {
     if memory.len() < memory::SIZE {
-        return outcomes::Outcome::Refused(34);
+        return Outcome::Refused(Refusal::ShortBuffer);
     }
     take_load(&mut memory[..memory::SIZE], image, digest)
 }
@@ -225,14 +216,14 @@ fn make_fresh(m: &mut [u8])
     let g = Guard::fresh(m);
 }
 
-pub fn on_fresh(memory: &mut [u8]) -> outcomes::Outcome
+pub fn on_fresh(memory: &mut [u8]) -> Outcome
     ensures { MadeFresh memory result }
 {
     if memory.len() < memory::SIZE {
-        return outcomes::Outcome::Refused(34);
+        return Outcome::Refused(Refusal::ShortBuffer);
     }
     make_fresh(&mut memory[..memory::SIZE]);
-    outcomes::Outcome::Done {
+    Outcome::Done {
         number: 0,
         length: 0,
     }
@@ -240,49 +231,30 @@ pub fn on_fresh(memory: &mut [u8]) -> outcomes::Outcome
 
 // ---- as C sees them; guard_c exports these
 
-// What is neither done nor a request has no bytes.
-fn ended(o: outcomes::Outcome) -> GuardOutcome
-    ensures { NotDone o → NotAsked o → result ≡ shown_as o }
-{
-    let outcomes::Outcome::Refused(number) = o else {
-        return GuardOutcome {
-            kind: 3,
-            number: outcomes::value(o),
-            length: 0,
-        };
-    };
-    GuardOutcome {
-        kind: 2,
-        number: number as u64,
-        length: 0,
-    }
-}
-
-// Of what is not done, a request goes on to the request buffer.
-fn asked(o: outcomes::Outcome) -> GuardOutcome
-    ensures { NotDone o → result ≡ shown_as o }
-{
-    let outcomes::Outcome::Ask(length) = o else {
-        return ended(o);
-    };
-    GuardOutcome {
-        kind: 1,
-        number: 0,
-        length,
-    }
-}
-
-// A call that is done goes on to the answer buffer.
-fn shown(o: outcomes::Outcome) -> GuardOutcome
+fn shown(o: Outcome) -> GuardOutcome
     ensures { result ≡ shown_as o }
 {
-    let outcomes::Outcome::Done { number, length } = o else {
-        return asked(o);
-    };
-    GuardOutcome {
-        kind: 0,
-        number,
-        length,
+    match o {
+        Outcome::Done { number, length } => GuardOutcome {
+            kind: 0,
+            number,
+            length,
+        },
+        Outcome::Ask(length) => GuardOutcome {
+            kind: 1,
+            number: 0,
+            length,
+        },
+        Outcome::Refused(refusal) => GuardOutcome {
+            kind: 2,
+            number: refusal.number() as u64,
+            length: 0,
+        },
+        Outcome::Stopped(reason) => GuardOutcome {
+            kind: 3,
+            number: reason.number() as u64,
+            length: 0,
+        },
     }
 }
 

@@ -5,7 +5,7 @@
 --                               read
 --   Refuses r s                 r is 0 where the call s goes the guard's way, else its number
 -- Assumes nothing.
-use Rattle.std.specs.Prelude.{◌≡◌, Bool, true, false, not, List, [], ◌∷◌, ◌++◌, ℕ, ◌<◌, ◌≤◌, get_or}
+use Rattle.std.specs.Prelude.{◌≡◌, Bool, true, false, not, List, [], ◌∷◌, ◌++◌, ℕ, ◌<◌, ◌≤◌, get_or, Result, Ok, Err}
 use Rattle.std.proofs.Math.Option.{Option}
 use Rattle.lists.specs.Checks.{decide}
 use Rattle.filesystem.specs.Tables.{ID_BYTES}
@@ -15,8 +15,8 @@ use Rattle.call_reader.specs.declared.ParsedCall.{ParsedCall}
 use Rattle.call_reader.specs.declared.ParsedCall.TheVariants.{ByPath, Close, Seek, Read, Write, Truncate}
 use Rattle.call_reader.specs.declared.ParsedCall.TheVariants.{Map, Unmap, Rename, Malformed}
 use Rattle.call_reader.specs.Meaning.{made_by}
-use Rattle.paths.specs.declared.PathForm.{PathForm}
-use Rattle.paths.specs.declared.PathForm.TheVariants.{Malformed as Wrong, Long, Good}
+use Rattle.paths.specs.declared.PathFault.{PathFault}
+use Rattle.paths.specs.declared.PathFault.TheVariants.{Malformed as BadForm, TooLong}
 use Rattle.read_only.specs.ReadOnly.{takes_call, length_checks}
 
 -- a kind with a path, whatever the path is
@@ -35,10 +35,10 @@ takes_parsed (Unmap a) = false
 takes_parsed (Rename second) = false
 takes_parsed Malformed = true
 
-unfoldable pub number_of_form : PathForm → ℕ
-number_of_form Wrong = 22
-number_of_form Long = 36
-number_of_form Good = 30
+unfoldable pub number_of_form : Result (Unit {0}) PathFault → ℕ
+number_of_form (Err BadForm) = 22
+number_of_form (Err TooLong) = 36
+number_of_form (Ok tt) = 30
 
 unfoldable pub form_number : Option Call → ℕ
 form_number o =

@@ -3,11 +3,14 @@
 
 ghost use Rattle.std.specs.Prelude.{true, false, ◌≡◌, ◌<◌, ◌≤◌, length, get_or};
 ghost use Rattle.call_reader.specs.Meaning.{meant, NumberFits, Ranges};
+ghost use Rattle.refusals.specs.Numbers.{number_of, number_or_0};
 ghost use Rattle.read_only_calls.specs.Refusals.{takes_by_path, takes_parsed, number_of_form};
 ghost use Rattle.read_only_calls.specs.Refusals.{form_number, Taken, Refuses};
 
 use call_reader::ParsedCall;
 use limits::kinds;
+use paths::PathFault;
+use refusals::Refusal;
 
 // Rights to read, and no more.
 const RIGHTS_TO_READ: u8 = 1;
@@ -46,29 +49,28 @@ fn takes(p: ParsedCall, size: usize) -> bool
 }
 
 // 22, 36, else 30.
-fn number_of(f: paths::PathForm) -> u8
-    ensures { result ≡ number_of_form f }
+fn refusal_of(form: Result<(), PathFault>) -> Refusal
+    ensures { number_of result ≡ number_of_form form }
 {
-    match f {
-        paths::PathForm::Malformed => 22,
-        paths::PathForm::Long => 36,
-        paths::PathForm::Good => 30,
+    match form {
+        Ok(()) => Refusal::ReadOnly,
+        Err(fault) => Refusal::from(fault),
     }
 }
 
 // Of a call that is not taken.
-fn form_number(p: ParsedCall, call: &[u8]) -> u8
+fn form_refusal(p: ParsedCall, call: &[u8]) -> Refusal
     requires { (takes_parsed p ≡ false) × Ranges p (length call.now) }
-    ensures { (result ≡ form_number (meant p call.now)) × (0 < result) }
+    ensures { number_of result ≡ form_number (meant p call.now) }
 {
     match p {
         ParsedCall::ByPath {
             kind,
             number,
             start,
-        } => number_of(paths::form(&call[start..])),
-        ParsedCall::Rename { second } => number_of(paths::forms(&call[2..second], &call[second..])),
-        _ => 30,
+        } => refusal_of(paths::form(&call[start..])),
+        ParsedCall::Rename { second } => refusal_of(paths::forms(&call[2..second], &call[second..])),
+        _ => Refusal::ReadOnly,
     }
 }
 
@@ -98,23 +100,23 @@ fn is_taken(call: &[u8]) -> bool
     }
 }
 
-fn refusal_of_other(call: &[u8]) -> u8
+fn refusal_of_other(call: &[u8]) -> Option<Refusal>
     requires { 4 ≤ get_or call.now 0 0 → 6 < get_or call.now 0 0 }
-    ensures { Refuses result call.now }
+    ensures { Refuses (number_or_0 result) call.now }
 {
     let p = call_reader::read_other(call);
     if takes(p, call.len()) {
-        return 0;
+        return None;
     }
-    form_number(p, call)
+    Some(form_refusal(p, call))
 }
 
-// 0 of a call that goes the guard's way, else why it is refused once 5, 114 and 34 do not.
-pub fn refusal(call: &[u8]) -> u8
-    ensures { Refuses result call.now }
+// Why a call is refused once 5, 114 and 34 do not; none of one that goes the guard's way.
+pub fn refusal(call: &[u8]) -> Option<Refusal>
+    ensures { Refuses (number_or_0 result) call.now }
 {
     if is_taken(call) {
-        return 0;
+        return None;
     }
     refusal_of_other(call)
 }

@@ -2,8 +2,9 @@
 --   number_of, reason_number     the number of each
 --   Judged, numbered             what is judged, a refusal by its number
 --   refusal_or_0, reason_or_0    the number of a test, 0 where it passes
+--   number_or_0                  of a refusal that there may be, 0 where there is none
 -- Assumes nothing.
-use Rattle.std.specs.Prelude.{ℕ, Result, Ok, Err}
+use Rattle.std.specs.Prelude.{ℕ, Option, None, Some, Result, Ok, Err}
 use Rattle.refusals.specs.declared.Refusal.{Refusal}
 use Rattle.refusals.specs.declared.Refusal.TheVariants.{NotFound, Stopped, BadHandle, TooManyMaps, Denied, Busy, Exists, NotDirectory, IsDirectory, Invalid, TooManyOpen, FileTooLarge, NoSpace, ReadOnly, ShortBuffer, TooLong, NotEmpty, NotPending, WrongDigest, BadImage, Pending}
 use Rattle.refusals.specs.declared.StopReason.{StopReason}
@@ -58,3 +59,7 @@ refusal_or_0 (Err e) = number_of e
 abbrev pub reason_or_0 : {A : Type 0} → Result A StopReason → ℕ
 reason_or_0 (Ok x) = 0
 reason_or_0 (Err e) = reason_number e
+
+abbrev pub number_or_0 : Option Refusal → ℕ
+number_or_0 None = 0
+number_or_0 (Some e) = number_of e

@@ -11,9 +11,11 @@ ghost use Rattle.outcomes.specs.Clauses.{Accepts, AcceptsAsking, AcceptsPending}
 ghost use Rattle.requests.specs.Room.{HoldsRequest};
 
 use guard_state::{Guard, calls};
+use outcomes::Outcome;
+use refusals::Refusal;
 
 // create and mkdir, open, close, remove and rmdir, chmod: the answer has no bytes.
-fn accept_change(m: &mut [u8], call: u64, reply: &[u8]) -> outcomes::Outcome
+fn accept_change(m: &mut [u8], call: u64, reply: &[u8]) -> Outcome
     requires { (call ≡ (numbers_in m.old).call) × (CREATING ≤ call) × (call ≤ CHANGING) × IsMemory m.old }
     ensures { Accepts m reply.now result }
 {
@@ -32,7 +34,7 @@ fn accept_page_change(
     call: u64,
     reply: &[u8],
     request: &mut [u8],
-) -> outcomes::Outcome
+) -> Outcome
     requires { (call ≡ (numbers_in m.old).call) × (FETCHING ≤ call) × (call ≤ GROWING) × IsMemory m.old
         × HoldsRequest request.old }
     ensures { AcceptsAsking m reply.now request result }
@@ -48,7 +50,7 @@ fn accept_page_change(
 }
 
 // A map, and its end.
-fn accept_on_maps(m: &mut [u8], call: u64, reply: &[u8]) -> outcomes::Outcome
+fn accept_on_maps(m: &mut [u8], call: u64, reply: &[u8]) -> Outcome
     requires { (call ≡ (numbers_in m.old).call) × (MAPPING ≤ call) × (call ≤ UNMAPPING) × IsMemory m.old }
     ensures { Accepts m reply.now result }
 {
@@ -64,7 +66,7 @@ pub fn accept_reply(
     reply: &[u8],
     answer: &mut [u8],
     request: &mut [u8],
-) -> outcomes::Outcome
+) -> Outcome
     requires { IsMemory m.old × (DATA_BYTES ≤ length answer.old) × HoldsRequest request.old }
     ensures { AcceptsPending m reply.now answer request result }
 {
@@ -78,6 +80,6 @@ pub fn accept_reply(
         calls::FETCHING..=calls::GROWING => accept_page_change(m, call, reply, request),
         calls::MAPPING..=calls::UNMAPPING => accept_on_maps(m, call, reply),
         calls::LAST => renames::accept_rename(m, reply),
-        _ => outcomes::Outcome::Refused(61),
+        _ => Outcome::Refused(Refusal::NotPending),
     }
 }

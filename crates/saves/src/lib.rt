@@ -14,6 +14,8 @@ ghost use Rattle.image_writer.specs.Images.{nodes_in, image_in};
 ghost use Rattle.saves.specs.Saved.{saved_into, loaded_from, Saves, Loads};
 
 use guard_state::Guard;
+use outcomes::Outcome;
+use refusals::Refusal;
 
 // The bytes of a record's maker: there are none.
 const NO_MAKER: usize = 0;
@@ -36,7 +38,7 @@ fn put_image(m: &[u8], n: usize, image: &mut [u8], digest: &mut [u8]) -> usize
 }
 
 // A save: 16, 34, else the image at the front of its buffer, and its SHA-256 at the front of `digest`.
-pub fn save(m: &mut [u8], image: &mut [u8], digest: &mut [u8]) -> outcomes::Outcome
+pub fn save(m: &mut [u8], image: &mut [u8], digest: &mut [u8]) -> Outcome
     requires { (DIGEST_BYTES ≤ length digest.old) × IsMemory m.old }
     ensures saves { (c : Config) → c.digest ≡ sha256 → c.width ≡ ID_BYTES
         → page_total (state_of c m.old).skeleton.tables.nodes ≤ PAGES
@@ -46,25 +48,25 @@ pub fn save(m: &mut [u8], image: &mut [u8], digest: &mut [u8]) -> outcomes::Outc
 {
     let g = Guard::load(m);
     if 0 < g.opens {
-        return outcomes::Outcome::Refused(16);
+        return Outcome::Refused(Refusal::Busy);
     }
     if image.len() < image_writer::image_length(m, g.nodes, limits::ID_BYTES, NO_MAKER) {
-        return outcomes::Outcome::Refused(34);
+        return Outcome::Refused(Refusal::ShortBuffer);
     }
     // no valid tables have more pages
     if Guard::PAGES < tables::first_page(m, g.nodes) {
-        return outcomes::Outcome::Refused(28);
+        return Outcome::Refused(Refusal::NoSpace);
     }
     let l = put_image(m, g.nodes, image, digest);
     guard_state::finish(m);
-    outcomes::Outcome::Done {
+    Outcome::Done {
         number: l as u64,
         length: l,
     }
 }
 
 // A load: 16, 74, 84, else the image's tables in place of those that stood.
-pub fn load(m: &mut [u8], image: &[u8], digest: &[u8]) -> outcomes::Outcome
+pub fn load(m: &mut [u8], image: &[u8], digest: &[u8]) -> Outcome
     requires { IsMemory m.old }
     ensures loads { (c : Config) → c.digest ≡ sha256 → c.width ≡ ID_BYTES
         → Loads c (loaded_from c (state_of c m.old) image.now digest.now) result
@@ -73,17 +75,17 @@ pub fn load(m: &mut [u8], image: &[u8], digest: &[u8]) -> outcomes::Outcome
 {
     let g = Guard::load(m);
     if 0 < g.opens {
-        return outcomes::Outcome::Refused(16);
+        return Outcome::Refused(Refusal::Busy);
     }
     if !image_writer::same_digest(image, digest) {
-        return outcomes::Outcome::Refused(74);
+        return Outcome::Refused(Refusal::WrongDigest);
     }
     if !image_reader::is_sound(image, limits::ID_BYTES, NO_MAKER) {
-        return outcomes::Outcome::Refused(84);
+        return Outcome::Refused(Refusal::BadImage);
     }
     let n = image_loader::load_image(image, limits::ID_BYTES, NO_MAKER, m);
     guard_state::rest(m, n, 0);
-    outcomes::Outcome::Done {
+    Outcome::Done {
         number: 0,
         length: 0,
     }

@@ -23,6 +23,7 @@ use Rattle.renames.specs.Judged.{judged_both}
 use Rattle.renames.specs.Begun.{rename_begun}
 use Rattle.guard_state.specs.State.{state_of}
 use Rattle.outcomes.specs.declared.Outcome.{Outcome}
+use Rattle.refusals.specs.declared.Refusal.TheVariants.{Invalid}
 use Rattle.outcomes.specs.declared.Outcome.TheVariants.{Refused}
 use Rattle.outcomes.specs.Sent.{Sends}
 use Rattle.outcomes.specs.laws.SentLaws.{refusal_sends}
@@ -163,12 +164,12 @@ module _ (c : Config) (wide : c.width ≡ ID_BYTES) (s : State (digest_store c))
       ∙ sym (read_as_lem ∙ ap (λ (z : ParsedCall). called c s (meant z b)) e
       ∙ called-rename c s (take (k - 2) (drop 2 b)) (drop k b)))
 
-  pub none_as : p ≡ Malformed → (m x : List ℕ) → state_of c m ≡ s → Sends c (called_with c s b) (Refused 22) m x x
+  pub none_as : p ≡ Malformed → (m x : List ℕ) → state_of c m ≡ s → Sends c (called_with c s b) (Refused Invalid) m x x
   unfolding meant
   none_as e m x g =
-      subst (λ (y : Result (digest_store c)). Sends c y (Refused 22) m x x)
+      subst (λ (y : Result (digest_store c)). Sends c y (Refused Invalid) m x x)
       (sym (read_as_lem ∙ ap (λ (z : ParsedCall). called c s (meant z b)) e ∙ called_none c s))
-      (refusal_sends c s (refuse 22) 22 m x refl g)
+      (refusal_sends c s (refuse 22) Invalid m x refl g)
 
 -- there is a root
 pub some_node : (c : Config) (s : State (digest_store c)) → Consistent c s → 0 < length s.skeleton.tables.nodes

@@ -1,8 +1,8 @@
 -- `guard::settle` meets its contract. Assumes nothing.
 use native.Mathlib.Omega.{arith}
 use mathlib.Core.Path.{◌≡◌, refl, ap, sym, ◌∙◌}
-use Prim.Native.Nat.{ℕ}
 use Rattle.configuration.specs.Delivered.{delivered}
+use Rattle.refusals.specs.declared.StopReason.{StopReason}
 use Rattle.outcomes.specs.declared.Outcome.{Outcome}
 use Rattle.outcomes.specs.declared.Outcome.TheVariants.{Done, Ask, Refused, Stopped}
 use Rattle.outcomes.specs.Sent.{settled}
@@ -10,7 +10,7 @@ use Rattle.guard.specs.Promise.{GuardState, held}
 use Rattle.guard.proofs.settle.Goals as goal
 
 -- the variants that are left: nothing is to be carried out
-other : (o : Outcome) → ((reason : ℕ) → o ≡ Stopped reason → ⊥) → (s : GuardState) → s ≡ settled delivered o s
+other : (o : Outcome) → ((reason : StopReason) → o ≡ Stopped reason → ⊥) → (s : GuardState) → s ≡ settled delivered o s
 unfolding settled
 other (Done n l) h s = refl
 other (Ask l) h s = refl

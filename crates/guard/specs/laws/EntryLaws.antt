@@ -17,6 +17,10 @@ use Rattle.configuration.specs.Delivered.{delivered}
 use Rattle.machine.specs.Machine.{Result, apply, step, fresh, guard as digest_store}
 use Rattle.machine.specs.Consistent.{Consistent}
 use Rattle.guard_state.specs.Waits.{stops}
+use Rattle.refusals.specs.Numbers.{number_of}
+use Rattle.refusals.specs.laws.NumberLaws.{number_positive}
+use Rattle.refusals.specs.declared.Refusal.{Refusal}
+use Rattle.refusals.specs.declared.Refusal.TheVariants.{ShortBuffer}
 use Rattle.outcomes.specs.declared.Outcome.{Outcome}
 use Rattle.outcomes.specs.declared.Outcome.TheVariants.{Done, Refused}
 use Rattle.outcomes.specs.Sent.{settled, Leaves}
@@ -67,8 +71,8 @@ module _ (s : GuardState) where
 -- with the number r that was found: it is refused, or the machine goes on with the move
 module _ (s : GuardState) {e : Event} {busy quiet : ℕ} {v : Move} (x : Behind s e busy quiet v) {r : ℕ}
     (t : r ≡ first_of busy quiet s.skeleton) where
-  turned_move : (r ≡ 0 → ⊥) → judge delivered s.skeleton e ≡ refuse r
-  turned_move = turned_away s busy quiet r t e v x.first
+  turned_move : (w : Refusal) → r ≡ number_of w → judge delivered s.skeleton e ≡ refuse (number_of w)
+  turned_move w k = turned_away s busy quiet r t e v x.first (λ z. omega (arith, number_positive w, k, z)) ∙ ap refuse k
 
   move-stepped : r ≡ 0 → step_of s e ≡ apply delivered (digest_store delivered) s v
   unfolding step
@@ -89,11 +93,11 @@ module _ (m a q : List ℕ) {e : Event} {busy quiet : ℕ} {v : Move} (b : Behin
   }
 
   -- 5, 114 or 61
-  pub turned : (r ≡ 0 → ⊥) → Enters (held m) e (Refused r) (held m) (buffers a q) (buffers a q)
+  pub turned : (w : Refusal) → r ≡ number_of w → Enters (held m) e (Refused w) (held m) (buffers a q) (buffers a q)
   unfolding step settled
-  turned h = entered (Refused r) m a q (held m) refl
-      (λ k. sends_leaves delivered _ (Refused r) m q q
-      (refusal_sends delivered (held m) _ r m q (turned_move (held m) b t h) refl) a)
+  turned w h = entered (Refused w) m a q (held m) refl
+      (λ k. sends_leaves delivered _ (Refused w) m q q
+      (refusal_sends delivered (held m) _ w m q (turned_move (held m) b t w h) refl) a)
 
   module _ (z : r ≡ 0) where
     -- what the move comes to
@@ -108,7 +112,8 @@ module _ (m a q : List ℕ) {e : Event} {busy quiet : ℕ} {v : Move} (b : Behin
         (sym (move-stepped (held m) b t z ∙ w)) (f k)))
 
     -- 34 of a buffer
-    pub refused_as_lem : (n : ℕ) → v ≡ refuse n → Enters (held m) e (Refused n) (held m) (buffers a q) (buffers a q)
+    pub refused_as_lem : (n : Refusal) → v ≡ refuse (number_of n)
+        → Enters (held m) e (Refused n) (held m) (buffers a q) (buffers a q)
     unfolding settled
     refused_as_lem n w = taken_as refl (Refused n) (Refused n) m m a q refl refl
         (λ _. sends_leaves delivered _ (Refused n) m q q (refusal_sends delivered (held m) v n m q w refl) a)
@@ -134,10 +139,10 @@ module _ (m i d : List ℕ) {r : ℕ} (t : r ≡ first_of 114 0 (held m).skeleto
     digest = h.digest;
   }
 
-  pub save_turned : (r ≡ 0 → ⊥) → Saving (held m) (Refused r) (held m) i i d d
+  pub save_turned : (w : Refusal) → r ≡ number_of w → Saving (held m) (Refused w) (held m) i i d d
   unfolding step
-  save_turned h = saving (Refused r) m i d (refusal_saves delivered m i d _ r
-      (turned_move (held m) (save_behind (held m) (length i)) t h))
+  save_turned w h = saving (Refused w) m i d (refusal_saves delivered m i d _ w
+      (turned_move (held m) (save_behind (held m) (length i)) t w h))
 
   pub save_taken : r ≡ 0 → (o : Outcome) (m' i' d' : List ℕ)
       → (page_total (held m).skeleton.tables.nodes ≤ PAGES → Saves delivered
@@ -151,10 +156,10 @@ module _ (m i d : List ℕ) {r : ℕ} (t : r ≡ first_of 114 0 (held m).skeleto
 
 -- A load of image i, of the current version, with digest d.
 module _ (m i d : List ℕ) {r : ℕ} (t : r ≡ first_of 114 0 (held m).skeleton) where
-  pub load-turned : (r ≡ 0 → ⊥) → Steps (held m) (load current i d) (Refused r) (held m) [] []
+  pub load-turned : (w : Refusal) → r ≡ number_of w → Steps (held m) (load current i d) (Refused w) (held m) [] []
   unfolding step settled
-  load-turned h =
-      let l = refusal_sends delivered (held m) _ r m [] (turned_move (held m) (load-behind (held m) i d) t h) refl in
+  load-turned w h =
+      let l = refusal_sends delivered (held m) _ w m [] (turned_move (held m) (load-behind (held m) i d) t w h) refl in
       record { state = l.state; answer = l.answer []; count = l.count }
 
   pub load-taken : r ≡ 0 → (o : Outcome) (m' : List ℕ) → Loads delivered (loaded_from delivered (held m) i d) o m'
@@ -170,7 +175,7 @@ module _ (m : List ℕ) (less : length m < memory_size) where
   same : Own m m
   same = record { same_length = refl; behind = refl }
 
-  pub call_short_memory : {e : Event} → EventBytes e → (b : Buffers) → Promise m e (Refused 34) m b b
+  pub call_short_memory : {e : Event} → EventBytes e → (b : Buffers) → Promise m e (Refused ShortBuffer) m b b
   call_short_memory x b = record {
     bytes = x;
     own = same;
@@ -179,7 +184,7 @@ module _ (m : List ℕ) (less : length m < memory_size) where
         (refl, refl, refl);
   }
 
-  pub save_short_memory : (i d : List ℕ) → length d ≡ DIGEST_BYTES → SavePromise m (Refused 34) m i i d d
+  pub save_short_memory : (i d : List ℕ) → length d ≡ DIGEST_BYTES → SavePromise m (Refused ShortBuffer) m i i d d
   save_short_memory i d n = record {
     own = same;
     room = n;
@@ -188,7 +193,7 @@ module _ (m : List ℕ) (less : length m < memory_size) where
         (refl, refl, refl, refl);
   }
 
-  pub load_short_memory : (i d : List ℕ) → Bytes i → Bytes d → LoadPromise m i d (Refused 34) m
+  pub load_short_memory : (i d : List ℕ) → Bytes i → Bytes d → LoadPromise m i d (Refused ShortBuffer) m
   unfolding EventBytes
   load_short_memory i d x y = record {
     bytes = (x, y);
@@ -198,7 +203,7 @@ module _ (m : List ℕ) (less : length m < memory_size) where
         (refl, refl);
   }
 
-  pub fresh_short_memory : FreshPromise m (Refused 34) m
+  pub fresh_short_memory : FreshPromise m (Refused ShortBuffer) m
   fresh_short_memory = record {
     own = same;
     done = λ h. absurd (omega arith);

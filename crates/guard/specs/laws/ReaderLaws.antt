@@ -17,6 +17,9 @@ use Rattle.machine.specs.Machine.{guard as digest_store}
 use Rattle.read_only.specs.ReadOnly.{takes_call, takes, length_checks, form_checks, read_only_checks, refusal, read_only_step}
 use Rattle.read_only.proofs.laws.StepLaws.{as_guard}
 use Rattle.read_only_calls.specs.Refusals.{form_number, Refuses}
+use Rattle.refusals.specs.Numbers.{number_of, number_or_0}
+use Rattle.refusals.specs.laws.NumberLaws.{number_positive, short_buffer}
+use Rattle.refusals.specs.declared.Refusal.{Refusal}
 use Rattle.outcomes.specs.declared.Outcome.{Outcome}
 use Rattle.outcomes.specs.declared.Outcome.TheVariants.{Refused}
 use Rattle.outcomes.specs.Values.{answer_in, length_of, bytes_in}
@@ -63,8 +66,8 @@ module _ (s : GuardState) (b : List ℕ) (a q : ℕ) where
       ∙ ap stop (sym e)
 
 -- what a refusal is promised as
-refused_enters : (s : GuardState) (e : Event) (r : ℕ) (b : Buffers)
-    → reader_step_of s e ≡ refusal delivered (digest_store delivered) s r → ReaderEnters s e (Refused r) s b b
+refused_enters : (s : GuardState) (e : Event) (r : Refusal) (b : Buffers)
+    → reader_step_of s e ≡ refusal delivered (digest_store delivered) s (number_of r) → ReaderEnters s e (Refused r) s b b
 unfolding answer_in length_of bytes_in buffers_after
 refused_enters s e r b q = subst (λ (x : GuardResult). EntersAs (ReaderReady s e) x (Refused r) s b b) (sym q) (record {
   steps = λ _. record { state = refl; answer = refl; count = refl };
@@ -88,16 +91,16 @@ taken_enters s b a q n z f r s' x x' h =
 
 -- Of a whole memory.
 module _ (m b : List ℕ) (n : ℕ) (f : Refuses n b) where
-  pub refused_promise : (a q : List ℕ) (r : ℕ) → EventBytes (call b (length a) (length q)) → (n ≡ 0 → ⊥)
-      → r ≡ refusal_number m (length a) (length q) n
+  pub refused_promise : (a q : List ℕ) (r : Refusal) → EventBytes (call b (length a) (length q)) → (n ≡ 0 → ⊥)
+      → number_of r ≡ refusal_number m (length a) (length q) n
       → ReaderPromise m (call b (length a) (length q)) (Refused r) m (buffers a q) (buffers a q)
   unfolding refusal_number
   refused_promise a q r x h e = record {
     bytes = x;
     own = record { same_length = refl; behind = refl };
     enters = λ long. refused_enters (held m) _ r (buffers a q)
-        (reader_refused (held m) b _ _ n r h f (e ∙ pick-false _ _ _ (le-ltb (length m) memory_size long)));
-    short = λ less. (ap Refused (e ∙ pick_true _ _ _ (lt-ltb (length m) memory_size less)), refl, refl);
+        (reader_refused (held m) b _ _ n (number_of r) h f (e ∙ pick-false _ _ _ (le-ltb (length m) memory_size long)));
+    short = λ less. (ap Refused (short_buffer r (e ∙ pick_true _ _ _ (lt-ltb (length m) memory_size less))), refl, refl);
   }
 
   pub taken_promise : (a q : ℕ) → n ≡ 0 → (r : Outcome) (m' : List ℕ) (x x' : Buffers)
@@ -117,8 +120,8 @@ module _ (m b : List ℕ) (n : ℕ) (f : Refuses n b) where
     promised = taken_promise a q z h.outcome m' x x' h.promised;
   }
 
-  pub refused_shown : (a q : List ℕ) (r : ℕ) → EventBytes (call b (length a) (length q)) → (n ≡ 0 → ⊥)
-      → r ≡ refusal_number m (length a) (length q) n → (o : GuardOutcome) → o ≡ shown_as (Refused r)
+  pub refused_shown : (a q : List ℕ) (r : Refusal) → EventBytes (call b (length a) (length q)) → (n ≡ 0 → ⊥)
+      → number_of r ≡ refusal_number m (length a) (length q) n → (o : GuardOutcome) → o ≡ shown_as (Refused r)
       → Shown (λ o. ReaderPromise m (call b (length a) (length q)) o m (buffers a q) (buffers a q)) o
   refused_shown a q r x h e o s = record { outcome = Refused r; shown = s; promised = refused_promise a q r x h e }
 
@@ -134,3 +137,25 @@ module _ (m : List ℕ) (a q n : ℕ) where
   number-long long e i =
       e ∙ ap₂ (λ x (s : GuardState). first_of 114 x s.skeleton) i (held-front m)
       ∙ sym (pick-false _ _ _ (le-ltb (length m) memory_size long))
+
+-- what is found of 5 and 114 stays, whatever stands behind them
+first_found : (s i : Bool) (n : ℕ) → (n ≡ 0 → ⊥) → n ≡ pick s 5 (pick i 0 114) → (k : ℕ) → n ≡ pick s 5 (pick i k 114)
+unfolding pick
+first_found true i n h e k = e
+first_found false true n h e k = absurd (h e)
+first_found false false n h e k = e
+
+first_passed : (s i : Bool) → ◌≡◌ {A = ℕ} 0 (pick s 5 (pick i 0 114)) → (k : ℕ) → k ≡ pick s 5 (pick i k 114)
+unfolding pick
+first_passed true i e k = absurd (omega (arith, e))
+first_passed false true e k = refl
+first_passed false false e k = absurd (omega (arith, e))
+
+module _ (s : GuardState) where
+  pub first_stays : (n : ℕ) → (n ≡ 0 → ⊥) → n ≡ first_of 114 0 s.skeleton → (k : ℕ) → n ≡ first_of 114 k s.skeleton
+  unfolding first_of
+  first_stays = first_found s.skeleton.stopped (is_idle s.skeleton.pending)
+
+  pub first_goes : ◌≡◌ {A = ℕ} 0 (first_of 114 0 s.skeleton) → (k : ℕ) → k ≡ first_of 114 k s.skeleton
+  unfolding first_of
+  first_goes = first_passed s.skeleton.stopped (is_idle s.skeleton.pending)

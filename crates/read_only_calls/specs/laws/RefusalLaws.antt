@@ -1,6 +1,6 @@
 -- What a call that was read means for a read-only guard.
 -- Assumes nothing.
-use Rattle.std.specs.Prelude.{◌≡◌, Bool, ◌&&◌, List, [], ◌∷◌, ◌++◌, eqb, leb, length, get_or, take, drop}
+use Rattle.std.specs.Prelude.{◌≡◌, Bool, ◌&&◌, List, [], ◌∷◌, ◌++◌, eqb, leb, length, get_or, take, drop, Result, Ok, Err}
 use Rattle.std.proofs.Math.Path.{refl, ap, sym}
 use Rattle.std.proofs.Common.{◌∙◌, subst, true≢false, arith, eqb-true}
 use Rattle.std.proofs.Math.Bool.{true, false, not}
@@ -23,8 +23,8 @@ use Rattle.call_reader.specs.Meaning.{made_by, meant, NumberFits}
 use Rattle.call_reader.specs.laws.FieldLaws.{kind_read}
 use Rattle.call_reader.specs.laws.KindLaws.{last_kind}
 use Rattle.call_reader.specs.laws.RestLaws.{rest}
-use Rattle.paths.specs.declared.PathForm.{PathForm}
-use Rattle.paths.specs.declared.PathForm.TheVariants.{Malformed as Wrong, Long, Good}
+use Rattle.paths.specs.declared.PathFault.{PathFault}
+use Rattle.paths.specs.declared.PathFault.TheVariants.{Malformed as BadForm, TooLong}
 use Rattle.paths.specs.PathForms.{length_form, path_form, form_of, worse, forms_of}
 use Rattle.read_only.specs.ReadOnly.{takes_call, length_checks}
 use Rattle.read_only_calls.specs.Refusals.{takes_by_path, takes_parsed, number_of_form, form_number, Taken}
@@ -106,7 +106,7 @@ unfolding path_form length_form worse number_of_form form_number is_none call_or
 at_paths none r = refl
 at_paths (some p) none = go (too_long p)
   where
-    go : (b : Bool) → number_of_form (worse (length_form b) Wrong) ≡ 22
+    go : (b : Bool) → number_of_form (worse (length_form b) (Err BadForm)) ≡ 22
     go true = refl
     go false = refl
 at_paths (some p) (some q) = go (too_long p) (too_long q)
@@ -169,13 +169,6 @@ other_refused (Map n) s h x = refl
 other_refused (Unmap a) s h x = refl
 other_refused (Rename second) s h x = absurd x
 other_refused Malformed s h x = absurd (true≢false h)
-
--- no number is 0
-pub form_positive : (f : PathForm) → 0 < number_of_form f
-unfolding number_of_form
-form_positive Wrong = omega arith
-form_positive Long = omega arith
-form_positive Good = omega arith
 
 -- A call whose kind is taken is taken, or no call.
 bound_taken : {A : Type 0} (o : Option A) (f : A → Option Call) → ((x : A) → takes_call (call_or (f x)) ≡ true)

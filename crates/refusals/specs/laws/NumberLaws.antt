@@ -65,3 +65,27 @@ pub reason_passed_on : {A : Type 0} (r : Result A StopReason) (e : StopReason) �
 reason_passed_on r e h =
     let p = err_from_is_err_and r h in
     ap reason_or_0 p.1 ∙ ap reason_number p.2
+
+-- 34 is of one refusal
+pub short_buffer : (e : Refusal) → number_of e ≡ 34 → e ≡ ShortBuffer
+short_buffer NotFound h = absurd (omega (arith, h))
+short_buffer Stopped h = absurd (omega (arith, h))
+short_buffer BadHandle h = absurd (omega (arith, h))
+short_buffer TooManyMaps h = absurd (omega (arith, h))
+short_buffer Denied h = absurd (omega (arith, h))
+short_buffer Busy h = absurd (omega (arith, h))
+short_buffer Exists h = absurd (omega (arith, h))
+short_buffer NotDirectory h = absurd (omega (arith, h))
+short_buffer IsDirectory h = absurd (omega (arith, h))
+short_buffer Invalid h = absurd (omega (arith, h))
+short_buffer TooManyOpen h = absurd (omega (arith, h))
+short_buffer FileTooLarge h = absurd (omega (arith, h))
+short_buffer NoSpace h = absurd (omega (arith, h))
+short_buffer ReadOnly h = absurd (omega (arith, h))
+short_buffer ShortBuffer h = refl
+short_buffer TooLong h = absurd (omega (arith, h))
+short_buffer NotEmpty h = absurd (omega (arith, h))
+short_buffer NotPending h = absurd (omega (arith, h))
+short_buffer WrongDigest h = absurd (omega (arith, h))
+short_buffer BadImage h = absurd (omega (arith, h))
+short_buffer Pending h = absurd (omega (arith, h))

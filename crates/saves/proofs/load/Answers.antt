@@ -3,13 +3,14 @@ use native.Mathlib.Omega.{arith}
 use mathlib.Core.Path.{refl}
 use Rattle.saves.specs.laws.LoadedLaws.{load-used, load_unsealed, load-unsound, load_goes, load_refused}
 use Rattle.saves.specs.laws.LoadedLaws.{load_done}
+use Rattle.refusals.specs.declared.Refusal.TheVariants.{Busy, WrongDigest, BadImage}
 use Rattle.saves.proofs.load.Goals as goal
 
 pub returns-then-g-gt0 : goal.returns-then-g-gt0
 returns-then-g-gt0 c =
     let a = c.args in record {
       loads = λ q hash wide.
-          load_refused q a.m.now _ c.load-g.ensures a.image.now a.digest.now 16
+          load_refused q a.m.now _ c.load-g.ensures a.image.now a.digest.now Busy
           (load-used q a.m.now _ c.load-g.ensures a.image.now a.digest.now c.if-g-gt0.true);
       keeps_length = refl;
     }
@@ -18,7 +19,7 @@ pub returns-then-not-same_digest : goal.returns-then-not-same_digest
 returns-then-not-same_digest c =
     let a = c.args in record {
       loads = λ q hash wide.
-          load_refused q a.m.now _ c.load-g.ensures a.image.now a.digest.now 74
+          load_refused q a.m.now _ c.load-g.ensures a.image.now a.digest.now WrongDigest
           (load_unsealed q a.m.now _ c.load-g.ensures a.image.now a.digest.now c.if-g-gt0.false hash
           _ c.same_digest.ensures c.if-not-same_digest.true);
       keeps_length = refl;
@@ -28,7 +29,7 @@ pub returns-then-not-is_sound : goal.returns-then-not-is_sound
 returns-then-not-is_sound c =
     let a = c.args in record {
       loads = λ q hash wide.
-          load_refused q a.m.now _ c.load-g.ensures a.image.now a.digest.now 84
+          load_refused q a.m.now _ c.load-g.ensures a.image.now a.digest.now BadImage
           (load-unsound q a.m.now _ c.load-g.ensures a.image.now a.digest.now c.if-g-gt0.false hash
           _ c.same_digest.ensures c.if-not-same_digest.false wide _ c.is_sound.ensures
           c.if-not-is_sound.true);

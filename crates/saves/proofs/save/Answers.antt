@@ -5,12 +5,13 @@ use Rattle.guard_state.specs.laws.LoadedLaws.{counts_fit}
 use Rattle.saves.specs.laws.SavedLaws.{image-held, save_never, save_used, save_short, save_goes, save_refused}
 use Rattle.saves.specs.laws.SavedLaws.{save_done}
 use borrow.Author.Rules.{rules}
+use Rattle.refusals.specs.declared.Refusal.TheVariants.{Busy, ShortBuffer}
 use Rattle.saves.proofs.save.Goals as goal
 
 pub returns-then-g-gt0 : goal.returns-then-g-gt0
 returns-then-g-gt0 c =
     let a = c.args in record {
-      saves = λ q hash wide few. save_refused q a.m.now a.image.now a.digest.now 16
+      saves = λ q hash wide few. save_refused q a.m.now a.image.now a.digest.now Busy
           (save_used q a.m.now _ c.load-g.ensures _ c.if-g-gt0.true);
       keeps_length = refl;
     }
@@ -25,7 +26,7 @@ pub returns-then-image-image_length : goal.returns-then-image-image_length
 returns-then-image-image_length c =
     let a = c.args in record {
       saves = λ q hash wide few.
-          save_refused q a.m.now a.image.now a.digest.now 34
+          save_refused q a.m.now a.image.now a.digest.now ShortBuffer
           (save_short q a.m.now _ c.load-g.ensures c.if-g-gt0.false wide _ _
           c.image_length.ensures c.if-image-image_length.true);
       keeps_length = refl;

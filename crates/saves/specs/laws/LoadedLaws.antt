@@ -26,6 +26,8 @@ use Rattle.guard_state.specs.Waits.{ends, resting_state}
 use Rattle.image_writer.specs.Images.{nodes_in, image_in}
 use Rattle.image_records.specs.Records.{is_some}
 use Rattle.image_loader.specs.Loaded.{Loaded}
+use Rattle.refusals.specs.Numbers.{number_of}
+use Rattle.refusals.specs.declared.Refusal.{Refusal}
 use Rattle.outcomes.specs.declared.Outcome.TheVariants.{Done, Refused}
 use Rattle.outcomes.specs.Sent.{settled}
 use Rattle.outcomes.specs.laws.SentLaws.{refusal_sends, done_sends}
@@ -77,9 +79,10 @@ module _ (c : Config) (m : List ℕ) (g : Guard) (e : g ≡ numbers_of (mem_of m
             ∙ check_last refuse 84 _ _ (parsed ∙ ap not h)
             ∙ ap (λ (w : ℕ). loading (image_or (parse (saved w) i)) d) wide
 
-  pub load_refused : (n : ℕ) → load_move c here i d ≡ refuse n → Loads c (loaded_from c here i d) (Refused n) m
+  pub load_refused : (e : Refusal) → load_move c here i d ≡ refuse (number_of e)
+      → Loads c (loaded_from c here i d) (Refused e) m
   unfolding loaded_from settled
-  load_refused n z = let l = refusal_sends c here _ n m [] z refl in record {
+  load_refused e z = let l = refusal_sends c here _ e m [] z refl in record {
     state = l.state;
     answer = l.answer [];
     count = l.count;

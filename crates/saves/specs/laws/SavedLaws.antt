@@ -23,6 +23,9 @@ use Rattle.guard_state.specs.State.{numbers_of, state_in, state_of}
 use Rattle.guard_state.specs.Waits.{ends}
 use Rattle.guard_state.specs.laws.LoadedLaws.{opens-count}
 use Rattle.image_writer.specs.Images.{nodes_in, image_in}
+use Rattle.refusals.specs.Numbers.{number_of}
+use Rattle.refusals.specs.declared.Refusal.{Refusal}
+use Rattle.refusals.specs.declared.Refusal.TheVariants.{NoSpace}
 use Rattle.outcomes.specs.declared.Outcome.TheVariants.{Done, Refused}
 use Rattle.outcomes.specs.Values.{length_of, bytes_in, answer_in}
 use Rattle.saves.specs.Saved.{save_move, saved_into, Saves}
@@ -77,7 +80,7 @@ module _ (c : Config) (m : List ℕ) (g : Guard) (e : g ≡ numbers_of (mem_of m
   -- more pages than the limit are in no valid tables
   pub save_never : (i d : List ℕ) (p : ℕ) → page_total here.skeleton.tables.nodes ≤ PAGES
       → p ≡ page_total (nodes_in g.nodes m) → PAGES < p
-      → Saves c (saved_into c here (length i)) (Refused 28) m i i d d
+      → Saves c (saved_into c here (length i)) (Refused NoSpace) m i i d d
   save_never i d p few count h = absurd (omega (arith, ap page_total nodes-held))
 
   length-held : c.width ≡ ID_BYTES
@@ -107,10 +110,10 @@ module _ (c : Config) (m : List ℕ) (g : Guard) (e : g ≡ numbers_of (mem_of m
         (omega (arith, length-held wide)))
 
 -- a refusal leaves everything alone
-pub refusal_saves : (c : Config) (m i d : List ℕ) (v : Move) (n : ℕ) → v ≡ refuse n
-    → Saves c (apply c (digest_store c) (state_of c m) v) (Refused n) m i i d d
+pub refusal_saves : (c : Config) (m i d : List ℕ) (v : Move) (e : Refusal) → v ≡ refuse (number_of e)
+    → Saves c (apply c (digest_store c) (state_of c m) v) (Refused e) m i i d d
 unfolding apply answer_in length_of bytes_in image_after answer_bytes overwrite
-refusal_saves c m i d v n z = record {
+refusal_saves c m i d v e z = record {
   state = ap (λ w. (apply c (digest_store c) (state_of c m) w).state) (sym z);
   answer = ap (λ w. (apply c (digest_store c) (state_of c m) w).outcome.answer) (sym z);
   count = ap (λ w. bytes_in (apply c (digest_store c) (state_of c m) w).outcome.answer) (sym z);
@@ -118,10 +121,11 @@ refusal_saves c m i d v n z = record {
   digest = ap (λ w. at_front (apply c (digest_store c) (state_of c m) w).outcome.digest d) (sym z);
 }
 
-pub save_refused : (c : Config) (m i d : List ℕ) (n : ℕ) → save_move c (state_of c m) (length i) ≡ refuse n
-    → Saves c (saved_into c (state_of c m) (length i)) (Refused n) m i i d d
+pub save_refused : (c : Config) (m i d : List ℕ) (e : Refusal)
+    → save_move c (state_of c m) (length i) ≡ refuse (number_of e)
+    → Saves c (saved_into c (state_of c m) (length i)) (Refused e) m i i d d
 unfolding saved_into
-save_refused c m i d n z = refusal_saves c m i d _ n z
+save_refused c m i d e z = refusal_saves c m i d _ e z
 
 -- the image x, the state's own, is at the front of the buffer, its digest beside it
 pub save_done : (c : Config) (m i d m' i' d' x : List ℕ) (l : ℕ) → c.digest ≡ sha256

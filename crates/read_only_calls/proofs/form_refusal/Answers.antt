@@ -1,4 +1,4 @@
--- `read_only_calls::form_number` meets its contract. Assumes nothing.
+-- `read_only_calls::form_refusal` meets its contract. Assumes nothing.
 use mathlib.Core.Path.{◌≡◌, refl, ap, sym, ◌∙◌, subst}
 use native.Mathlib.Omega.{arith}
 use Prim.Native.Nat.{ℕ, ◌<◌}
@@ -8,8 +8,7 @@ use Rattle.call_reader.specs.declared.ParsedCall.TheVariants.{Map, Unmap, Rename
 use Rattle.call_reader.specs.Meaning.{meant, Ranges}
 use Rattle.read_only_calls.specs.Refusals.{takes_parsed, number_of_form, form_number}
 use Rattle.read_only_calls.specs.laws.RefusalLaws.{NoPath, other_refused, path_refused, rename_refused}
-use Rattle.read_only_calls.specs.laws.RefusalLaws.{form_positive}
-use Rattle.read_only_calls.proofs.form_number.Goals as goal
+use Rattle.read_only_calls.proofs.form_refusal.Goals as goal
 
 -- a call with no path
 no_path : (p : ParsedCall) → ((k n start : ℕ) → p ≡ ByPath k n start → ⊥) → ((second : ℕ) → p ≡ Rename second → ⊥) → NoPath p
@@ -33,20 +32,17 @@ unfolding takes_parsed
 returns-in-ByPath c =
     let s = c.args.call.now in
     let e = c.in-ByPath.is in
-    let n = c.number_of.ensures ∙ ap number_of_form c.form.ensures in (
-      n ∙ path_refused _ _ (sym (ap takes_parsed e) ∙ c.requires.0) _ s
-          ∙ sym (ap (λ (z : ParsedCall). form_number (meant z s)) e),
-      subst (λ z. 0 < z) (sym n) (form_positive _),
-    )
+    c.refusal_of.ensures ∙ ap number_of_form c.form.ensures
+    ∙ path_refused _ _ (sym (ap takes_parsed e) ∙ c.requires.0) _ s
+    ∙ sym (ap (λ (z : ParsedCall). form_number (meant z s)) e)
 
 pub returns-in-Rename : goal.returns-in-Rename
 returns-in-Rename c =
     let s = c.args.call.now in
-    let n = c.number_of-in-Rename.ensures ∙ ap number_of_form c.forms.ensures in (
-      n ∙ rename_refused _ s ∙ sym (ap (λ (z : ParsedCall). form_number (meant z s)) c.in-Rename.is),
-      subst (λ z. 0 < z) (sym n) (form_positive _),
-    )
+    c.refusal_of-in-Rename.ensures ∙ ap number_of_form c.forms.ensures
+    ∙ rename_refused _ s ∙ sym (ap (λ (z : ParsedCall). form_number (meant z s)) c.in-Rename.is)
 
 pub returns-in_default : goal.returns-in_default
 returns-in_default c =
-    (other_refused c.args.p c.args.call.now c.requires.0 (no_path c.args.p c.in_default.not-ByPath c.in_default.not-Rename), omega arith)
+    other_refused c.args.p c.args.call.now c.requires.0
+    (no_path c.args.p c.in_default.not-ByPath c.in_default.not-Rename)
