@@ -50,34 +50,7 @@ pub window-equal : {a0 a1 a2 a3 a4 a5 a6 a7 a8 a9 a10 a11 a12 a13 a14 a15 b0 b1 
     })
 window-equal e0 e1 e2 e3 e4 e5 e6 e7 e8 e9 e10 e11 e12 e13 e14 e15 = cc
 
-pub sixteen-steps : (s : State) (k w : Window) {s1 s2 s3 s4 s5 s6 s7 s8 s9 s10 s11 s12 s13 s14 s15 s16 : State}
-    → s1 ≡ round s k.w0 w.w0 → s2 ≡ round s1 k.w1 w.w1 → s3 ≡ round s2 k.w2 w.w2
-    → s4 ≡ round s3 k.w3 w.w3 → s5 ≡ round s4 k.w4 w.w4 → s6 ≡ round s5 k.w5 w.w5
-    → s7 ≡ round s6 k.w6 w.w6 → s8 ≡ round s7 k.w7 w.w7 → s9 ≡ round s8 k.w8 w.w8
-    → s10 ≡ round s9 k.w9 w.w9 → s11 ≡ round s10 k.w10 w.w10 → s12 ≡ round s11 k.w11 w.w11
-    → s13 ≡ round s12 k.w12 w.w12 → s14 ≡ round s13 k.w13 w.w13 → s15 ≡ round s14 k.w14 w.w14
-    → s16 ≡ round s15 k.w15 w.w15 → s16 ≡ sixteen s k w
-unfolding sixteen
-sixteen-steps s k w e1 e2 e3 e4 e5 e6 e7 e8 e9 e10 e11 e12 e13 e14 e15 e16 = rw (
-  e16,
-  e15,
-  e14,
-  e13,
-  e12,
-  e11,
-  e10,
-  e9,
-  e8,
-  e7,
-  e6,
-  e5,
-  e4,
-  e3,
-  e2,
-  e1,
-)
-
--- the same with a window that moves on after each round
+-- sixteen rounds with a window that moves on after each
 pub rolling_steps : (s : State) (k w : Window) {s1 s2 s3 s4 s5 s6 s7 s8 s9 s10 s11 s12 s13 s14 s15 s16 : State}
     {w1 w2 w3 w4 w5 w6 w7 w8 w9 w10 w11 w12 w13 w14 w15 w16 : Window} → s1 ≡ round s k.w0 w.w0 → w1 ≡ slid w
     → s2 ≡ round s1 k.w1 w1.w0 → w2 ≡ slid w1 → s3 ≡ round s2 k.w2 w2.w0 → w3 ≡ slid w2

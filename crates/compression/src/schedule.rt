@@ -1,16 +1,19 @@
 // The message schedule of FIPS 180-4 §6.2.2, step 1: a window of sixteen words that moves along it.
-ghost use Rattle.std.specs.Prelude.{◌≡◌, ◌+◌, ◌*◌, ◌≤◌, length};
+ghost use Rattle.std.specs.Prelude.{◌≡◌, ◌+◌, ◌≤◌, length};
 ghost use Rattle.compression.specs.Compression.{word};
 ghost use Rattle.compression.specs.Windows.{mixed, loaded, slid};
 
 use crate::Window;
-use crate::words::{add, lower_sigma0, lower_sigma1};
+use crate::words::{lower_sigma0, lower_sigma1};
 
 // W_t, from W_{t-2}, W_{t-7}, W_{t-15} and W_{t-16}.
 pub fn mix(p: u32, q: u32, r: u32, s: u32) -> u32
     ensures { result ≡ mixed p q r s }
 {
-    add(add(add(lower_sigma1(p), q), lower_sigma0(r)), s)
+    lower_sigma1(p)
+        .wrapping_add(q)
+        .wrapping_add(lower_sigma0(r))
+        .wrapping_add(s)
 }
 
 // The sixteen words from one further on.
@@ -37,19 +40,12 @@ pub fn slide(w: Window) -> Window
     }
 }
 
-// A word of its bytes, the most significant first.
-pub fn pack(b3: u8, b2: u8, b1: u8, b0: u8) -> u32
-    ensures { result ≡ b3 * 16777216 + b2 * 65536 + b1 * 256 + b0 }
-{
-    (b3 as u32) * 16777216 + (b2 as u32) * 65536 + (b1 as u32) * 256 + (b0 as u32)
-}
-
 // The word at byte i, its most significant byte first.
 pub fn word_at(m: &[u8], i: usize) -> u32
     requires { i + 4 ≤ length m.now }
     ensures { result ≡ word m.now i }
 {
-    pack(m[i], m[i + 1], m[i + 2], m[i + 3])
+    u32::from_be_bytes(m[i..i + 4].try_into().unwrap())
 }
 
 // The sixteen words of the block that starts at byte i.
