@@ -11,7 +11,7 @@ use Rattle.digest.proofs.padding.rest_of.Goals as goal
 
 pub loop-k-init : goal.loop-k-init
 unfolding with_zeros
-loop-k-init c = (omega arith, refl, sym (overwrite_none 0 (replicate 128 0) 0))
+loop-k-init c = (refl, sym (overwrite_none 0 (replicate 128 0) 0))
 
 pub loop-k-preserved : goal.loop-k-preserved
 unfolding with_zeros
@@ -20,8 +20,7 @@ loop-k-preserved c =
     let m = c.args.m.now in
     let w = length m / 64 * 64 in
     let n = length-drop w m in (
-      omega arith,
-      simp length-set l.invariant.1,
-      rw (l.invariant.2, ← get_or-drop w m l.k 0)
+      simp length-set l.invariant.0,
+      rw (l.invariant.1, ← get_or-drop w m l.k 0)
           (overwrite_more 0 (replicate 128 0) 0 (drop w m) l.k l.k (omega arith) (omega arith) (omega arith)),
     )
