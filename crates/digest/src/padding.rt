@@ -6,13 +6,9 @@ ghost use Rattle.digest.specs.Padding.{with_zeros, last_blocks};
 fn rest_of(m: &[u8]) -> [u8; 128]
     ensures { result ≡ with_zeros (drop (length m.now / 64 * 64) m.now) }
 {
-    let whole = m.len() / 64 * 64;
     let rest = m.len() % 64;
     let mut t = [0; 128];
-    // t has k of the message's last bytes, zeros behind; `copy_from_slice` would ask the C library for memmove
-    for k in 0..rest {
-        t[k] = m[whole + k];
-    }
+    t[..rest].copy_from_slice(&m[m.len() - rest..]);
     t
 }
 
