@@ -5,9 +5,8 @@ use lib.ListN.{get_or-append}
 use lib.Seq.{get_or_at}
 use Rattle.compression.proofs.Congruence.{window-equal}
 use Rattle.compression.specs.Compression.{K, sum, block, next_word, schedule, rounds, compress}
-use Rattle.compression.specs.Windows.{window, loaded, mixed, slid, slid_four, sixteen, later, Rolling}
+use Rattle.compression.specs.Windows.{Window, window, loaded, mixed, slid, slid_four, sixteen, later, Rolling}
 use Rattle.compression.specs.declared.State.{State}
-use Rattle.compression.specs.declared.Window.{Window}
 
 from-0 : (x : State) (v : List ℕ) → sixteen x (window K 0) (window v 0) ≡ rounds x v 16
 unfolding sixteen rounds window

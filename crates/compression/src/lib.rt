@@ -27,32 +27,11 @@ pub struct State {
     pub h: u32,
 }
 
-// Sixteen words of the message schedule, one after the other.
-#[derive(Clone, Copy)]
-pub struct Window {
-    pub w0: u32,
-    pub w1: u32,
-    pub w2: u32,
-    pub w3: u32,
-    pub w4: u32,
-    pub w5: u32,
-    pub w6: u32,
-    pub w7: u32,
-    pub w8: u32,
-    pub w9: u32,
-    pub w10: u32,
-    pub w11: u32,
-    pub w12: u32,
-    pub w13: u32,
-    pub w14: u32,
-    pub w15: u32,
-}
-
 // A state, and the sixteen words of the schedule that come next.
 #[derive(Clone, Copy)]
 pub struct Rolled {
     pub state: State,
-    pub words: Window,
+    pub words: [u32; 16],
 }
 
 // One round, with K_t and W_t.
@@ -97,41 +76,41 @@ fn state_sum(x: State, y: State) -> State
 // each other, so they are done in turn. Compiled in place, so that state and words stay in registers; a `for` over the
 // rounds and an array of words take 4,916 instructions for a block in place of 3,124.
 #[inline(always)]
-fn sixteen_rounds(s: State, t: usize, w: Window) -> Rolled
+fn sixteen_rounds(s: State, t: usize, w: [u32; 16]) -> Rolled
     requires { t ≤ 48 }
     ensures { Rolling s (window K t) w result.state result.words }
 {
-    let s1 = one_round(s, ROUND_CONSTANTS[t], w.w0);
+    let s1 = one_round(s, ROUND_CONSTANTS[t], w[0]);
     let w1 = slide(w);
-    let s2 = one_round(s1, ROUND_CONSTANTS[t + 1], w1.w0);
+    let s2 = one_round(s1, ROUND_CONSTANTS[t + 1], w1[0]);
     let w2 = slide(w1);
-    let s3 = one_round(s2, ROUND_CONSTANTS[t + 2], w2.w0);
+    let s3 = one_round(s2, ROUND_CONSTANTS[t + 2], w2[0]);
     let w3 = slide(w2);
-    let s4 = one_round(s3, ROUND_CONSTANTS[t + 3], w3.w0);
+    let s4 = one_round(s3, ROUND_CONSTANTS[t + 3], w3[0]);
     let w4 = slide(w3);
-    let s5 = one_round(s4, ROUND_CONSTANTS[t + 4], w4.w0);
+    let s5 = one_round(s4, ROUND_CONSTANTS[t + 4], w4[0]);
     let w5 = slide(w4);
-    let s6 = one_round(s5, ROUND_CONSTANTS[t + 5], w5.w0);
+    let s6 = one_round(s5, ROUND_CONSTANTS[t + 5], w5[0]);
     let w6 = slide(w5);
-    let s7 = one_round(s6, ROUND_CONSTANTS[t + 6], w6.w0);
+    let s7 = one_round(s6, ROUND_CONSTANTS[t + 6], w6[0]);
     let w7 = slide(w6);
-    let s8 = one_round(s7, ROUND_CONSTANTS[t + 7], w7.w0);
+    let s8 = one_round(s7, ROUND_CONSTANTS[t + 7], w7[0]);
     let w8 = slide(w7);
-    let s9 = one_round(s8, ROUND_CONSTANTS[t + 8], w8.w0);
+    let s9 = one_round(s8, ROUND_CONSTANTS[t + 8], w8[0]);
     let w9 = slide(w8);
-    let s10 = one_round(s9, ROUND_CONSTANTS[t + 9], w9.w0);
+    let s10 = one_round(s9, ROUND_CONSTANTS[t + 9], w9[0]);
     let w10 = slide(w9);
-    let s11 = one_round(s10, ROUND_CONSTANTS[t + 10], w10.w0);
+    let s11 = one_round(s10, ROUND_CONSTANTS[t + 10], w10[0]);
     let w11 = slide(w10);
-    let s12 = one_round(s11, ROUND_CONSTANTS[t + 11], w11.w0);
+    let s12 = one_round(s11, ROUND_CONSTANTS[t + 11], w11[0]);
     let w12 = slide(w11);
-    let s13 = one_round(s12, ROUND_CONSTANTS[t + 12], w12.w0);
+    let s13 = one_round(s12, ROUND_CONSTANTS[t + 12], w12[0]);
     let w13 = slide(w12);
-    let s14 = one_round(s13, ROUND_CONSTANTS[t + 13], w13.w0);
+    let s14 = one_round(s13, ROUND_CONSTANTS[t + 13], w13[0]);
     let w14 = slide(w13);
-    let s15 = one_round(s14, ROUND_CONSTANTS[t + 14], w14.w0);
+    let s15 = one_round(s14, ROUND_CONSTANTS[t + 14], w14[0]);
     let w15 = slide(w14);
-    let s16 = one_round(s15, ROUND_CONSTANTS[t + 15], w15.w0);
+    let s16 = one_round(s15, ROUND_CONSTANTS[t + 15], w15[0]);
     let w16 = slide(w15);
     Rolled {
         state: s16,
