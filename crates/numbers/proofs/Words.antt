@@ -20,8 +20,8 @@ unfolding encode
 encode_8 x = simp div-div-eq-div-mul
 
 sum_of_four : (at : ℕ) (l : List ℕ)
-    → decode (part at 4 l) ≡ get_or l at 0 + 256 * get_or l (at + 1) 0 + 65536 * get_or l (at + 2) 0 + 16777216 * get_or l
-    (at + 3) 0
+    → decode (part at 4 l) ≡ get_or l at 0 + 256 * get_or l (at + 1) 0 + 65536 * get_or l (at + 2) 0
+    + 16777216 * get_or l (at + 3) 0
 sum_of_four at l =
     rw (
       decode-first 3 at l,

@@ -25,4 +25,5 @@ returns c =
     let a = c.args in
     let e : c.loop-i.i ≡ length a.x.now / 128 = omega arith in
     c.put_bytes-2.ensures
-    ∙ rw c.loop-i.invariant.1 (rw e (rest-next a.m.now a.x.now a.at (128 * (length a.x.now / 128)) (omega arith) (omega arith)))
+    ∙ rw (c.loop-i.invariant.1, e) (rest-next a.m.now a.x.now a.at (128 * (length a.x.now / 128)) (omega arith)
+    (omega arith))

@@ -15,7 +15,8 @@ returns-then-to-from c =
     let a = c.args in
     let e : 128 * (a.n / 128) + 1 * (a.n % 128) ≡ a.n = omega arith in
     c.move_down-then-to-from.ensures
-    ∙ rw c.move_down.ensures (rw e at (block_down a.m.now a.to a.from (128 * (a.n / 128)) (1 * (a.n % 128)) (omega arith) (omega arith)))
+    ∙ rw c.move_down.ensures (rw e at (block_down a.m.now a.to a.from (128 * (a.n / 128)) (1 * (a.n % 128))
+    (omega arith) (omega arith)))
 
 pub returns-else-to-from : goal.returns-else-to-from
 returns-else-to-from c =

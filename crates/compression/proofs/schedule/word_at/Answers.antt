@@ -1,6 +1,7 @@
 -- `compression::schedule::word_at` meets its contract.
 -- Assumes nothing.
-use Rattle.std.proofs.Common.{arith, ap, ◌∙◌, ◌≡◌, ◌+◌, ◌-◌, ◌<◌, ℕ, List, get_or, drop, add-zero, get_or-take, get_or-drop}
+use Rattle.std.proofs.Common.{arith, ap, ◌∙◌, ◌≡◌, ◌+◌, ◌-◌, ◌<◌, ℕ, List, get_or, drop}
+use Rattle.std.proofs.Common.{add-zero, get_or-take, get_or-drop}
 use Rattle.compression.specs.Compression.{word}
 use Rattle.compression.proofs.schedule.word_at.Goals as goal
 

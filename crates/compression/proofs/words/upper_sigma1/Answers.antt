@@ -6,5 +6,5 @@ use Rattle.compression.proofs.words.upper_sigma1.Goals as goal
 
 pub returns : goal.returns
 returns c =
-    c.rotate_right-3.ensures ∙ rw (c.rotate_right-2.ensures, c.rotate_right.ensures) (nested 32 6 5 14 c.args.x (omega arith)
-    (omega arith))
+    c.rotate_right-3.ensures ∙ rw (c.rotate_right-2.ensures, c.rotate_right.ensures)
+    (nested 32 6 5 14 c.args.x (omega arith) (omega arith))

@@ -1,6 +1,7 @@
 -- `digest::padding::rest_of` meets its contract.
 -- Assumes nothing.
-use Rattle.std.proofs.Common.{arith, sym, ap, ◌∙◌, ◌≡◌, ◌-◌, ◌*◌, ◌/◌, ◌%◌, ℕ, List, ◌++◌, length, replicate, drop, length-drop, take_all}
+use Rattle.std.proofs.Common.{arith, sym, ap, ◌∙◌, ◌≡◌, ◌-◌, ◌*◌, ◌/◌, ◌%◌, ℕ, List, ◌++◌}
+use Rattle.std.proofs.Common.{length, replicate, drop, length-drop, take_all}
 use Rattle.lists.specs.PartLaws.{overwrite_front}
 use Rattle.digest.specs.Padding.{with_zeros}
 use Rattle.digest.proofs.padding.rest_of.Goals as goal
