@@ -47,7 +47,7 @@ pub fn word_at(m: &[u8], i: usize) -> u32
     u32::from_be_bytes(m[i..i + 4].try_into().unwrap())
 }
 
-// The sixteen words of the block that starts at byte i.
+// The sixteen words of the block that starts at byte i. Over `array::from_fn` the proof did not close.
 pub fn load(m: &[u8], i: usize) -> [u32; 16]
     requires { i + 64 ≤ length m.now }
     ensures { result ≡ loaded m.now i }
