@@ -14,35 +14,47 @@ fn bytes_at<const N: usize>(m: &[u8], at: usize) -> [u8; N]
     m[at..at + N].try_into().unwrap()
 }
 
-// Whether two strings of N to 2 * N bytes are equal: the last N, and the first N, since names of one directory often
-// begin alike.
-#[inline(always)]
-fn same_ends<const N: usize>(a: &[u8], b: &[u8]) -> bool
-    requires { (length a.now ≡ length b.now) × (N ≤ length a.now) × (length a.now ≤ 2 * N) }
+// Whether two strings of four to eight bytes are equal: the last four, and the first four. Names of one directory often
+// begin alike. One function over the width, which compares arrays, keeps a search from being compiled in place: the
+// row `stat, shallow, 256 nodes` of bench/run then has 1.87 of C, over its bar of 1.30.
+fn same_to_8(a: &[u8], b: &[u8]) -> bool
+    requires { (length a.now ≡ length b.now) × (4 ≤ length a.now) × (length a.now ≤ 8) }
     ensures { result ≡ equal a.now b.now }
 {
-    let last = a.len() - N;
-    bytes_at::<N>(a, last) == bytes_at::<N>(b, last) && bytes_at::<N>(a, 0) == bytes_at::<N>(b, 0)
-}
-
-// Whether two strings are equal, a byte at a time. With `==` here a search is no longer compiled in place (bench/run,
-// `stat, shallow, 256 nodes`: 1.87 of C, where the bar is 1.30).
-fn same_bytes(a: &[u8], b: &[u8]) -> bool
-    requires { length a.now ≡ length b.now }
-    ensures { result ≡ equal a.now b.now }
-{
-    // the first i bytes are alike
-    for i in 0..a.len() {
-        if a[i] != b[i] {
-            return false;
-        }
+    let last = a.len() - 4;
+    if numbers::u32_at(a, last) != numbers::u32_at(b, last) {
+        return false;
     }
-    true
+    numbers::u32_at(a, 0) == numbers::u32_at(b, 0)
 }
 
-// Whether two strings are equal. Names and digests are compared in place and without a loop, so that a search is an
-// innermost loop: `==` alone misses the bar of bench/tables at `find`, names of 28 bytes (1.21 of C, and so 0.29).
-#[inline(always)]
+// The same for eight to sixteen bytes.
+fn same_to_16(a: &[u8], b: &[u8]) -> bool
+    requires { (length a.now ≡ length b.now) × (8 ≤ length a.now) × (length a.now ≤ 16) }
+    ensures { result ≡ equal a.now b.now }
+{
+    let last = a.len() - 8;
+    if numbers::u64_at(a, last) != numbers::u64_at(b, last) {
+        return false;
+    }
+    numbers::u64_at(a, 0) == numbers::u64_at(b, 0)
+}
+
+// The same for sixteen to thirty-two bytes.
+fn same_to_32(a: &[u8], b: &[u8]) -> bool
+    requires { (length a.now ≡ length b.now) × (16 ≤ length a.now) × (length a.now ≤ 32) }
+    ensures { result ≡ equal a.now b.now }
+{
+    let n = a.len();
+    let last = n - 16;
+    if !same_to_16(&a[last..n], &b[last..n]) {
+        return false;
+    }
+    same_to_16(&a[0..16], &b[0..16])
+}
+
+// Whether two strings are equal. Names and digests are compared without a loop, so that a search is an innermost loop:
+// `==` alone misses the bar of bench/tables at `find`, names of 28 bytes (1.21 of C, over 1.15).
 pub fn same(a: &[u8], b: &[u8]) -> bool
     ensures { result ≡ equal a.now b.now }
 {
@@ -50,10 +62,10 @@ pub fn same(a: &[u8], b: &[u8]) -> bool
         return false;
     }
     match a.len() {
-        4..8 => same_ends::<4>(a, b),
-        8..=16 => same_ends::<8>(a, b),
-        17..=32 => same_ends::<16>(a, b),
-        _ => same_bytes(a, b),
+        4..8 => same_to_8(a, b),
+        8..=16 => same_to_16(a, b),
+        17..=32 => same_to_32(a, b),
+        _ => a == b,
     }
 }
 

@@ -1,0 +1,25 @@
+-- `buffers::same_to_16` meets its contract. Assumes nothing.
+use native.Mathlib.Omega.{arith}
+use Prim.Native.Nat.{◌-◌}
+use mathlib.Core.Path.{sym, ◌∙◌}
+use lib.ListN.{length}
+use Rattle.lists.specs.All.{Bytes}
+use Rattle.lists.specs.EqualLaws.{bytes_of, word_differs, first_decides}
+use Rattle.buffers.proofs.same_to_16.Goals as goal
+
+pub returns-then-u64_at : goal.returns-then-u64_at
+returns-then-u64_at c =
+    let a = c.args in
+    word_differs a.a.now a.b.now (length a.a.now - 8) 8 _ _ c.u64_at.ensures
+    c.u64_at-2.ensures c.if-u64_at.true
+
+pub returns : goal.returns
+returns c =
+    let a = c.args in
+    let p : Bytes a.a.now = bytes_of a.a.now
+    (λ k. omega (arith, c.type_inv.a k)) in
+    let q : Bytes a.b.now = bytes_of a.b.now
+    (λ k. omega (arith, c.type_inv.b k)) in
+    first_decides a.a.now a.b.now p q 8 (length a.a.now - 8) _ _ (omega arith) (omega arith) (omega arith)
+    (sym c.u64_at.ensures ∙ c.if-u64_at.false ∙ c.u64_at-2.ensures)
+    c.u64_at-3.ensures c.u64_at-4.ensures
