@@ -1,2 +1,1 @@
 mod Blocks
-mod Equality

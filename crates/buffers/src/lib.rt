@@ -14,6 +14,21 @@ fn bytes_at<const N: usize>(m: &[u8], at: usize) -> [u8; N]
     m[at..at + N].try_into().unwrap()
 }
 
+// Whether two strings are equal, a byte at a time. With `==` in its place a search is no longer compiled in place: 6,706
+// instructions for `find`, names of 1 byte, in place of 2,348 (bench/tables).
+fn same_bytes(a: &[u8], b: &[u8]) -> bool
+    requires { length a.now ≡ length b.now }
+    ensures { result ≡ equal a.now b.now }
+{
+    // the first i bytes are alike
+    for i in 0..a.len() {
+        if a[i] != b[i] {
+            return false;
+        }
+    }
+    true
+}
+
 // Whether two strings of four to eight bytes are equal: the last four, and the first four. Names of one directory often
 // begin alike. One function over the width, which compares arrays, keeps a search from being compiled in place: the
 // row `stat, shallow, 256 nodes` of bench/run then has 1.87 of C, over its bar of 1.30.
@@ -65,7 +80,7 @@ pub fn same(a: &[u8], b: &[u8]) -> bool
         4..8 => same_to_8(a, b),
         8..=16 => same_to_16(a, b),
         17..=32 => same_to_32(a, b),
-        _ => a == b,
+        _ => same_bytes(a, b),
     }
 }
 

@@ -1,12 +1,8 @@
 -- `buffers::same` meets its contract. Assumes nothing.
-use mathlib.Core.Path.{sym, ap, ◌∙◌}
+use mathlib.Core.Path.{sym, ap}
 use lib.ListN.{length}
 use Rattle.lists.specs.Equal.{equal-no}
-use Rattle.buffers.proofs.Equality.{pointwise_equal}
 use Rattle.buffers.proofs.same.Goals as goal
 
 pub returns-then-a-b : goal.returns-then-a-b
 returns-then-a-b c = sym (equal-no _ _ (λ e. c.if-a-b.true (ap length e)))
-
-pub returns-in_default : goal.returns-in_default
-returns-in_default c = c.eq.ensures ∙ pointwise_equal _ _
