@@ -1,18 +1,19 @@
 -- Overwrites that follow each other, and moves within a list a block at a time. Over any element; assumes nothing.
-use Prim.Native.Nat.{ℕ, ◌+◌, ◌<◌, ◌≤◌, ◌-◌}
+use Prim.Native.Nat.{ℕ, zero, suc, ◌+◌, ◌*◌, ◌<◌, ◌≤◌, ◌-◌}
 use mathlib.Core.Path.{◌≡◌, sym, ap, ◌∙◌}
 use mathlib.Core.List.{List, ◌++◌, append_assoc}
 use native.Mathlib.Nat.{add_assoc}
-use native.Mathlib.Numerals.{add-one}
 use native.Mathlib.Omega.{arith}
-use lib.ListN.{length, get_or, set, take, drop, length-append, length-drop, take-append-drop}
-use lib.Seq.{take-add, take-suc, take-suc-set, drop-drop, get_or-drop, length-take-le, take-length, take_all}
+use lib.ListN.{length, take, drop, length-append, length-drop, take-append-drop}
+use lib.Seq.{take-add, drop-drop, length-take-le, take-length, take_all}
 use lib.Seq.{drop-append-add, drop_at}
-use Rattle.lists.specs.All.{Bytes, all_take, all_drop}
-use Rattle.lists.specs.LittleEndian.{encode, decode, encode-decode}
 use Rattle.lists.specs.Parts.{part, overwrite}
 use Rattle.lists.specs.PartLaws.{length_part, length_overwrite, part-before, part-after, overwrite_behind, parted}
 use Rattle.lists.specs.PartLaws.{overwrite_next}
+
+pub one_less : (n i : ℕ) → 0 < i → n * (i - 1) + n ≡ n * i
+one_less n zero h = absurd (omega arith)
+one_less n (suc i) h = let e : suc i - 1 ≡ i = omega arith in rw e (omega arith)
 
 module _ {A : Type 0} where
   pub part-add : (l : List A) (from i k : ℕ) → part from (i + k) l ≡ part from i l ++ part (from + i) k l
@@ -65,20 +66,6 @@ module _ {A : Type 0} where
       )
       (overwrite_last l (to + (i - k)) (part (from + (i - k)) k l) (part (from + i) (n - i) l) (to + i) (omega arith)
       (omega arith))
-
-  -- one element more of a part that is read
-  pub read_next : (d : A) (b l : List A) (at i : ℕ) → i < length b → at + i < length l → take i b ≡ part at i l
-      → take (i + 1) (set b i (get_or l (at + i) d)) ≡ part at (i + 1) l
-  unfolding part
-  read_next d b l at i h f e =
-      rw (
-        add-one i,
-        take-suc-set b i (get_or l (at + i) d) h,
-        e,
-        take-suc (drop at l) i d
-            (rw (length-drop at l) (omega arith)),
-        get_or-drop at l i d,
-      )
 
   pub block-next : (l x : List A) (at i k : ℕ) → i + k ≤ length x → at + i ≤ length l
       → overwrite (overwrite l at (take i x)) (at + i) (part i k x) ≡ overwrite l at (take (i + k) x)
@@ -138,8 +125,3 @@ module _ {A : Type 0} where
             (omega arith) (omega arith),
         take-append-drop j x,
       )
-
--- the number that stands in n bytes, written as n bytes
-pub word_again : (x : List ℕ) → Bytes x → (i n : ℕ) → i + n ≤ length x → encode n (decode (part i n x)) ≡ part i n x
-unfolding part
-word_again x p i n h = rw (length_part i n x h) at (encode-decode (part i n x) (all_take n (all_drop i p)))

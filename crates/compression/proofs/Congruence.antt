@@ -1,93 +1,37 @@
 -- Where a function's calls are too many for `cc`, a law over variables: windows of equal words, and sixteen rounds in
 -- turn.
 -- Assumes nothing.
-use Rattle.std.proofs.Common.{◌≡◌, ℕ}
+use Rattle.std.proofs.Common.{◌≡◌, ℕ, [], ◌∷◌, slice_index}
 use Rattle.compression.specs.Compression.{round}
-use Rattle.compression.specs.Windows.{slid, slid_four, sixteen, Rolling}
+use Rattle.compression.specs.Windows.{Window, slid, slid_four, sixteen, Rolling}
 use Rattle.compression.specs.declared.State.{State}
-use Rattle.compression.specs.declared.Window.{Window}
 
 pub window-equal : {a0 a1 a2 a3 a4 a5 a6 a7 a8 a9 a10 a11 a12 a13 a14 a15 b0 b1 b2 b3 b4 b5 b6 b7 b8 b9 b10 b11 b12 b13
     b14 b15 : ℕ} → a0 ≡ b0 → a1 ≡ b1 → a2 ≡ b2 → a3 ≡ b3 → a4 ≡ b4 → a5 ≡ b5 → a6 ≡ b6 → a7 ≡ b7 → a8 ≡ b8 → a9 ≡ b9
     → a10 ≡ b10 → a11 ≡ b11 → a12 ≡ b12 → a13 ≡ b13 → a14 ≡ b14 → a15 ≡ b15
-    → ◌≡◌ {A = Window} (record {
-      w0 = a0;
-      w1 = a1;
-      w2 = a2;
-      w3 = a3;
-      w4 = a4;
-      w5 = a5;
-      w6 = a6;
-      w7 = a7;
-      w8 = a8;
-      w9 =
-          a9;
-      w10 = a10;
-      w11 = a11;
-      w12 = a12;
-      w13 = a13;
-      w14 = a14;
-      w15 = a15;
-    })
-    (record {
-      w0 = b0;
-      w1 = b1;
-      w2 = b2;
-      w3 = b3;
-      w4 = b4;
-      w5 = b5;
-      w6 = b6;
-      w7 = b7;
-      w8 = b8;
-      w9 = b9;
-      w10 =
-          b10;
-      w11 = b11;
-      w12 = b12;
-      w13 = b13;
-      w14 = b14;
-      w15 = b15;
-    })
+    → ◌≡◌ {A = Window} (a0 ∷ a1 ∷ a2 ∷ a3 ∷ a4 ∷ a5 ∷ a6 ∷ a7 ∷ a8 ∷ a9 ∷ a10 ∷ a11 ∷ a12 ∷ a13 ∷ a14 ∷ a15 ∷ [])
+    (b0 ∷ b1 ∷ b2 ∷ b3 ∷ b4 ∷ b5 ∷ b6 ∷ b7 ∷ b8 ∷ b9 ∷ b10 ∷ b11 ∷ b12 ∷ b13 ∷ b14 ∷ b15 ∷ [])
 window-equal e0 e1 e2 e3 e4 e5 e6 e7 e8 e9 e10 e11 e12 e13 e14 e15 = cc
 
-pub sixteen-steps : (s : State) (k w : Window) {s1 s2 s3 s4 s5 s6 s7 s8 s9 s10 s11 s12 s13 s14 s15 s16 : State}
-    → s1 ≡ round s k.w0 w.w0 → s2 ≡ round s1 k.w1 w.w1 → s3 ≡ round s2 k.w2 w.w2
-    → s4 ≡ round s3 k.w3 w.w3 → s5 ≡ round s4 k.w4 w.w4 → s6 ≡ round s5 k.w5 w.w5
-    → s7 ≡ round s6 k.w6 w.w6 → s8 ≡ round s7 k.w7 w.w7 → s9 ≡ round s8 k.w8 w.w8
-    → s10 ≡ round s9 k.w9 w.w9 → s11 ≡ round s10 k.w10 w.w10 → s12 ≡ round s11 k.w11 w.w11
-    → s13 ≡ round s12 k.w12 w.w12 → s14 ≡ round s13 k.w13 w.w13 → s15 ≡ round s14 k.w14 w.w14
-    → s16 ≡ round s15 k.w15 w.w15 → s16 ≡ sixteen s k w
-unfolding sixteen
-sixteen-steps s k w e1 e2 e3 e4 e5 e6 e7 e8 e9 e10 e11 e12 e13 e14 e15 e16 = rw (
-  e16,
-  e15,
-  e14,
-  e13,
-  e12,
-  e11,
-  e10,
-  e9,
-  e8,
-  e7,
-  e6,
-  e5,
-  e4,
-  e3,
-  e2,
-  e1,
-)
-
--- the same with a window that moves on after each round
+-- sixteen rounds with a window that moves on after each
 pub rolling_steps : (s : State) (k w : Window) {s1 s2 s3 s4 s5 s6 s7 s8 s9 s10 s11 s12 s13 s14 s15 s16 : State}
-    {w1 w2 w3 w4 w5 w6 w7 w8 w9 w10 w11 w12 w13 w14 w15 w16 : Window} → s1 ≡ round s k.w0 w.w0 → w1 ≡ slid w
-    → s2 ≡ round s1 k.w1 w1.w0 → w2 ≡ slid w1 → s3 ≡ round s2 k.w2 w2.w0 → w3 ≡ slid w2
-    → s4 ≡ round s3 k.w3 w3.w0 → w4 ≡ slid w3 → s5 ≡ round s4 k.w4 w4.w0 → w5 ≡ slid w4
-    → s6 ≡ round s5 k.w5 w5.w0 → w6 ≡ slid w5 → s7 ≡ round s6 k.w6 w6.w0 → w7 ≡ slid w6
-    → s8 ≡ round s7 k.w7 w7.w0 → w8 ≡ slid w7 → s9 ≡ round s8 k.w8 w8.w0 → w9 ≡ slid w8
-    → s10 ≡ round s9 k.w9 w9.w0 → w10 ≡ slid w9 → s11 ≡ round s10 k.w10 w10.w0 → w11 ≡ slid w10
-    → s12 ≡ round s11 k.w11 w11.w0 → w12 ≡ slid w11 → s13 ≡ round s12 k.w12 w12.w0 → w13 ≡ slid w12
-    → s14 ≡ round s13 k.w13 w13.w0 → w14 ≡ slid w13 → s15 ≡ round s14 k.w14 w14.w0 → w15 ≡ slid w14
-    → s16 ≡ round s15 k.w15 w15.w0 → w16 ≡ slid w15 → Rolling s k w s16 w16
+    {w1 w2 w3 w4 w5 w6 w7 w8 w9 w10 w11 w12 w13 w14 w15 w16 : Window}
+    → s1 ≡ round s (slice_index k 0) (slice_index w 0) → w1 ≡ slid w
+    → s2 ≡ round s1 (slice_index k 1) (slice_index w1 0) → w2 ≡ slid w1
+    → s3 ≡ round s2 (slice_index k 2) (slice_index w2 0) → w3 ≡ slid w2
+    → s4 ≡ round s3 (slice_index k 3) (slice_index w3 0) → w4 ≡ slid w3
+    → s5 ≡ round s4 (slice_index k 4) (slice_index w4 0) → w5 ≡ slid w4
+    → s6 ≡ round s5 (slice_index k 5) (slice_index w5 0) → w6 ≡ slid w5
+    → s7 ≡ round s6 (slice_index k 6) (slice_index w6 0) → w7 ≡ slid w6
+    → s8 ≡ round s7 (slice_index k 7) (slice_index w7 0) → w8 ≡ slid w7
+    → s9 ≡ round s8 (slice_index k 8) (slice_index w8 0) → w9 ≡ slid w8
+    → s10 ≡ round s9 (slice_index k 9) (slice_index w9 0) → w10 ≡ slid w9
+    → s11 ≡ round s10 (slice_index k 10) (slice_index w10 0) → w11 ≡ slid w10
+    → s12 ≡ round s11 (slice_index k 11) (slice_index w11 0) → w12 ≡ slid w11
+    → s13 ≡ round s12 (slice_index k 12) (slice_index w12 0) → w13 ≡ slid w12
+    → s14 ≡ round s13 (slice_index k 13) (slice_index w13 0) → w14 ≡ slid w13
+    → s15 ≡ round s14 (slice_index k 14) (slice_index w14 0) → w15 ≡ slid w14
+    → s16 ≡ round s15 (slice_index k 15) (slice_index w15 0) → w16 ≡ slid w15 → Rolling s k w s16 w16
 unfolding sixteen slid slid_four
 rolling_steps s k w e1 f1 e2 f2 e3 f3 e4 f4 e5 f5 e6 f6 e7 f7 e8 f8 e9 f9 e10 f10 e11 f11 e12 f12 e13 f13 e14 f14 e15
     f15 e16 f16 =

@@ -5,9 +5,8 @@ use lib.ListN.{get_or-append}
 use lib.Seq.{get_or_at}
 use Rattle.compression.proofs.Congruence.{window-equal}
 use Rattle.compression.specs.Compression.{K, sum, block, next_word, schedule, rounds, compress}
-use Rattle.compression.specs.Windows.{window, loaded, mixed, slid, slid_four, sixteen, later, Rolling}
+use Rattle.compression.specs.Windows.{Window, window, loaded, mixed, slid, slid_four, sixteen, later, Rolling}
 use Rattle.compression.specs.declared.State.{State}
-use Rattle.compression.specs.declared.Window.{Window}
 
 from-0 : (x : State) (v : List ℕ) → sixteen x (window K 0) (window v 0) ≡ rounds x v 16
 unfolding sixteen rounds window
@@ -148,10 +147,8 @@ unfolding block
 compressed_block x p i = compressed (block p i) refl x (loaded p i) (loaded-window p i)
 
 -- the same from what each of the code's calls gives
-pub compressed_rolling : (x : State) (p : List ℕ) (i : ℕ) {l k0 k1 k2 k3 w1 w2 w3 : Window} {s1 s2 s3 s4 r : State}
-    → l ≡ loaded p i → k0 ≡ window K 0 → k1 ≡ window K 16 → k2 ≡ window K 32 → k3 ≡ window K 48
-    → Rolling x k0 l s1 w1 → Rolling s1 k1 w1 s2 w2 → Rolling s2 k2 w2 s3 w3 → s4 ≡ sixteen s3 k3 w3 → r ≡ sum s4 x
-    → r ≡ compress x (block p i)
-compressed_rolling x p i el e0 e1 e2 e3 a b c d e =
-    rw (e, d, c.state, c.words, b.state, b.words, a.state, a.words, e0, e1, e2, e3, el)
-    (sym (compressed_block x p i))
+pub compressed_rolling : (x : State) (p : List ℕ) (i : ℕ) {l w1 w2 w3 w4 : Window} {s1 s2 s3 s4 r : State}
+    → l ≡ loaded p i → Rolling x (window K 0) l s1 w1 → Rolling s1 (window K 16) w1 s2 w2
+    → Rolling s2 (window K 32) w2 s3 w3 → Rolling s3 (window K 48) w3 s4 w4 → r ≡ sum s4 x → r ≡ compress x (block p i)
+compressed_rolling x p i el a b c d e =
+    rw (e, d.state, c.state, c.words, b.state, b.words, a.state, a.words, el) (sym (compressed_block x p i))

@@ -1,47 +1,42 @@
 // The message schedule of FIPS 180-4 §6.2.2, step 1: a window of sixteen words that moves along it.
-ghost use Rattle.std.specs.Prelude.{◌≡◌, ◌+◌, ◌*◌, ◌≤◌, length};
+ghost use Rattle.std.specs.Prelude.{◌≡◌, ◌+◌, ◌≤◌, length};
 ghost use Rattle.compression.specs.Compression.{word};
 ghost use Rattle.compression.specs.Windows.{mixed, loaded, slid};
 
-use crate::Window;
-use crate::words::{add, lower_sigma0, lower_sigma1};
+use crate::words::{lower_sigma0, lower_sigma1};
 
 // W_t, from W_{t-2}, W_{t-7}, W_{t-15} and W_{t-16}.
 pub fn mix(p: u32, q: u32, r: u32, s: u32) -> u32
     ensures { result ≡ mixed p q r s }
 {
-    add(add(add(lower_sigma1(p), q), lower_sigma0(r)), s)
+    lower_sigma1(p)
+        .wrapping_add(q)
+        .wrapping_add(lower_sigma0(r))
+        .wrapping_add(s)
 }
 
 // The sixteen words from one further on.
-pub fn slide(w: Window) -> Window
+pub fn slide(w: [u32; 16]) -> [u32; 16]
     ensures { result ≡ slid w }
 {
-    Window {
-        w0: w.w1,
-        w1: w.w2,
-        w2: w.w3,
-        w3: w.w4,
-        w4: w.w5,
-        w5: w.w6,
-        w6: w.w7,
-        w7: w.w8,
-        w8: w.w9,
-        w9: w.w10,
-        w10: w.w11,
-        w11: w.w12,
-        w12: w.w13,
-        w13: w.w14,
-        w14: w.w15,
-        w15: mix(w.w14, w.w9, w.w1, w.w0),
-    }
-}
-
-// A word of its bytes, the most significant first.
-pub fn pack(b3: u8, b2: u8, b1: u8, b0: u8) -> u32
-    ensures { result ≡ b3 * 16777216 + b2 * 65536 + b1 * 256 + b0 }
-{
-    (b3 as u32) * 16777216 + (b2 as u32) * 65536 + (b1 as u32) * 256 + (b0 as u32)
+    [
+        w[1],
+        w[2],
+        w[3],
+        w[4],
+        w[5],
+        w[6],
+        w[7],
+        w[8],
+        w[9],
+        w[10],
+        w[11],
+        w[12],
+        w[13],
+        w[14],
+        w[15],
+        mix(w[14], w[9], w[1], w[0]),
+    ]
 }
 
 // The word at byte i, its most significant byte first.
@@ -49,30 +44,30 @@ pub fn word_at(m: &[u8], i: usize) -> u32
     requires { i + 4 ≤ length m.now }
     ensures { result ≡ word m.now i }
 {
-    pack(m[i], m[i + 1], m[i + 2], m[i + 3])
+    u32::from_be_bytes(m[i..i + 4].try_into().unwrap())
 }
 
-// The sixteen words of the block that starts at byte i.
-pub fn load(m: &[u8], i: usize) -> Window
+// The sixteen words of the block that starts at byte i. Over `array::from_fn` the proof did not close.
+pub fn load(m: &[u8], i: usize) -> [u32; 16]
     requires { i + 64 ≤ length m.now }
     ensures { result ≡ loaded m.now i }
 {
-    Window {
-        w0: word_at(m, i),
-        w1: word_at(m, i + 4),
-        w2: word_at(m, i + 8),
-        w3: word_at(m, i + 12),
-        w4: word_at(m, i + 16),
-        w5: word_at(m, i + 20),
-        w6: word_at(m, i + 24),
-        w7: word_at(m, i + 28),
-        w8: word_at(m, i + 32),
-        w9: word_at(m, i + 36),
-        w10: word_at(m, i + 40),
-        w11: word_at(m, i + 44),
-        w12: word_at(m, i + 48),
-        w13: word_at(m, i + 52),
-        w14: word_at(m, i + 56),
-        w15: word_at(m, i + 60),
-    }
+    [
+        word_at(m, i),
+        word_at(m, i + 4),
+        word_at(m, i + 8),
+        word_at(m, i + 12),
+        word_at(m, i + 16),
+        word_at(m, i + 20),
+        word_at(m, i + 24),
+        word_at(m, i + 28),
+        word_at(m, i + 32),
+        word_at(m, i + 36),
+        word_at(m, i + 40),
+        word_at(m, i + 44),
+        word_at(m, i + 48),
+        word_at(m, i + 52),
+        word_at(m, i + 56),
+        word_at(m, i + 60),
+    ]
 }

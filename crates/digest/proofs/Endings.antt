@@ -3,11 +3,14 @@
 use mathlib.Core.List.{List, [], ◌∷◌, ◌++◌, append_assoc}
 use mathlib.Core.Path.{◌≡◌, sym, ap, ◌∙◌}
 use Prim.Native.Nat.{ℕ, zero, suc, ◌+◌, ◌-◌, ◌*◌, ◌/◌, ◌%◌, ◌^◌, ◌≤◌, ◌<◌}
-use native.Mathlib.Nat.{zero-add}
+use native.Mathlib.Nat.{zero-add, div-one}
+use Rattle.std.specs.Int.{w32, w64, to_be_bytes}
+use Rattle.std.specs.List.{flat_map}
 use native.Mathlib.Omega.{arith}
 use lib.ListN.{length, get_or, drop, set, replicate, length-append, length-drop, length-replicate}
 use lib.ListN.{replicate-append-replicate, get_or-append}
-use lib.Seq.{drop-append-le, get_or-drop}
+use lib.Seq.{drop-append-le, drop-drop, get_or-drop}
+use borrow.Rule.Slice.PartMut.{put_mid}
 use Rattle.lists.specs.Parts.{overwrite}
 use Rattle.lists.specs.PartLaws.{overwrite_front, overwrite_next, overwrite_snoc}
 use Rattle.lists.specs.BigEndian.{big_endian, length-big_endian}
@@ -18,17 +21,22 @@ use Rattle.digest.specs.laws.Blocks.{block_agrees, hash_agrees}
 use Rattle.digest.specs.Streaming.{ending, absorbed, finished}
 use Rattle.digest.specs.Padding.{with_zeros, last_blocks}
 
-pub length_byte : (n j : ℕ) → j < 8 → n * 2 ^ 3 % 2 ^ 64 / 2 ^ (56 - 8 * j) % 256 ≡ get_or (big_endian 8 (8 * n)) j 0
+pub length_bytes : (n : ℕ) → to_be_bytes w64 (n * 2 ^ 3 % 2 ^ 64) ≡ big_endian 8 (8 * n)
 unfolding big_endian
-length_byte n zero h = omega arith
-length_byte n (suc zero) h = omega arith
-length_byte n (suc (suc zero)) h = omega arith
-length_byte n (suc (suc (suc zero))) h = omega arith
-length_byte n (suc (suc (suc (suc zero)))) h = omega arith
-length_byte n (suc (suc (suc (suc (suc zero))))) h = omega arith
-length_byte n (suc (suc (suc (suc (suc (suc zero)))))) h = omega arith
-length_byte n (suc (suc (suc (suc (suc (suc (suc zero))))))) h = omega arith
-length_byte n (suc (suc (suc (suc (suc (suc (suc (suc j)))))))) h = absurd (omega arith)
+length_bytes n =
+    let e7 : n * 2 ^ 3 % 2 ^ 64 / 256 ^ 7 % 256 ≡ 8 * n / 256 ^ 7 % 256 = omega arith in
+    let e6 : n * 2 ^ 3 % 2 ^ 64 / 256 ^ 6 % 256 ≡ 8 * n / 256 ^ 6 % 256 = omega arith in
+    let e5 : n * 2 ^ 3 % 2 ^ 64 / 256 ^ 5 % 256 ≡ 8 * n / 256 ^ 5 % 256 = omega arith in
+    let e4 : n * 2 ^ 3 % 2 ^ 64 / 256 ^ 4 % 256 ≡ 8 * n / 256 ^ 4 % 256 = omega arith in
+    let e3 : n * 2 ^ 3 % 2 ^ 64 / 256 ^ 3 % 256 ≡ 8 * n / 256 ^ 3 % 256 = omega arith in
+    let e2 : n * 2 ^ 3 % 2 ^ 64 / 256 ^ 2 % 256 ≡ 8 * n / 256 ^ 2 % 256 = omega arith in
+    let e1 : n * 2 ^ 3 % 2 ^ 64 / 256 ^ 1 % 256 ≡ 8 * n / 256 ^ 1 % 256 = omega arith in
+    let e0 : n * 2 ^ 3 % 2 ^ 64 % 256 ≡ 8 * n / 256 ^ 0 % 256 = omega arith in
+    λ i. e7 i ∷ e6 i ∷ e5 i ∷ e4 i ∷ e3 i ∷ e2 i ∷ e1 i ∷ e0 i ∷ []
+
+pub put_overwrite : (l x : List ℕ) (at n : ℕ) → length x ≡ n → put_mid at n l x ≡ overwrite l at x
+unfolding overwrite
+put_overwrite l x at n e = rw (drop-drop n at l, e)
 
 drop-zeros : (k n : ℕ) → drop {A = ℕ} k (replicate n 0) ≡ replicate (n - k) 0
 drop-zeros zero n = let e : n - 0 ≡ n = omega arith in rw e
@@ -134,12 +142,9 @@ module _ (s₀ : State) (m : List ℕ) (n : ℕ) (r : List ℕ) (s s1 : State) (
       ∙ ap (hash s₀ (ending m n)) (omega (arith, length-ending m n)))
 
 -- the bytes of a hash value, of the bytes of its words
-pub spread : (s : State) {a b c d e f g h : List ℕ} → a ≡ big_endian 4 s.a → b ≡ big_endian 4 s.b
-    → c ≡ big_endian 4 s.c → d ≡ big_endian 4 s.d → e ≡ big_endian 4 s.e → f ≡ big_endian 4 s.f
-    → g ≡ big_endian 4 s.g → h ≡ big_endian 4 s.h
-    → get_or a 0 0 ∷ get_or a 1 0 ∷ get_or a 2 0 ∷ get_or a 3 0 ∷ get_or b 0 0 ∷ get_or b 1 0 ∷ get_or b 2 0 ∷ get_or b 3 0 ∷ get_or c 0 0
-    ∷ get_or c 1 0 ∷ get_or c 2 0 ∷ get_or c 3 0 ∷ get_or d 0 0 ∷ get_or d 1 0 ∷ get_or d 2 0 ∷ get_or d 3 0 ∷ get_or e 0 0
-    ∷ get_or e 1 0 ∷ get_or e 2 0 ∷ get_or e 3 0 ∷ get_or f 0 0 ∷ get_or f 1 0 ∷ get_or f 2 0 ∷ get_or f 3 0 ∷ get_or g 0 0
-    ∷ get_or g 1 0 ∷ get_or g 2 0 ∷ get_or g 3 0 ∷ get_or h 0 0 ∷ get_or h 1 0 ∷ get_or h 2 0 ∷ get_or h 3 0 ∷ [] ≡ bytes s
-unfolding big_endian bytes
-spread s pa pb pc pd pe pf pg ph = rw (pa, pb, pc, pd, pe, pf, pg, ph)
+pub spread : (s : State) {a b c d e f g h : List ℕ} → a ≡ to_be_bytes w32 s.a → b ≡ to_be_bytes w32 s.b
+    → c ≡ to_be_bytes w32 s.c → d ≡ to_be_bytes w32 s.d → e ≡ to_be_bytes w32 s.e → f ≡ to_be_bytes w32 s.f
+    → g ≡ to_be_bytes w32 s.g → h ≡ to_be_bytes w32 s.h
+    → flat_map (λ (x : List ℕ). x) (a ∷ b ∷ c ∷ d ∷ e ∷ f ∷ g ∷ h ∷ []) ≡ bytes s
+unfolding bytes big_endian
+spread s pa pb pc pd pe pf pg ph = rw (pa, pb, pc, pd, pe, pf, pg, ph) (simp div-one)

@@ -32,13 +32,10 @@ pub fn initial() -> State
 pub fn absorb(s: State, blocks: &[u8]) -> State
     ensures { result ≡ absorbed s blocks.now }
 {
-    let n = blocks.len() / 64;
     let mut h = s;
-    let mut i = 0;
     // h is the hash value after i blocks
-    while i < n {
+    for i in 0..blocks.len() / 64 {
         h = compression::next_hash(h, blocks, 64 * i);
-        i += 1;
     }
     h
 }

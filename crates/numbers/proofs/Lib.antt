@@ -1,1 +1,1 @@
-mod FourBytes
+mod Words

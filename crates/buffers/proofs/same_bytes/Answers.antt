@@ -19,4 +19,4 @@ returns c =
     let a = c.args in
     let l = c.loop-i in
     sym (equal_yes a.a.now a.b.now (alike_all a.a.now a.b.now l.i (omega arith) (omega arith)
-    l.invariant.1))
+    l.invariant))

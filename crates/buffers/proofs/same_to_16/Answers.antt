@@ -17,9 +17,9 @@ pub returns : goal.returns
 returns c =
     let a = c.args in
     let p : Bytes a.a.now = bytes_of a.a.now
-    (λ k. omega (arith, c.shared_slice_known-1.given k)) in
+    (λ k. omega (arith, c.type_inv.a k)) in
     let q : Bytes a.b.now = bytes_of a.b.now
-    (λ k. omega (arith, c.shared_slice_known-2-1.given k)) in
+    (λ k. omega (arith, c.type_inv.b k)) in
     first_decides a.a.now a.b.now p q 8 (length a.a.now - 8) _ _ (omega arith) (omega arith) (omega arith)
     (sym c.u64_at.ensures ∙ c.if-u64_at.false ∙ c.u64_at-2.ensures)
     c.u64_at-3.ensures c.u64_at-4.ensures

@@ -17,9 +17,9 @@ pub returns : goal.returns
 returns c =
     let a = c.args in
     let p : Bytes a.a.now = bytes_of a.a.now
-    (λ k. omega (arith, c.shared_slice_known-1.given k)) in
+    (λ k. omega (arith, c.type_inv.a k)) in
     let q : Bytes a.b.now = bytes_of a.b.now
-    (λ k. omega (arith, c.shared_slice_known-2-1.given k)) in
+    (λ k. omega (arith, c.type_inv.b k)) in
     first_decides a.a.now a.b.now p q 4 (length a.a.now - 4) _ _ (omega arith) (omega arith) (omega arith)
     (sym c.u32_at.ensures ∙ c.if-u32_at.false ∙ c.u32_at-2.ensures)
     c.u32_at-3.ensures c.u32_at-4.ensures

@@ -7,12 +7,8 @@ pub returns : goal.returns
 returns c =
     compressed_rolling _ _ _
     c.load.ensures
-    c.constants_0.ensures
-    c.constants_16.ensures
-    c.constants_32.ensures
-    c.constants_48.ensures
-    c.first_rounds-r0.ensures
-    c.second_rounds-r1.ensures
-    c.third_rounds-r2.ensures
-    c.sixteen_rounds-s4.ensures
+    c.sixteen_rounds-first.ensures
+    c.sixteen_rounds-second.ensures
+    c.sixteen_rounds-third.ensures
+    c.sixteen_rounds-last.ensures
     c.state_sum.ensures

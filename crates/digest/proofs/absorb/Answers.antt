@@ -1,4 +1,4 @@
--- `digest::absorb` meets its contract. The invariant: h is the hash value after i blocks. The measure: the blocks left.
+-- `digest::absorb` meets its contract. The invariant: h is the hash value after i blocks.
 -- Assumes nothing.
 use mathlib.Core.Path.{refl, ◌∙◌, ap}
 use native.Mathlib.Omega.{arith}
@@ -9,12 +9,12 @@ use Rattle.digest.proofs.absorb.Goals as goal
 
 pub loop-i-init : goal.loop-i-init
 unfolding hash
-loop-i-init c = (omega arith, refl)
+loop-i-init c = refl
 
 pub loop-i-preserved : goal.loop-i-preserved
 unfolding hash
-loop-i-preserved c = (omega arith, rw add-one (c.next_hash-h.ensures ∙ rw c.loop-i.invariant.1))
+loop-i-preserved c = rw add-one (c.next_hash-h.ensures ∙ rw c.loop-i.invariant)
 
 pub returns : goal.returns
 unfolding absorbed
-returns c = c.loop-i.invariant.1 ∙ ap (hash _ _) (omega arith)
+returns c = c.loop-i.invariant ∙ ap (hash _ _) (omega arith)

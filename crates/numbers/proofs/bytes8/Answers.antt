@@ -1,8 +1,7 @@
 -- `numbers::bytes8` meets its contract. Assumes nothing.
-use mathlib.Core.Path.{refl}
-use Rattle.lists.specs.LittleEndian.{encode}
+use mathlib.Core.Path.{◌∙◌}
+use Rattle.numbers.proofs.Words.{encode_8}
 use Rattle.numbers.proofs.bytes8.Goals as goal
 
 pub returns : goal.returns
-unfolding encode
-returns c = refl
+returns c = c.to_le_bytes.ensures ∙ encode_8 c.args.x

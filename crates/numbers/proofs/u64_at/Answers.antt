@@ -1,8 +1,16 @@
 -- `numbers::u64_at` meets its contract. Assumes nothing.
-use native.Mathlib.Omega.{arith}
-use Rattle.lists.specs.NumberParts.{decode-split}
+use Rattle.std.proofs.Common.{arith, ap, ◌∙◌, ◌≡◌, ◌+◌, ◌-◌, length}
+use Rattle.lists.specs.Parts.{part}
+use Rattle.lists.specs.PartLaws.{length_part}
+use Rattle.lists.specs.LittleEndian.{decode}
+use Rattle.numbers.proofs.Words.{decode_8}
 use Rattle.numbers.proofs.u64_at.Goals as goal
 
 pub returns : goal.returns
-returns c = let a = c.args in
-    omega (arith, decode-split 4 4 a.at a.b.now)
+unfolding part
+returns c =
+    let a = c.args in
+    let e : a.at + 8 - a.at ≡ 8 = omega arith in
+    let same : c.unwrap.result ≡ part a.at 8 a.b.now = rw e at (rw c.unwrap.ensures at c.try_into.ensures.1).same in
+    c.from_le_bytes.ensures
+    ∙ decode_8 c.unwrap.result (ap length same ∙ length_part a.at 8 a.b.now (omega arith)) ∙ ap decode same

@@ -1,27 +1,19 @@
--- `digest::padding::rest_of` meets its contract. t has the first k bytes after the last whole block.
+-- `digest::padding::rest_of` meets its contract.
 -- Assumes nothing.
-use Prim.Native.Nat.{◌*◌, ◌/◌}
-use mathlib.Core.Path.{refl, sym}
-use native.Mathlib.Omega.{arith}
-use lib.ListN.{length, drop, replicate, length-set, length-drop}
-use lib.Seq.{get_or-drop}
-use Rattle.lists.specs.PartLaws.{overwrite_none, overwrite_more}
+use Rattle.std.proofs.Common.{arith, sym, ap, ◌∙◌, ◌≡◌, ◌-◌, ◌*◌, ◌/◌, ◌%◌, ℕ, List, ◌++◌}
+use Rattle.std.proofs.Common.{length, replicate, drop, length-drop, take_all}
+use Rattle.lists.specs.PartLaws.{overwrite_front}
 use Rattle.digest.specs.Padding.{with_zeros}
 use Rattle.digest.proofs.padding.rest_of.Goals as goal
 
-pub loop-k-init : goal.loop-k-init
+pub returns : goal.returns
 unfolding with_zeros
-loop-k-init c = (omega arith, refl, sym (overwrite_none 0 (replicate 128 0) 0))
-
-pub loop-k-preserved : goal.loop-k-preserved
-unfolding with_zeros
-loop-k-preserved c =
-    let l = c.loop-k in
+returns c =
     let m = c.args.m.now in
-    let w = length m / 64 * 64 in
-    let n = length-drop w m in (
-      omega arith,
-      simp length-set l.invariant.1,
-      rw (l.invariant.2, ← get_or-drop w m l.k 0)
-          (overwrite_more 0 (replicate 128 0) 0 (drop w m) l.k l.k (omega arith) (omega arith) (omega arith)),
-    )
+    let whole = length m / 64 * 64 in
+    let e : length m - length m % 64 ≡ whole = omega arith in
+    let n : length (drop whole m) ≡ length m % 64 = length-drop whole m ∙ omega arith in
+    let same : c.copy_from_slice.new.self ≡ drop whole m =
+    rw e at c.copy_from_slice.ensures.after ∙ take_all (length m - whole) (drop whole m) (omega arith) in
+    ap (λ (x : List ℕ). x ++ drop (length m % 64) (replicate 128 0)) same
+    ∙ sym (overwrite_front (replicate 128 0) (drop whole m) ∙ rw n)
