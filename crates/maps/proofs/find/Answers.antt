@@ -16,7 +16,7 @@ returns-then-map_address-address c =
     let a = c.args in
     let l = c.loop-i in
     let f : length (mem_of a.m.now).maps ≡ _ = length_maps a.m.now in
-    sym (place_hit no_map (mem_of a.m.now).maps a.n l.i (omega arith) (starts_at a.address) l.invariant.1
+    sym (place_hit no_map (mem_of a.m.now).maps a.n l.i (omega arith) (starts_at a.address) l.invariant
     (omega arith) (eq-eqb _ _ (sym c.map_address.ensures ∙ c.if-map_address-address.true)))
 
 pub loop-i-preserved : goal.loop-i-preserved
@@ -24,11 +24,9 @@ unfolding map_at
 loop-i-preserved c =
     let a = c.args in
     let l = c.loop-i in
-    let f : length (mem_of a.m.now).maps ≡ _ = length_maps a.m.now in (
-      omega arith,
-      place_miss no_map (mem_of a.m.now).maps a.n l.i (omega arith) (starts_at a.address) l.invariant.1
-          (omega arith) (ne_eqb _ _ (λ q. c.if-map_address-address.false (c.map_address.ensures ∙ q))),
-    )
+    let f : length (mem_of a.m.now).maps ≡ _ = length_maps a.m.now in
+    place_miss no_map (mem_of a.m.now).maps a.n l.i (omega arith) (starts_at a.address) l.invariant
+    (omega arith) (ne_eqb _ _ (λ q. c.if-map_address-address.false (c.map_address.ensures ∙ q)))
 
 pub returns : goal.returns
 unfolding find_map
@@ -36,5 +34,6 @@ returns c =
     let a = c.args in
     let l = c.loop-i in
     let f : length (mem_of a.m.now).maps ≡ _ = length_maps a.m.now in
-    sym (place_end no_map (mem_of a.m.now).maps a.n l.i (omega arith) (starts_at a.address) l.invariant.1
+    let e : a.n ≡ l.i = omega arith in
+    e ∙ sym (place_end no_map (mem_of a.m.now).maps a.n l.i (omega arith) (starts_at a.address) l.invariant
     (omega arith))

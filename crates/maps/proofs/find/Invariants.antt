@@ -1,6 +1,6 @@
 -- `maps::find` meets its contract. The invariant: the place is i and the place in what remains. Assumes nothing.
 use mathlib.Core.Path.{◌≡◌}
-use Prim.Native.Nat.{◌+◌, ◌-◌, ◌≤◌}
+use Prim.Native.Nat.{◌+◌}
 use lib.ListN.{take, drop}
 use Rattle.lists.specs.Search.{place}
 use Rattle.memory.specs.Layout.{mem_of}
@@ -9,8 +9,5 @@ use Rattle.maps.proofs.find.Given as goal
 
 abbrev pub invariant-loop-i : goal.invariant-loop-i
 invariant-loop-i l =
-    (l.i ≤ l.n) × (place (starts_at l.address) (take l.n (mem_of l.m).maps) ≡ l.i + place (starts_at l.address)
+    (place (starts_at l.address) (take l.n (mem_of l.m).maps) ≡ l.i + place (starts_at l.address)
     (drop l.i (take l.n (mem_of l.m).maps)))
-
-abbrev pub decreases-loop-i : goal.decreases-loop-i
-decreases-loop-i l = l.n - l.i
