@@ -8,7 +8,8 @@
 --   Judges r w ns F         F where r; where not, the nodes are not sound
 --   Apart, Rooted           what the passes find: records that stand apart, ways to the root
 -- Assumes nothing.
-use Rattle.std.specs.Prelude.{Bool, true, false, List, [], ◌∷◌, ◌≡◌, ℕ, ◌+◌, ◌*◌, ◌%◌, ◌≤◌, ◌<◌, length, get_or, Option, MatchOption}
+use Rattle.std.specs.Prelude.{Bool, true, false, Option, MatchOption, List, [], ◌∷◌, ◌≡◌, length, get_or}
+use Rattle.std.specs.Prelude.{ℕ, ◌+◌, ◌*◌, ◌%◌, ◌≤◌, ◌<◌}
 use Rattle.filesystem.specs.Tables.{NODES, PATH_BYTES, Node}
 use Rattle.filesystem.specs.Image.{Layout, in_limits, is_named}
 use Rattle.filesystem.specs.Sound.{Sound}

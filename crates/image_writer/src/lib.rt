@@ -43,6 +43,9 @@ pub fn image_length(m: &[u8], n: usize, layout: Layout) -> usize
 
 // ---- writing
 
+// Each writes at a place of `out` and not at the front of a slice of it: what it promises is then of the whole buffer,
+// and the next one goes on from the place that it returns.
+
 // Two ids, written over a part of out.
 fn write_ids(out: &mut [u8], at: usize, layout: Layout, id: u64, parent: u64)
     requires { at + 2 * layout.id_bytes ≤ length out.old }

@@ -51,7 +51,8 @@ module _ (m : List ℕ) (i : ℕ) where
 
     pub open-handle : (open_at (mem_of m).opens i).handle ≡ decode (part (opens_at + i * open_width) 8 m)
     unfolding open_of
-    open-handle = rw add-zero at (number (λ o. o.handle) m open_row open_width 0 (open_at_lem m i h) 8 refl (omega arith))
+    open-handle =
+        rw add-zero at (number (λ o. o.handle) m open_row open_width 0 (open_at_lem m i h) 8 refl (omega arith))
 
     pub open-descriptor : (open_at (mem_of m).opens i).descriptor ≡ decode (part (opens_at + i * open_width + 8) 4 m)
     unfolding open_of

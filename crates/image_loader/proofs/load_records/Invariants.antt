@@ -12,4 +12,5 @@ abbrev pub invariant-loop-i : goal.invariant-loop-i
 invariant-loop-i l =
     (length l.m ≡ length l.initial.m) × (l.at ≡ end_from (laid l.layout) l.image 4 l.i)
     × (end_from (laid l.layout) l.image l.at (l.n - l.i) ≡ end_from (laid l.layout) l.image 4 l.n)
-    × (mem_of l.m ≡ with_nodes (overwrite (mem_of l.initial.m).nodes 0 (nodes_from (laid l.layout) l.image 4 l.i)) (mem_of l.initial.m))
+    × (mem_of l.m ≡ with_nodes (overwrite (mem_of l.initial.m).nodes 0 (nodes_from (laid l.layout) l.image 4 l.i))
+    (mem_of l.initial.m))

@@ -89,7 +89,8 @@ loop-i-preserved c =
     let n = c.takes_name.ensures in
     let u = c.if-not-takes_id.false in
     let v = c.if-not-takes_name.false in (
-      apart_next a.layout.id_bytes node l.i l.invariant.0 (and_fst _ _ s) (and_snd (in_limits a.layout.id_bytes (node l.i)) _ s)
+      apart_next a.layout.id_bytes node l.i l.invariant.0 (and_fst _ _ s)
+          (and_snd (in_limits a.layout.id_bytes (node l.i)) _ s)
           (i.own_id.0 u)
           (n.own_name.0 v),
       i.indexed u,

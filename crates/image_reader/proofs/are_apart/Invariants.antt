@@ -7,5 +7,6 @@ use Rattle.image_reader.proofs.are_apart.Given as goal
 
 abbrev pub invariant-loop-i : goal.invariant-loop-i
 invariant-loop-i l =
-    Apart l.layout.id_bytes (node_on (laid l.layout) l.image l.starts) l.i × Indexed l.ids (id_key l.layout.id_bytes l.image l.starts) l.i
+    Apart l.layout.id_bytes (node_on (laid l.layout) l.image l.starts) l.i
+    × Indexed l.ids (id_key l.layout.id_bytes l.image l.starts) l.i
     × Indexed l.names (name_key (laid l.layout) l.image l.starts) l.i

@@ -26,7 +26,8 @@ pub returns-then-record_parent : goal.returns-then-record_parent
 unfolding record_at
 returns-then-record_parent c =
     let a = c.args in
-    let e : eqb (record_parent a.layout.id_bytes a.image.now a.a) (record_parent a.layout.id_bytes a.image.now a.b) ≡ false =
+    let w = a.layout.id_bytes in
+    let e : eqb (record_parent w a.image.now a.a) (record_parent w a.image.now a.b) ≡ false =
     ne_eqb _ _ (λ q. c.if-record_parent.true (c.record_parent.ensures ∙ q
     ∙ sym c.record_parent-2.ensures)) in
     rw e
@@ -35,7 +36,8 @@ pub returns : goal.returns
 unfolding record_at
 returns c =
     let a = c.args in
-    let e : eqb (record_parent a.layout.id_bytes a.image.now a.a) (record_parent a.layout.id_bytes a.image.now a.b) ≡ true =
+    let w = a.layout.id_bytes in
+    let e : eqb (record_parent w a.image.now a.a) (record_parent w a.image.now a.b) ≡ true =
     eq-eqb _ _ (sym c.record_parent.ensures
     ∙ c.if-record_parent.false ∙ c.record_parent-2.ensures) in
     rw e (c.same.ensures ∙ ap₂ (λ (u v : List ℕ). equal u v) c.record_name-name.ensures

@@ -9,7 +9,8 @@ use Rattle.image_reader.proofs.is_own_name.Given as goal
 abbrev pub invariant-loop-k : goal.invariant-loop-k
 invariant-loop-k l =
     (l.k < l.i) × ((j : ℕ) → j < l.i
-    → Siblings (node_on (laid l.layout) l.image l.starts j) (node_on (laid l.layout) l.image l.starts l.i) → Holds l.names j l.k)
+    → Siblings (node_on (laid l.layout) l.image l.starts j) (node_on (laid l.layout) l.image l.starts l.i)
+    → Holds l.names j l.k)
 
 abbrev pub decreases-loop-k : goal.decreases-loop-k
 decreases-loop-k l = l.k

@@ -72,7 +72,8 @@ returns-then-pages-gt-PAGES c =
     let f = to_formed y s c.in-Some.ensures.1 in
     let p = c.page_sum-pages.ensures
     ∙ ap (λ (n : ℕ). page_total (nodes_from y s 4 n)) c.u32_at-n.ensures in
-    let u : sound_nodes a.layout.id_bytes (image_nodes y s) ≡ false = unsound a.layout.id_bytes _ (λ t. let z = t.pages in omega (arith, p)) in
+    let u : sound_nodes a.layout.id_bytes (image_nodes y s) ≡ false =
+    unsound a.layout.id_bytes _ (λ t. let z = t.pages in omega (arith, p)) in
     sym (parsed_formed y s f ∙ rw u)
 
 pub are_sound-requires : goal.are_sound-requires

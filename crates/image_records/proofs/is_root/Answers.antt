@@ -37,7 +37,8 @@ returns-then-record_kind-ne-DIRECTORY c =
     let a = c.args in
     let x = record_at (laid a.layout) a.image.now a.at in let d : eqb x.id 1 ≡ true = eq-eqb _ _
     (sym record-id.ensures ∙ c.if-record_id-ne1.false) in
-    let e : eqb x.kind 2 ≡ false = ne_eqb _ _ (λ q. c.if-record_kind-ne-DIRECTORY.true (c.record_kind.ensures ∙ q)) in rw (d, e)
+    let e : eqb x.kind 2 ≡ false = ne_eqb _ _ (λ q. c.if-record_kind-ne-DIRECTORY.true (c.record_kind.ensures ∙ q)) in
+    rw (d, e)
 
 pub returns-then-record_parent-ne0 : goal.returns-then-record_parent-ne0
 unfolding record_at

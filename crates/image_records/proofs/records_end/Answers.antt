@@ -35,7 +35,8 @@ loop-i-preserved c =
     let l = c.loop-i in
     let e : a.n - (l._i + 1) ≡ a.n - l._i - 1 = omega arith in (
       omega arith,
-      ap₂ (end_from y s) c.record_end-at.ensures.0 e ∙ sym (end-next y s l.at (a.n - l._i) (omega arith)) ∙ l.invariant.1,
+      ap₂ (end_from y s) c.record_end-at.ensures.0 e ∙ sym (end-next y s l.at (a.n - l._i) (omega arith))
+          ∙ l.invariant.1,
     )
 
 pub returns : goal.returns

@@ -9,5 +9,6 @@ use Rattle.image_writer.proofs.records_length.Given as goal
 
 abbrev pub invariant-loop-i : goal.invariant-loop-i
 invariant-loop-i l =
-    (l.total + records_length (laid l.fn.layout) (drop l.i (nodes_in l.n l.m)) ≡ records_length (laid l.fn.layout) (nodes_in l.n l.m))
+    (l.total + records_length (laid l.fn.layout) (drop l.i (nodes_in l.n l.m)) ≡ records_length (laid l.fn.layout)
+    (nodes_in l.n l.m))
     × (l.total ≤ l.i * 56)

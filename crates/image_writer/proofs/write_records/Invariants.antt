@@ -12,6 +12,7 @@ use Rattle.image_writer.proofs.write_records.Given as goal
 abbrev pub invariant-loop-i : goal.invariant-loop-i
 invariant-loop-i l =
     (length l.out ≡ length l.initial.out)
-    × (overwrite l.out l.next (put_all (node_form (laid l.layout)) (drop l.i (nodes_in l.n l.m))) ≡ overwrite l.initial.out l.at
-    (put_all (node_form (laid l.layout)) (nodes_in l.n l.m)))
-    × (l.next + records_length (laid l.layout) (drop l.i (nodes_in l.n l.m)) ≡ l.at + records_length (laid l.layout) (nodes_in l.n l.m))
+    × (overwrite l.out l.next (put_all (node_form (laid l.layout)) (drop l.i (nodes_in l.n l.m)))
+    ≡ overwrite l.initial.out l.at (put_all (node_form (laid l.layout)) (nodes_in l.n l.m)))
+    × (l.next + records_length (laid l.layout) (drop l.i (nodes_in l.n l.m))
+    ≡ l.at + records_length (laid l.layout) (nodes_in l.n l.m))

@@ -3,4 +3,5 @@ use Rattle.links.specs.Climbs.{Linked, Alike, Reached}
 use Rattle.links.proofs.all_climb.Given as goal
 
 abbrev pub invariant-loop-k : goal.invariant-loop-k
-invariant-loop-k l = Linked l.to l.far l.n × Alike l.initial.to l.initial.far l.to l.far × Reached l.initial.to l.initial.far l.k
+invariant-loop-k l = Linked l.to l.far l.n × Alike l.initial.to l.initial.far l.to l.far
+    × Reached l.initial.to l.initial.far l.k

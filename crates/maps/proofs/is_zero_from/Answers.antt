@@ -13,7 +13,8 @@ use Rattle.maps.proofs.is_zero_from.Goals as goal
 pub returns : goal.returns
 returns c =
     let x = drop c.args.from c.args.x.now in
-    let e : c.iter.result.rest.now ≡ x = rw (← length-drop c.args.from c.args.x.now) at c.iter.ensures.rest ∙ take-length x in
+    let e : c.iter.result.rest.now ≡ x =
+    rw (← length-drop c.args.from c.args.x.now) at c.iter.ensures.rest ∙ take-length x in
     all-every (eqb 0) 0 x c.all.result
     (cases_from_all _ _ _ (λ b. eqb 0 b ≡ true) (λ b. eqb 0 b ≡ false) c.all.ensures.ran
     (YieldsList-from_slice x e) (λ y q k. search (rules, tests)) (λ y q k. search (rules, tests)))

@@ -11,7 +11,8 @@ use Rattle.memory.proofs.node_row.Goals as goal
 
 -- field by field, the row up to its name
 front-written : (id parent kind mode size n : ℕ)
-    → set (overwrite (set (set (overwrite (overwrite (replicate 56 0) 0 (encode 8 id)) 8 (encode 8 parent)) 16 kind) 17 mode)
+    → set (overwrite (set (set
+    (overwrite (overwrite (replicate 56 0) 0 (encode 8 id)) 8 (encode 8 parent)) 16 kind) 17 mode)
     18 (encode 4 size)) 22 n
     ≡ overwrite (replicate 56 0) 0 (node_front id parent kind mode size n)
 unfolding overwrite encode node_front
