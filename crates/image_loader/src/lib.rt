@@ -1,5 +1,4 @@
-// The tables of a sound image, in any layout, put into the memory. `w` and `maker` are the layout: the bytes of an id,
-// and those of a record's maker.
+// The tables of a sound image, in any layout, put into the memory.
 #![tactic(auto)]
 
 ghost use Rattle.std.specs.Prelude.{true, ◌≡◌, ◌+◌, ◌*◌, ◌≤◌, ◌<◌, length, drop, set};
@@ -7,48 +6,48 @@ ghost use Rattle.lists.specs.LittleEndian.{decode};
 ghost use Rattle.lists.specs.Parts.{overwrite, part};
 ghost use Rattle.lists.specs.Rows.{rows};
 ghost use Rattle.filesystem.specs.Image.{sound_nodes, parse};
-ghost use Rattle.filesystem.specs.Layouts.{layout, IsLayout};
 ghost use Rattle.filesystem.specs.Tables.{NODES, PAGES, DIGEST_BYTES, NAME_BYTES};
 ghost use Rattle.numbers.specs.Slices.{KeepsLength};
 ghost use Rattle.memory.specs.Layout.{with_nodes, with_digests};
 ghost use Rattle.memory.specs.Memories.{Becomes, IsMemory, was};
+ghost use Rattle.image_records.specs.Laid.{laid};
 ghost use Rattle.image_records.specs.Records.{record_at, record_end, nodes_from, end_from, is_some};
 ghost use Rattle.image_loader.specs.Loaded.{Loaded};
 
+use image_records::Layout;
+
 // The record at `at` as node i of the memory.
-fn load_record(image: &[u8], w: usize, maker: usize, at: usize, m: &mut [u8], i: usize)
-    requires { IsLayout w maker × (record_end (layout w maker) image.now at ≤ length image.now)
-        × (length (record_at (layout w maker) image.now at).name ≤ NAME_BYTES) × (i < NODES) × IsMemory m.old }
+fn load_record(image: &[u8], layout: Layout, at: usize, m: &mut [u8], i: usize)
+    requires { (record_end (laid layout) image.now at ≤ length image.now)
+        × (length (record_at (laid layout) image.now at).name ≤ NAME_BYTES) × (i < NODES) × IsMemory m.old }
     ensures { Becomes m (with_nodes (set (was m.old).nodes i
-        (record_at (layout w maker) image.now at))) }
+        (record_at (laid layout) image.now at))) }
 {
-    let name = image_records::record_name(image, w, maker, at);
+    let name = image_records::record_name(image, layout, at);
     let row = memory::node_row(
-        image_records::record_id(image, w, at),
-        image_records::record_parent(image, w, at),
-        image_records::record_kind(image, w, at),
-        image_records::record_mode(image, w, at),
-        image_records::record_size(image, w, maker, at),
+        image_records::record_id(image, layout, at),
+        image_records::record_parent(image, layout, at),
+        image_records::record_kind(image, layout, at),
+        image_records::record_mode(image, layout, at),
+        image_records::record_size(image, layout, at),
         name,
     );
     memory::put_node(m, i, row);
 }
 
 // The first n records, which are sound, as the memory's first nodes; the place behind them.
-fn load_records(image: &[u8], w: usize, maker: usize, n: usize, m: &mut [u8]) -> usize
-    requires { IsLayout w maker × (sound_nodes w (nodes_from (layout w maker) image.now 4 n) ≡ true) × (n ≤ NODES)
-        × (end_from (layout w maker) image.now 4 n ≤ length image.now) × IsMemory m.old }
+fn load_records(image: &[u8], layout: Layout, n: usize, m: &mut [u8]) -> usize
+    requires { (sound_nodes layout.id_bytes (nodes_from (laid layout) image.now 4 n) ≡ true) × (n ≤ NODES)
+        × (end_from (laid layout) image.now 4 n ≤ length image.now) × IsMemory m.old }
     ensures becomes { Becomes m (with_nodes (overwrite (was m.old).nodes 0
-        (nodes_from (layout w maker) image.now 4 n))) }
-    ensures value { result ≡ end_from (layout w maker) image.now 4 n }
+        (nodes_from (laid layout) image.now 4 n))) }
+    ensures value { result ≡ end_from (laid layout) image.now 4 n }
 {
     let mut at = 4;
-    let mut i = 0;
     // the i records before `at` are loaded
-    while i < n {
-        load_record(image, w, maker, at, m, i);
-        at = image_records::record_end(image, w, maker, at);
-        i += 1;
+    for i in 0..n {
+        load_record(image, layout, at, m, i);
+        at = image_records::record_end(image, layout, at);
     }
     at
 }
@@ -66,13 +65,13 @@ fn load_digests(image: &[u8], end: usize, m: &mut [u8])
 }
 
 // The tables of a sound image put into the memory, in place of its nodes and digests; the number of nodes.
-pub fn load_image(image: &[u8], w: usize, maker: usize, m: &mut [u8]) -> usize
-    requires { IsLayout w maker × (is_some (parse (layout w maker) image.now) ≡ true) × IsMemory m.old }
-    ensures loaded { Loaded (layout w maker) image.now m.old m.new result }
+pub fn load_image(image: &[u8], layout: Layout, m: &mut [u8]) -> usize
+    requires { (is_some (parse (laid layout) image.now) ≡ true) × IsMemory m.old }
+    ensures loaded { Loaded (laid layout) image.now m.old m.new result }
     ensures keeps_length { KeepsLength m }
 {
     let n = numbers::u32_at(image, 0) as usize;
-    let end = load_records(image, w, maker, n, m);
+    let end = load_records(image, layout, n, m);
     load_digests(image, end, m);
     n
 }

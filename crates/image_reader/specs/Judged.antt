@@ -2,13 +2,14 @@
 --   node_on, id_at            the record in place k, and its id; `starts` has where each stands in the bytes
 --   Located, Standing       `starts` has that of the first n records; what is needed of it to read their ids and kinds
 --   id_key, name_key          the bucket of a record by its id, and by its parent and name
---   Found                   r is the place of an id among the first i, or none has it
+--   Found                   r is the place of an id among the first i, or none has it; Directory, of a directory
 --   OwnId, OwnName          whether record i has an id, or a name among siblings, that none before it has
 --   OwnIds                  the ids of the first n differ
 --   Judges r w ns F         F where r; where not, the nodes are not sound
 --   Apart, Rooted           what the passes find: records that stand apart, ways to the root
 -- Assumes nothing.
-use Rattle.std.specs.Prelude.{Bool, true, false, List, [], ◌∷◌, ◌≡◌, ℕ, ◌+◌, ◌*◌, ◌%◌, ◌≤◌, ◌<◌, length, get_or}
+use Rattle.std.specs.Prelude.{Bool, true, false, Option, MatchOption, List, [], ◌∷◌, ◌≡◌, length, get_or}
+use Rattle.std.specs.Prelude.{ℕ, ◌+◌, ◌*◌, ◌%◌, ◌≤◌, ◌<◌}
 use Rattle.filesystem.specs.Tables.{NODES, PATH_BYTES, Node}
 use Rattle.filesystem.specs.Image.{Layout, in_limits, is_named}
 use Rattle.filesystem.specs.Sound.{Sound}
@@ -51,8 +52,8 @@ id_key w s starts k = id_at w s starts k % BUCKETS
 abbrev pub name_key : Layout → (s starts : List ℕ) → ℕ → ℕ
 name_key y s starts k = name_bucket (node_on y s starts k)
 
-abbrev pub Found : (ℕ → ℕ) → (i id r : ℕ) → Type 0
-Found ids i id r = (r < i → ids r ≡ id) × (i ≤ r → (j : ℕ) → j < i → ids j ≡ id → ⊥)
+abbrev pub Found : (ℕ → ℕ) → (i id : ℕ) → Option ℕ → Type 0
+Found ids i id r = MatchOption r ((j : ℕ) → j < i → ids j ≡ id → ⊥) (λ k. (k < i) × (ids k ≡ id))
 
 abbrev pub OwnId : (ℕ → ℕ) → ℕ → Bool → Type 0
 OwnId ids i r = (r ≡ true → (j : ℕ) → j < i → ids j ≡ ids i → ⊥) × (r ≡ false → (j : ℕ) × (j < i) × (ids j ≡ ids i))
@@ -68,10 +69,10 @@ OwnName node i r =
     (r ≡ true → (j : ℕ) → j < i → Siblings (node j) (node i) → ⊥)
     × (r ≡ false → (j : ℕ) × (j < i) × Siblings (node j) (node i))
 
-abbrev pub Directory : ℕ → (s starts : List ℕ) (n id r : ℕ) → Type 0
+abbrev pub Directory : ℕ → (s starts : List ℕ) (n id : ℕ) → Option ℕ → Type 0
 Directory w s starts n id r =
-    (r < n → (id_at w s starts r ≡ id) × (kind_at w s starts r ≡ 2))
-    × (n ≤ r → (j : ℕ) → j < n → id_at w s starts j ≡ id → kind_at w s starts j ≡ 2 → ⊥)
+    MatchOption r ((j : ℕ) → j < n → id_at w s starts j ≡ id → kind_at w s starts j ≡ 2 → ⊥)
+    (λ k. (k < n) × (id_at w s starts k ≡ id) × (kind_at w s starts k ≡ 2))
 
 abbrev pub Judges : Bool → ℕ → List Node → Type 0 → Type 0
 Judges r w ns F = (r ≡ true → F) × (r ≡ false → Sound w ns → ⊥)

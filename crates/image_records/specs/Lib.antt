@@ -1,3 +1,4 @@
 pub mod Records
 pub mod Formed
 pub mod laws
+pub mod Laid

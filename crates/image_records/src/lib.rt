@@ -1,147 +1,150 @@
-// An image's records by their places, in any layout (SPECIFICATION 8.4): their fields, where they end, and what is
-// judged of each by itself. `w` and `maker` are the layout: the bytes of an id, and those of a record's maker, 0 or 1.
+// An image's records by their places, in any layout: their fields, where they end, and what is judged of each by
+// itself.
 #![tactic(auto)]
 
-ghost use Rattle.std.specs.Prelude.{◌&&◌, ◌||◌, ◌≡◌, ◌+◌, ◌*◌, ◌≤◌, eqb, leb, length};
-ghost use Rattle.lists.specs.Pick.{pick};
+ghost use Rattle.std.specs.Prelude.{true, false, ◌&&◌, ◌||◌, ◌≡◌, ◌+◌, ◌*◌, ◌≤◌, ◌<◌, eqb, leb, length, MatchOption};
 ghost use Rattle.lists.specs.Search.{every};
 ghost use Rattle.filesystem.specs.Image.{is_root, in_limits, front_length};
 ghost use Rattle.filesystem.specs.Paths.{component_form};
 ghost use Rattle.filesystem.specs.Tables.{NODES, FILE_BYTES, NAME_BYTES, page_total};
-ghost use Rattle.filesystem.specs.Layouts.{layout, IsLayout};
+ghost use Rattle.image_records.specs.Laid.{laid};
 ghost use Rattle.image_records.specs.Records.{record_at, record_end, nodes_from, end_from, records_end, marked_from};
 ghost use Rattle.image_records.specs.Records.{record_id, record_parent, record_kind, record_mode, formed, plain_byte};
 
+mod layouts;
+
+pub use layouts::Layout;
+
 // ---- a record's fields
 
-pub fn record_id(image: &[u8], w: usize, at: usize) -> u64
-    requires { (w ≤ 8) × (at + w ≤ length image.now) }
-    ensures { result ≡ record_id w image.now at }
+// The bytes of a record before its name.
+pub fn front_length(layout: Layout) -> usize
+    ensures { (result ≡ front_length (laid layout)) × (result ≡ 2 * layout.id_bytes + layout.maker_bytes + 7)
+        × (result ≤ 24) }
 {
-    numbers::number_at(image, at, w)
+    2 * layout.id_bytes + layout.maker_bytes + 7
 }
 
-pub fn record_parent(image: &[u8], w: usize, at: usize) -> u64
-    requires { (w ≤ 8) × (at + w + w ≤ length image.now) }
-    ensures { result ≡ record_parent w image.now at }
+pub fn record_id(image: &[u8], layout: Layout, at: usize) -> u64
+    requires { at + layout.id_bytes ≤ length image.now }
+    ensures { result ≡ record_id layout.id_bytes image.now at }
 {
-    numbers::number_at(image, at + w, w)
+    numbers::number_at(image, at, layout.id_bytes)
 }
 
-pub fn record_kind(image: &[u8], w: usize, at: usize) -> u8
-    requires { (w ≤ 8) × (at + 2 * w + 1 ≤ length image.now) }
-    ensures { result ≡ record_kind w image.now at }
+pub fn record_parent(image: &[u8], layout: Layout, at: usize) -> u64
+    requires { at + 2 * layout.id_bytes ≤ length image.now }
+    ensures { result ≡ record_parent layout.id_bytes image.now at }
 {
-    image[at + 2 * w]
+    numbers::number_at(image, at + layout.id_bytes, layout.id_bytes)
 }
 
-pub fn record_mode(image: &[u8], w: usize, at: usize) -> u8
-    requires { (w ≤ 8) × (at + 2 * w + 2 ≤ length image.now) }
-    ensures { result ≡ record_mode w image.now at }
+pub fn record_kind(image: &[u8], layout: Layout, at: usize) -> u8
+    requires { at + 2 * layout.id_bytes + 1 ≤ length image.now }
+    ensures { result ≡ record_kind layout.id_bytes image.now at }
 {
-    image[at + 2 * w + 1]
+    image[at + 2 * layout.id_bytes]
 }
 
-pub fn record_size(image: &[u8], w: usize, maker: usize, at: usize) -> u32
-    requires { IsLayout w maker × (at + front_length (layout w maker) ≤ length image.now) }
-    ensures { result ≡ (record_at (layout w maker) image.now at).size }
+pub fn record_mode(image: &[u8], layout: Layout, at: usize) -> u8
+    requires { at + 2 * layout.id_bytes + 2 ≤ length image.now }
+    ensures { result ≡ record_mode layout.id_bytes image.now at }
 {
-    numbers::u32_at(image, at + 2 * w + maker + 2)
+    image[at + 2 * layout.id_bytes + 1]
+}
+
+pub fn record_size(image: &[u8], layout: Layout, at: usize) -> u32
+    requires { at + front_length (laid layout) ≤ length image.now }
+    ensures { result ≡ (record_at (laid layout) image.now at).size }
+{
+    numbers::u32_at(image, at + front_length(layout) - 5)
 }
 
 // The place behind the record.
-pub fn record_end(image: &[u8], w: usize, maker: usize, at: usize) -> usize
-    requires { IsLayout w maker × (at + front_length (layout w maker) ≤ length image.now) }
-    ensures { (result ≡ record_end (layout w maker) image.now at)
-        × (at + front_length (layout w maker) ≤ result) × (result ≤ at + front_length (layout w maker) + 255) }
+pub fn record_end(image: &[u8], layout: Layout, at: usize) -> usize
+    requires { at + front_length (laid layout) ≤ length image.now }
+    ensures { (result ≡ record_end (laid layout) image.now at)
+        × (at + front_length (laid layout) ≤ result) × (result ≤ at + front_length (laid layout) + 255) }
 {
-    let front = at + 2 * w + maker + 7;
-    front + image[front - 1] as usize
+    let name = at + front_length(layout);
+    name + image[name - 1] as usize
 }
 
-pub fn record_name(image: &[u8], w: usize, maker: usize, at: usize) -> &[u8]
-    requires { IsLayout w maker × (record_end (layout w maker) image.now at ≤ length image.now) }
-    ensures { result.now ≡ (record_at (layout w maker) image.now at).name }
+pub fn record_name(image: &[u8], layout: Layout, at: usize) -> &[u8]
+    requires { record_end (laid layout) image.now at ≤ length image.now }
+    ensures { result.now ≡ (record_at (laid layout) image.now at).name }
 {
-    let start = at + 2 * w + maker + 7;
-    let end = record_end(image, w, maker, at);
+    let start = at + front_length(layout);
+    let end = record_end(image, layout, at);
     &image[start..end]
 }
 
 // ---- where the sections stand
 
-// The place behind n records, or 0 where the image ends before that.
-fn records_end(image: &[u8], w: usize, maker: usize, n: usize) -> usize
-    requires { IsLayout w maker × (4 ≤ length image.now) }
-    ensures { (result ≡ pick (leb (end_from (layout w maker) image.now 4 n) (length image.now))
-        (end_from (layout w maker) image.now 4 n) 0) × (result ≤ length image.now) }
+// The place behind n records, if the image does not end before.
+fn records_end(image: &[u8], layout: Layout, n: usize) -> Option<usize>
+    requires { 4 ≤ length image.now }
+    ensures { MatchOption result (length image.now < end_from (laid layout) image.now 4 n)
+        (λ e. (e ≡ end_from (laid layout) image.now 4 n) × (e ≤ length image.now)) }
 {
     let mut at = 4;
-    let mut i = 0;
-    // i records end at `at`, within the image
-    while i < n {
-        if image.len() - at < 2 * w + maker + 7 {
-            return 0;
+    for _i in 0..n {
+        if image.len() - at < front_length(layout) {
+            return None;
         }
-        at = record_end(image, w, maker, at);
+        at = record_end(image, layout, at);
         if image.len() < at {
-            return 0;
+            return None;
         }
-        i += 1;
     }
-    at
+    Some(at)
 }
 
 // Whether the first n records have their maker, where the layout has one.
-fn are_marked(image: &[u8], w: usize, maker: usize, n: usize) -> bool
-    requires { IsLayout w maker × (end_from (layout w maker) image.now 4 n ≤ length image.now) }
-    ensures { result ≡ marked_from (layout w maker) image.now 4 n }
+#[tactic(auto, using(crate::specs::laws::RecordLaws::front_in))]
+fn are_marked(image: &[u8], layout: Layout, n: usize) -> bool
+    requires { end_from (laid layout) image.now 4 n ≤ length image.now }
+    ensures { result ≡ marked_from (laid layout) image.now 4 n }
 {
-    if maker == 0 {
+    if layout.maker_bytes == 0 {
         return true;
     }
     let mut at = 4;
-    let mut i = 0;
-    // the i records before `at` have
-    while i < n {
-        if image[at + 2 * w + 2] != 1 {
+    // the records before `at` have
+    for _i in 0..n {
+        if image[at + 2 * layout.id_bytes + 2] != 1 {
             return false;
         }
-        at = record_end(image, w, maker, at);
-        i += 1;
+        at = record_end(image, layout, at);
     }
     true
 }
 
-// The place behind the records where the image has its form, else 0.
-pub fn form(image: &[u8], w: usize, maker: usize) -> usize
-    requires { IsLayout w maker }
-    ensures { result ≡ pick (formed (layout w maker) image.now)
-        (records_end (layout w maker) image.now) 0 }
+// The place behind the records, if the image has its form.
+pub fn form(image: &[u8], layout: Layout) -> Option<usize>
+    ensures { MatchOption result (formed (laid layout) image.now ≡ false)
+        (λ e. (e ≡ records_end (laid layout) image.now) × (formed (laid layout) image.now ≡ true)) }
 {
     let len = image.len();
     if len < 4 {
-        return 0;
+        return None;
     }
     let n = numbers::u32_at(image, 0) as usize;
     if limits::NODES < n {
-        return 0;
+        return None;
     }
-    let end = records_end(image, w, maker, n);
-    if end == 0 {
-        return 0;
-    }
+    let end = records_end(image, layout, n)?;
     if len - end < 4 {
-        return 0;
+        return None;
     }
     let k = numbers::u32_at(image, end) as usize;
     if len - end - 4 != k * limits::DIGEST_BYTES {
-        return 0;
+        return None;
     }
-    if !are_marked(image, w, maker, n) {
-        return 0;
+    if !are_marked(image, layout, n) {
+        return None;
     }
-    end
+    Some(end)
 }
 
 // ---- a node by itself
@@ -150,18 +153,7 @@ pub fn form(image: &[u8], w: usize, maker: usize) -> usize
 fn is_plain(name: &[u8]) -> bool
     ensures { result ≡ every plain_byte name.now }
 {
-    let mut i = 0;
-    // the first i bytes are plain
-    while i < name.len() {
-        if name[i] == 0 {
-            return false;
-        }
-        if name[i] == 47 {
-            return false;
-        }
-        i += 1;
-    }
-    true
+    name.iter().all(|b| *b != 0 && *b != b'/')
 }
 
 // A component's form, and at most 32 bytes.
@@ -180,59 +172,58 @@ pub fn is_named(name: &[u8]) -> bool
 fn is_kind_and_size(kind: u8, size: u32) -> bool
     ensures { result ≡ (eqb kind 1 && leb size FILE_BYTES || eqb kind 2 && eqb size 0) }
 {
-    if kind == limits::FILE {
-        return size as usize <= limits::FILE_BYTES;
+    match kind {
+        limits::FILE => size as usize <= limits::FILE_BYTES,
+        limits::DIRECTORY => size == 0,
+        _ => false,
     }
-    if kind == limits::DIRECTORY {
-        return size == 0;
-    }
-    false
 }
 
 // The limits of a node by itself.
-pub fn is_in_limits(image: &[u8], w: usize, maker: usize, at: usize) -> bool
-    requires { IsLayout w maker × (at + front_length (layout w maker) ≤ length image.now) }
-    ensures { result ≡ in_limits w (record_at (layout w maker) image.now at) }
+pub fn is_in_limits(image: &[u8], layout: Layout, at: usize) -> bool
+    requires { at + front_length (laid layout) ≤ length image.now }
+    ensures { result ≡ in_limits layout.id_bytes (record_at (laid layout) image.now at) }
 {
-    if record_id(image, w, at) == 0 {
+    if record_id(image, layout, at) == 0 {
         return false;
     }
-    if 7 < record_mode(image, w, at) {
+    if 7 < record_mode(image, layout, at) {
         return false;
     }
-    is_kind_and_size(record_kind(image, w, at), record_size(image, w, maker, at))
+    is_kind_and_size(
+        record_kind(image, layout, at),
+        record_size(image, layout, at),
+    )
 }
 
-pub fn is_root(image: &[u8], w: usize, maker: usize, at: usize) -> bool
-    requires { IsLayout w maker × (record_end (layout w maker) image.now at ≤ length image.now) }
-    ensures { result ≡ is_root (record_at (layout w maker) image.now at) }
+pub fn is_root(image: &[u8], layout: Layout, at: usize) -> bool
+    requires { record_end (laid layout) image.now at ≤ length image.now }
+    ensures { result ≡ is_root (record_at (laid layout) image.now at) }
 {
-    if record_id(image, w, at) != 1 {
+    if record_id(image, layout, at) != 1 {
         return false;
     }
-    if record_kind(image, w, at) != limits::DIRECTORY {
+    if record_kind(image, layout, at) != limits::DIRECTORY {
         return false;
     }
-    if record_parent(image, w, at) != 0 {
+    if record_parent(image, layout, at) != 0 {
         return false;
     }
-    let name = record_name(image, w, maker, at);
-    name.len() == 0
+    record_name(image, layout, at).is_empty()
 }
 
 // The pages of the first n nodes.
-pub fn page_sum(image: &[u8], w: usize, maker: usize, n: usize) -> usize
-    requires { IsLayout w maker × (n ≤ NODES) × (end_from (layout w maker) image.now 4 n ≤ length image.now) }
-    ensures { result ≡ page_total (nodes_from (layout w maker) image.now 4 n) }
+#[tactic(auto, using(crate::specs::laws::RecordLaws::front_in))]
+pub fn page_sum(image: &[u8], layout: Layout, n: usize) -> usize
+    requires { (n ≤ NODES) × (end_from (laid layout) image.now 4 n ≤ length image.now) }
+    ensures { result ≡ page_total (nodes_from (laid layout) image.now 4 n) }
 {
     let mut at = 4;
     let mut total: usize = 0;
-    let mut i = 0;
-    // `total` pages in the i records before `at`
-    while i < n {
-        total += tables::pages_for(record_size(image, w, maker, at));
-        at = record_end(image, w, maker, at);
-        i += 1;
+    // `total` pages in the records before `at`
+    for _i in 0..n {
+        total += tables::pages_for(record_size(image, layout, at));
+        at = record_end(image, layout, at);
     }
     total
 }

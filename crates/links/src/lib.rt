@@ -62,15 +62,13 @@ pub fn all_climb(to: &mut [u8], far: &mut [u8], n: usize) -> bool
     requires { Linked to.old far.old n }
     ensures { Reach to.old far.old n result }
 {
-    let mut k = 1;
     // the places before k do
-    while k < n {
+    for k in 1..n {
         let total = climb(to, far, n, k);
         if limits::PATH_BYTES < total {
             return false;
         }
         shorten(to, far, n, k, total);
-        k += 1;
     }
     true
 }

@@ -25,5 +25,6 @@ pub mod Search
 pub mod Scans
 pub mod Rearranged
 pub mod Places
+pub mod Chains
 pub mod Maps
 pub mod Free

@@ -49,13 +49,11 @@ fn any_overlaps(m: &[u8], n: usize, address: u64, size: u32) -> bool
     requires { (n ≤ MAPS) × IsMemory m.now }
     ensures { result ≡ any (overlaps (new_map address size)) (take n (was m.now).maps) }
 {
-    let mut i = 0;
     // none before i has
-    while i < n {
+    for i in 0..n {
         if overlaps(m, i, address, size) {
             return true;
         }
-        i += 1;
     }
     false
 }
@@ -76,15 +74,7 @@ fn is_zero_from(x: &[u8], from: usize) -> bool
     requires { from ≤ length x.now }
     ensures { result ≡ every (eqb 0) (drop from x.now) }
 {
-    let mut i = from;
-    // those before i are
-    while i < x.len() {
-        if x[i] != 0 {
-            return false;
-        }
-        i += 1;
-    }
-    true
+    x[from..].iter().all(|b| *b == 0)
 }
 
 // Whether the 32 bytes from a place on are zero.
@@ -108,17 +98,14 @@ fn is_zero_block(x: &[u8], i: usize) -> bool
 fn is_zero(x: &[u8]) -> bool
     ensures { result ≡ every (eqb 0) x.now }
 {
-    let n = x.len() - x.len() % 32;
-    let mut i = 0;
-    // the blocks before i are
-    while i < n {
-        if is_zero_block(x, i) {
-            i += 32;
-        } else {
+    let blocks = x.len() / 32;
+    // the blocks before k are
+    for k in 0..blocks {
+        if !is_zero_block(x, 32 * k) {
             return false;
         }
     }
-    is_zero_from(x, n)
+    is_zero_from(x, 32 * blocks)
 }
 
 // Whether no map of this size may begin at an address: it is 0, at no unit, or a byte lies beyond 2^64 - 1.

@@ -7,6 +7,7 @@ ghost use Rattle.lists.specs.Form.{put_all};
 ghost use Rattle.lists.specs.Formats.{bytes};
 ghost use Rattle.lists.specs.Parts.{part, overwrite};
 ghost use Rattle.lists.specs.Rows.{rows};
+ghost use Rattle.numbers.specs.Slices.{Overwritten};
 ghost use Rattle.filesystem.specs.Tables.{NODES, PAGES, NAME_BYTES, DIGEST_BYTES, node_at, open_at, is_child, new_node};
 ghost use Rattle.filesystem.specs.Tables.{new_open_file, with_size, with_cursor, set_mode, set_size, set_cursor};
 ghost use Rattle.memory.specs.Layout.{memory_size, head_numbers, opens_at, open_rows, digest_width, data_size};
@@ -14,7 +15,7 @@ ghost use Rattle.memory.specs.Layout.{new_digests, staging_size, with_head, with
 ghost use Rattle.filesystem.specs.MemoryMaps.{MAPS, map_at};
 ghost use Rattle.memory.specs.Layout.{with_staged, with_maps};
 ghost use Rattle.memory.specs.Memories.{Becomes, IsMemory, was};
-ghost use Rattle.memory.specs.Records.{node_front, node_of, open_of, open_width, hint_at, map_of};
+ghost use Rattle.memory.specs.Records.{node_of, open_of, open_width, hint_at, map_of};
 
 // The length that the slice needs; `least_length` says that contracts mean the same by `memory_size`.
 pub const SIZE: usize = MAPS_AT + limits::MAPS * MAP_WIDTH;
@@ -52,6 +53,14 @@ pub fn least_length() -> usize
     ensures { result ≡ memory_size }
 {
     SIZE
+}
+
+// n rows of a table, whatever they hold, moved within it.
+fn move_rows(m: &mut [u8], table: usize, width: usize, from: usize, to: usize, n: usize)
+    requires { (table + from * width + n * width ≤ length m.old) × (table + to * width + n * width ≤ length m.old) }
+    ensures { Overwritten m (table + to * width) (part (table + from * width) (n * width) m.old) }
+{
+    buffers::shift(m, table + from * width, table + to * width, n * width);
 }
 
 // ---- the header
@@ -131,8 +140,7 @@ pub fn node_name(m: &[u8], i: usize) -> &[u8]
 }
 
 // Whether node i has this parent and this name. The row's own length comes last: all else hangs on the searched name's,
-// so that a search is
-// compiled to a loop for each class of lengths.
+// so that a search is compiled to a loop for each class of lengths.
 pub fn is_child(m: &[u8], i: usize, parent: u64, name: &[u8]) -> bool
     requires { (i < NODES) × IsMemory m.now }
     ensures { result ≡ is_child parent name.now (node_at (was m.now).nodes i) }
@@ -153,19 +161,6 @@ pub fn is_child(m: &[u8], i: usize, parent: u64, name: &[u8]) -> bool
     name_length(m[at + 22]) == n
 }
 
-// A node's row up to its name.
-fn node_front(id: u64, parent: u64, kind: u8, mode: u8, size: u32, n: u8) -> [u8; 23]
-    ensures { result ≡ node_front id parent kind mode size n }
-{
-    let a = numbers::bytes8(id);
-    let b = numbers::bytes8(parent);
-    let s = numbers::bytes4(size);
-    [
-        a[0], a[1], a[2], a[3], a[4], a[5], a[6], a[7], b[0], b[1], b[2], b[3], b[4], b[5], b[6],
-        b[7], kind, mode, s[0], s[1], s[2], s[3], n,
-    ]
-}
-
 // A node's row.
 pub fn node_row(
     id: u64,
@@ -178,9 +173,13 @@ pub fn node_row(
     requires { length name.now ≤ NAME_BYTES }
     ensures { node_of result ≡ with_size size (new_node id parent kind mode name.now) }
 {
-    let front = node_front(id, parent, kind, mode, size, name.len() as u8);
     let mut r = [0u8; NODE_WIDTH];
-    buffers::put_bytes(&mut r, 0, &front);
+    buffers::put_bytes(&mut r, 0, &numbers::bytes8(id));
+    buffers::put_bytes(&mut r, 8, &numbers::bytes8(parent));
+    r[16] = kind;
+    r[17] = mode;
+    buffers::put_bytes(&mut r, 18, &numbers::bytes4(size));
+    r[22] = name.len() as u8;
     buffers::put(&mut r, 23, name);
     r
 }
@@ -211,12 +210,7 @@ pub fn move_nodes(m: &mut [u8], from: usize, to: usize, n: usize)
     requires { (from + n ≤ NODES) × (to + n ≤ NODES) × IsMemory m.old }
     ensures { Becomes m (with_nodes (overwrite (was m.old).nodes to (part from n (was m.old).nodes))) }
 {
-    buffers::shift(
-        m,
-        NODES_AT + from * NODE_WIDTH,
-        NODES_AT + to * NODE_WIDTH,
-        n * NODE_WIDTH,
-    );
+    move_rows(m, NODES_AT, NODE_WIDTH, from, to, n);
 }
 
 // ---- open files
@@ -263,13 +257,13 @@ pub fn open_row(handle: u64, descriptor: u32, rights: u8, hint: u8, cursor: u32)
     ensures { (open_of result ≡ with_cursor cursor (new_open_file handle descriptor rights))
         × (get_or result hint_at 0 ≡ hint) }
 {
-    let h = numbers::bytes8(handle);
-    let d = numbers::bytes4(descriptor);
-    let c = numbers::bytes4(cursor);
-    [
-        h[0], h[1], h[2], h[3], h[4], h[5], h[6], h[7], d[0], d[1], d[2], d[3], rights, hint, 0, 0,
-        c[0], c[1], c[2], c[3], 0, 0, 0, 0,
-    ]
+    let mut r = [0u8; OPEN_WIDTH];
+    buffers::put_bytes(&mut r, 0, &numbers::bytes8(handle));
+    buffers::put_bytes(&mut r, 8, &numbers::bytes4(descriptor));
+    r[12] = rights;
+    r[13] = hint;
+    buffers::put_bytes(&mut r, 16, &numbers::bytes4(cursor));
+    r
 }
 
 pub fn put_open(m: &mut [u8], i: usize, row: [u8; OPEN_WIDTH])
@@ -291,12 +285,7 @@ pub fn move_opens(m: &mut [u8], from: usize, to: usize, n: usize)
     requires { (from + n ≤ open_rows) × (to + n ≤ open_rows) × IsMemory m.old }
     ensures { Becomes m (with_opens (overwrite (was m.old).opens to (part from n (was m.old).opens))) }
 {
-    buffers::shift(
-        m,
-        OPENS_AT + from * OPEN_WIDTH,
-        OPENS_AT + to * OPEN_WIDTH,
-        n * OPEN_WIDTH,
-    );
+    move_rows(m, OPENS_AT, OPEN_WIDTH, from, to, n);
 }
 
 // ---- digests
@@ -321,12 +310,7 @@ pub fn move_digests(m: &mut [u8], from: usize, to: usize, n: usize)
     requires { (from + n ≤ PAGES) × (to + n ≤ PAGES) × IsMemory m.old }
     ensures { Becomes m (with_digests (overwrite (was m.old).digests to (part from n (was m.old).digests))) }
 {
-    buffers::shift(
-        m,
-        DIGESTS_AT + from * DIGEST_WIDTH,
-        DIGESTS_AT + to * DIGEST_WIDTH,
-        n * DIGEST_WIDTH,
-    );
+    move_rows(m, DIGESTS_AT, DIGEST_WIDTH, from, to, n);
 }
 
 // The first n digests, one behind the other.
@@ -409,11 +393,10 @@ pub fn map_size(m: &[u8], i: usize) -> u32
 fn map_row(address: u64, size: u32) -> [u8; MAP_WIDTH]
     ensures { map_of result ≡ record { address = address; size = size } }
 {
-    let a = numbers::bytes8(address);
-    let s = numbers::bytes4(size);
-    [
-        a[0], a[1], a[2], a[3], a[4], a[5], a[6], a[7], s[0], s[1], s[2], s[3],
-    ]
+    let mut r = [0u8; MAP_WIDTH];
+    buffers::put_bytes(&mut r, 0, &numbers::bytes8(address));
+    buffers::put_bytes(&mut r, 8, &numbers::bytes4(size));
+    r
 }
 
 pub fn put_map(m: &mut [u8], i: usize, address: u64, size: u32)
@@ -428,10 +411,5 @@ pub fn move_maps(m: &mut [u8], from: usize, to: usize, n: usize)
     requires { (from + n ≤ MAPS) × (to + n ≤ MAPS) × IsMemory m.old }
     ensures { Becomes m (with_maps (overwrite (was m.old).maps to (part from n (was m.old).maps))) }
 {
-    buffers::shift(
-        m,
-        MAPS_AT + from * MAP_WIDTH,
-        MAPS_AT + to * MAP_WIDTH,
-        n * MAP_WIDTH,
-    );
+    move_rows(m, MAPS_AT, MAP_WIDTH, from, to, n);
 }

@@ -146,12 +146,7 @@ fn put_zeros(out: &mut [u8], at: usize, n: usize)
     requires { at + n ≤ length out.old }
     ensures { Overwritten out at (zeros n) }
 {
-    let mut i = 0;
-    // i zeros are written
-    while i < n {
-        out[at + i] = 0;
-        i += 1;
-    }
+    out[at..at + n].fill(0);
 }
 
 // A page over a part of out: the bytes that there are, zeros behind.

@@ -14,11 +14,15 @@ ghost use Rattle.image_writer.specs.Images.{nodes_in, image_in};
 ghost use Rattle.saves.specs.Saved.{saved_into, loaded_from, Saves, Loads};
 
 use guard_state::Guard;
+use image_records::Layout;
 use outcomes::Outcome;
 use refusals::Refusal;
 
-// The bytes of a record's maker: there are none.
-const NO_MAKER: usize = 0;
+// A saved image's layout: there are no bytes of a record's maker.
+const SAVED: Layout = Layout {
+    id_bytes: limits::ID_BYTES,
+    maker_bytes: 0,
+};
 
 // The image of n nodes at the front of its buffer, and its SHA-256 at the front of `digest`; the image's length.
 fn put_image(m: &[u8], n: usize, image: &mut [u8], digest: &mut [u8]) -> usize
@@ -31,7 +35,7 @@ fn put_image(m: &[u8], n: usize, image: &mut [u8], digest: &mut [u8]) -> usize
         ≡ at_front (sha256 (print (saved ID_BYTES) (image_in n m.now))) digest.old)
         × (result ≡ length (print (saved ID_BYTES) (image_in n m.now))) }
 {
-    let l = image_writer::write_image(m, n, limits::ID_BYTES, NO_MAKER, image, 0);
+    let l = image_writer::write_image(m, n, SAVED, image, 0);
     let d = image_writer::seal(&image[..l]);
     buffers::put(digest, 0, &d);
     l
@@ -50,7 +54,7 @@ pub fn save(m: &mut [u8], image: &mut [u8], digest: &mut [u8]) -> Outcome
     if 0 < g.opens {
         return Outcome::Refused(Refusal::Busy);
     }
-    if image.len() < image_writer::image_length(m, g.nodes, limits::ID_BYTES, NO_MAKER) {
+    if image.len() < image_writer::image_length(m, g.nodes, SAVED) {
         return Outcome::Refused(Refusal::ShortBuffer);
     }
     // no valid tables have more pages
@@ -80,10 +84,10 @@ pub fn load(m: &mut [u8], image: &[u8], digest: &[u8]) -> Outcome
     if !image_writer::same_digest(image, digest) {
         return Outcome::Refused(Refusal::WrongDigest);
     }
-    if !image_reader::is_sound(image, limits::ID_BYTES, NO_MAKER) {
+    if !image_reader::is_sound(image, SAVED) {
         return Outcome::Refused(Refusal::BadImage);
     }
-    let n = image_loader::load_image(image, limits::ID_BYTES, NO_MAKER, m);
+    let n = image_loader::load_image(image, SAVED, m);
     guard_state::rest(m, n, 0);
     Outcome::Done {
         number: 0,

@@ -4,7 +4,6 @@ use Rattle.image_reader.proofs.are_rooted.Goals as goal
 
 pub returns : goal.returns
 returns c =
-    let p = c.requires in
-    reach_rooted p.2 (c.place_parents.ensures.0
+    reach_rooted c.requires.1 (c.place_parents.ensures.0
     c.if-not-place_parents.false)
     c.all_climb.result c.all_climb.ensures

@@ -4,7 +4,7 @@ use mathlib.Core.Path.{refl, ap, sym, ◌∙◌}
 use lib.ListN.{replicate}
 use Rattle.lists.specs.Cells.{zeros}
 use Rattle.filesystem.specs.Image.{in_limits}
-use Rattle.filesystem.specs.Layouts.{layout}
+use Rattle.image_records.specs.Laid.{laid}
 use Rattle.filesystem.specs.Sound.{unsound}
 use Rattle.links.specs.laws.BucketLaws.{empty_indexed}
 use Rattle.image_records.specs.laws.RecordLaws.{record_in, record_least}
@@ -13,65 +13,53 @@ use Rattle.image_reader.specs.laws.RootedLaws.{some, no-nodes, not_root, not_lim
 use Rattle.image_reader.proofs.are_sound.Goals as goal
 
 pub returns-then-n-eq0 : goal.returns-then-n-eq0
-returns-then-n-eq0 c = let a = c.args in no-nodes (layout a.w a.maker) a.image.now a.n
+returns-then-n-eq0 c = let a = c.args in no-nodes (laid a.layout) a.image.now a.n
     c.if-n-eq0.true
 
 pub is_root-requires : goal.is_root-requires
 is_root-requires c =
     let a = c.args in
-    let p = c.requires in (
-      p.0,
-      omega (
-        arith,
-        record_in (layout a.w a.maker) a.image.now 4 a.n (some a.n c.if-n-eq0.false),
-        p.2,
-      ),
-    )
+    omega (arith, record_in (laid a.layout) a.image.now 4 a.n (some a.n c.if-n-eq0.false), c.requires.1)
 
 pub returns-then-not-is_root : goal.returns-then-not-is_root
 returns-then-not-is_root c =
     let a = c.args in
-    not_root (layout a.w a.maker) a.image.now a.n (some a.n c.if-n-eq0.false)
+    not_root (laid a.layout) a.image.now a.n (some a.n c.if-n-eq0.false)
     (sym c.is_root.ensures ∙ c.if-not-is_root.true)
 
 pub is_in_limits-requires : goal.is_in_limits-requires
 is_in_limits-requires c =
     let a = c.args in
-    let p = c.requires in
-    let y = layout a.w a.maker in (
-      p.0,
-      omega (
-        arith,
-        record_in y a.image.now 4 a.n (some a.n c.if-n-eq0.false),
-        record_least y a.image.now 4,
-        p.2,
-      ),
+    let y = laid a.layout in
+    omega (
+      arith,
+      record_in y a.image.now 4 a.n (some a.n c.if-n-eq0.false),
+      record_least y a.image.now 4,
+      c.requires.1,
     )
 
 pub returns-then-not-is_in_limits : goal.returns-then-not-is_in_limits
 returns-then-not-is_in_limits c =
     let a = c.args in
-    not_limits (layout a.w a.maker) a.image.now a.n
+    not_limits (laid a.layout) a.image.now a.n
     (some a.n c.if-n-eq0.false)
     (sym c.is_in_limits.ensures ∙ c.if-not-is_in_limits.true)
 
 pub are_apart-requires : goal.are_apart-requires
 are_apart-requires c =
     let a = c.args in
-    let p = c.requires in
     let d = c.locate.ensures in
     let h = some a.n c.if-n-eq0.false in (
       h,
-      p.0,
       d,
       empty_indexed (replicate 512 0) refl (zeros 512),
-      ap (in_limits a.w) (first-node d h) ∙ (sym c.is_in_limits.ensures ∙ c.if-not-is_in_limits.false),
+      ap (in_limits a.layout.id_bytes) (first-node d h) ∙ (sym c.is_in_limits.ensures ∙ c.if-not-is_in_limits.false),
     )
 
 pub returns-then-not-are_apart : goal.returns-then-not-are_apart
 returns-then-not-are_apart c =
     let a = c.args in
-    sym (unsound a.w _ (c.are_apart.ensures.1 c.if-not-are_apart.true))
+    sym (unsound a.layout.id_bytes _ (c.are_apart.ensures.1 c.if-not-are_apart.true))
 
 pub returns : goal.returns
 returns c =
@@ -81,4 +69,4 @@ returns c =
     let h = some a.n c.if-n-eq0.false in
     let q = c.are_apart.ensures.0 c.if-not-are_apart.false in
     let e = sym c.is_root.ensures ∙ c.if-not-is_root.false in
-    judged a.w _ c.are_rooted.result c.are_rooted.ensures (λ o. sound-judged d h e p.3 q.0 o)
+    judged a.layout.id_bytes _ c.are_rooted.result c.are_rooted.ensures (λ o. sound-judged d h e p.2 q.0 o)

@@ -13,18 +13,16 @@ loop-k-preserved c =
     (omega arith) in (
       omega (arith, f, l.invariant.0),
       λ j h e. (goes_on_lem (l.invariant.1 j h e) (λ q. c.if-record_id-id.false (c.record_id.ensures
-          ∙ ap (id_at a.w a.image.now a.starts.now) (sym q) ∙ e))).1,
+          ∙ ap (id_at a.layout.id_bytes a.image.now a.starts.now) (sym q) ∙ e))).1,
     )
 
 pub returns : goal.returns
 returns c =
     let a = c.args in
     let l = c.loop-k in
-    let z : 0 ≡ l.k = omega arith in (
-      λ h. absurd (omega arith),
-      λ h j b e. omega (
-        arith,
-        (goes_on_lem (l.invariant.1 j b e) (λ q. c.if-record_id-id-2.false (c.record_id-2.ensures
-            ∙ ap (id_at a.w a.image.now a.starts.now) (z ∙ sym q) ∙ e))).0,
-      ),
+    let z : 0 ≡ l.k = omega arith in
+    λ j b e. omega (
+      arith,
+      (goes_on_lem (l.invariant.1 j b e) (λ q. c.if-record_id-id-2.false (c.record_id-2.ensures
+          ∙ ap (id_at a.layout.id_bytes a.image.now a.starts.now) (z ∙ sym q) ∙ e))).0,
     )

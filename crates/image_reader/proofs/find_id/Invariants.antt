@@ -6,7 +6,8 @@ use Rattle.image_reader.specs.Judged.{id_at}
 use Rattle.image_reader.proofs.find_id.Given as goal
 
 abbrev pub invariant-loop-k : goal.invariant-loop-k
-invariant-loop-k l = (l.k < l.i) × ((j : ℕ) → j < l.i → id_at l.w l.image l.starts j ≡ l.id → Holds l.ids j l.k)
+invariant-loop-k l = (l.k < l.i)
+    × ((j : ℕ) → j < l.i → id_at l.layout.id_bytes l.image l.starts j ≡ l.id → Holds l.ids j l.k)
 
 abbrev pub decreases-loop-k : goal.decreases-loop-k
 decreases-loop-k l = l.k

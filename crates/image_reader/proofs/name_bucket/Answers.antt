@@ -4,14 +4,12 @@ use mathlib.Core.Path.{◌∙◌, sym}
 use Rattle.image_reader.specs.laws.PlaceLaws.{spread-next, spread_end}
 use Rattle.image_reader.proofs.name_bucket.Goals as goal
 
-pub loop-i-preserved : goal.loop-i-preserved
-loop-i-preserved c =
-    let a = c.args in
-    let l = c.loop-i in
-    (omega arith, omega arith, sym (spread-next a.name.now l.i l.b (omega arith)) ∙ l.invariant.2)
+pub loop-x-preserved : goal.loop-x-preserved
+loop-x-preserved c =
+    let l = c.loop-x in
+    (omega arith, sym (spread-next c.args.name.now l.x-index l.b (omega arith)) ∙ l.invariant.1)
 
 pub returns : goal.returns
 returns c =
-    let a = c.args in
-    let l = c.loop-i in
-    (sym (spread_end a.name.now l.i l.b (omega arith)) ∙ l.invariant.2, omega arith)
+    let l = c.loop-x in
+    (sym (spread_end c.args.name.now l.x-index l.b (omega arith)) ∙ l.invariant.1, omega arith)

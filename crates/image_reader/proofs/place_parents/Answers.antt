@@ -3,9 +3,9 @@
 use native.Mathlib.Omega.{arith}
 use mathlib.Core.Bool.{false≢true}
 use mathlib.Core.Path.{ap, ◌∙◌, sym}
-use Prim.Native.Nat.{◌+◌, ◌<◌}
+use Prim.Native.Nat.{◌+◌}
 use lib.ListN.{length}
-use Rattle.filesystem.specs.Layouts.{layout}
+use Rattle.image_records.specs.Laid.{laid}
 use Rattle.image_records.specs.Records.{record_at}
 use Rattle.links.specs.laws.ParentLaws.{placed-next}
 use Rattle.image_reader.specs.Judged.{node_on}
@@ -13,44 +13,34 @@ use Rattle.image_reader.specs.laws.PlaceLaws.{located_end, located_front, standi
 use Rattle.image_reader.specs.laws.RootedLaws.{not_placed}
 use Rattle.image_reader.proofs.place_parents.Goals as goal
 
-pub record_parent-requires : goal.record_parent-requires
-record_parent-requires c =
-    let p = c.requires in
-    (p.1.0, omega (arith, located_front p.2 c.loop-k.k (omega arith)))
+pub record_parent-id-requires : goal.record_parent-id-requires
+record_parent-id-requires c = omega (arith, located_front c.requires.1 c.loop-k.k (omega arith))
 
-pub find_directory-parent-requires : goal.find_directory-parent-requires
+pub find_directory-requires : goal.find_directory-requires
 unfolding record_at
-find_directory-parent-requires c =
+find_directory-requires c =
     let p = c.requires in
-    (p.0, standing p.1 p.2, p.3, p.4.ids)
+    (p.0, standing c.args.layout.is_layout p.1, p.2, p.3.ids)
 
-pub returns-then-n-parent : goal.returns-then-n-parent
+pub returns-in_default : goal.returns-in_default
 unfolding record_at
-returns-then-n-parent c =
+returns-in_default c =
     let l = c.loop-k in
-    let f = c.find_directory-parent.ensures in
-    let q = c.record_parent.ensures in (
+    let q = c.record_parent-id.ensures in (
       λ e. absurd (false≢true e),
-      λ e t. not_placed c.requires.2 t l.k l.invariant.0 (omega arith) (λ j b u. f.1 (omega arith) j b (u ∙ sym q)),
+      λ e t. not_placed c.requires.1 t l.k (omega arith) (omega arith) (λ j b u. c.in_default.ensures j b (u ∙ sym q)),
     )
 
 pub record_name-name-requires : goal.record_name-name-requires
-record_name-name-requires c =
-    let p = c.requires in
-    (p.1, located_end p.2 c.loop-k.k (omega arith))
+record_name-name-requires c = located_end c.requires.1 c.loop-k.k (omega arith)
 
 pub loop-k-preserved : goal.loop-k-preserved
 unfolding record_at
 loop-k-preserved c =
     let a = c.args in
-    let p = c.requires in
     let l = c.loop-k in
-    let node = node_on (layout a.w a.maker) a.image.now a.starts.now in
-    let f = c.find_directory-parent in
-    let h : f.result < a.n = omega arith in
-    let e = ap length c.record_name-name.ensures in (
-      omega arith,
-      placed-next node l.to l.far a.n l.k f.result (1 + length c.record_name-name.result.now) l.invariant.1
-          (omega (arith, p.2.few)) h ((f.ensures.0 h).0 ∙ c.record_parent.ensures)
-          (f.ensures.0 h).1 (omega (arith, e)),
-    )
+    let node = node_on (laid a.layout) a.image.now a.starts.now in
+    let f = c.in-Some.ensures in
+    let e = ap length c.record_name-name.ensures in
+    placed-next node l.to l.far a.n l.k c.in-Some.parent (1 + length c.record_name-name.result.now) l.invariant
+    (omega (arith, c.requires.1.few)) f.0 (f.1 ∙ c.record_parent-id.ensures) f.2 (omega (arith, e))

@@ -2,8 +2,7 @@
 use native.Mathlib.Omega.{arith}
 use mathlib.Core.Path.{ap}
 use lib.ListN.{length}
-use Rattle.filesystem.specs.Layouts.{layout}
-use Rattle.filesystem.proofs.LayoutLaws.{maker_length}
+use Rattle.image_records.specs.Laid.{laid}
 use Rattle.image_writer.specs.laws.Written.{records_in, records_end_lem}
 use Rattle.image_writer.proofs.records_length.Goals as goal
 
@@ -11,14 +10,13 @@ pub loop-i-preserved : goal.loop-i-preserved
 loop-i-preserved c =
     let a = c.args in
     let l = c.loop-i in
-    let e = ap length c.node_name-name.ensures.0 in
-    let k = maker_length a.w a.maker (omega arith) in
-    let p = records_in a.m.now a.n (omega arith) (layout a.w a.maker) l.i (omega arith) in
-    (omega arith, omega (arith, e, p, k), omega arith)
+    let e = ap length c.node_name.ensures.0 in
+    let p = records_in a.m.now a.n (omega arith) (laid a.layout) l.i (omega arith) in
+    (omega (arith, e, p, c.front_length-front.ensures.0), omega arith)
 
 pub returns : goal.returns
 returns c =
     let a = c.args in
     let l = c.loop-i in
-    let p = records_end_lem a.m.now a.n (omega arith) (layout a.w a.maker) l.i (omega arith) in
+    let p = records_end_lem a.m.now a.n (omega arith) (laid a.layout) l.i (omega arith) in
     (omega (arith, p), omega arith)

@@ -8,5 +8,6 @@ use Rattle.image_writer.proofs.write_ids.Goals as goal
 pub returns : goal.returns
 returns c =
     let a = c.args in
-    next-part a.out.now a.at (omega arith) (encode a.w a.id) (encode a.w a.parent) (a.at + a.w)
-    c.put_number.ensures (rw (length-encode a.w a.id)) c.put_number-2.ensures
+    next-part a.out.now a.at (omega arith) (encode a.layout.id_bytes a.id) (encode a.layout.id_bytes a.parent)
+    (a.at + a.layout.id_bytes)
+    c.put_number.ensures (rw (length-encode a.layout.id_bytes a.id)) c.put_number-2.ensures

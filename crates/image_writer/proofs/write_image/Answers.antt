@@ -1,7 +1,7 @@
 -- `image_writer::write_image` meets its contract. Assumes nothing.
 use native.Mathlib.Omega.{arith}
 use Rattle.filesystem.specs.Image.{image_length}
-use Rattle.filesystem.specs.Layouts.{layout}
+use Rattle.image_records.specs.Laid.{laid}
 use Rattle.image_writer.specs.laws.Written.{image-written}
 use borrow.Author.Rules.{rules}
 use Rattle.image_writer.proofs.write_image.Goals as goal
@@ -36,7 +36,7 @@ pub returns : goal.returns
 unfolding image_length
 returns c =
     let a = c.args in
-    let w = image-written (layout a.w a.maker) a.n a.out.now a.m.now a.at c.write_records-behind.result
+    let w = image-written (laid a.layout) a.n a.out.now a.m.now a.at c.write_records-behind.result
     c.first_page-pages.result c.digests.result.now
     (omega arith) (omega arith) (omega arith) c.write_records-behind.ensures.value c.first_page-pages.ensures.0
     c.digests.ensures.0 c.digests.ensures.1

@@ -6,6 +6,7 @@ use Rattle.image_writer.proofs.write_middle.Goals as goal
 pub returns : goal.returns
 returns c =
     let a = c.args in
-    λ w. middle_made a.out.now a.at w a.maker a.kind a.mode a.size a.n c.requires.0 (omega arith)
+    let y = a.layout in
+    middle_made a.out.now a.at y.id_bytes y.maker_bytes a.kind a.mode a.size a.n y.is_layout.1 (omega arith)
     c.put_number.ensures c.put_number-2.ensures c.put_number-3.ensures
     c.put_number-4.ensures c.put_number-5.ensures

@@ -1,10 +1,7 @@
 -- `links::all_climb` meets its contract. The invariant: the places before k reach place 0. Assumes nothing.
-use Prim.Native.Nat.{◌-◌}
 use Rattle.links.specs.Climbs.{Linked, Alike, Reached}
 use Rattle.links.proofs.all_climb.Given as goal
 
 abbrev pub invariant-loop-k : goal.invariant-loop-k
-invariant-loop-k l = Linked l.to l.far l.n × Alike l.initial.to l.initial.far l.to l.far × Reached l.initial.to l.initial.far l.k
-
-abbrev pub decreases-loop-k : goal.decreases-loop-k
-decreases-loop-k l = l.n - l.k
+invariant-loop-k l = Linked l.to l.far l.n × Alike l.initial.to l.initial.far l.to l.far
+    × Reached l.initial.to l.initial.far l.k

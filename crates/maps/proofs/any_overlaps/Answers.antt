@@ -16,7 +16,7 @@ returns-then-overlaps c =
     let a = c.args in
     let l = c.loop-i in
     let f : length (mem_of a.m.now).maps ≡ _ = length_maps a.m.now in
-    sym (sym l.invariant.1 ∙ any-hit (overlaps (new_map a.address a.size)) no_map (mem_of a.m.now).maps a.n
+    sym (sym l.invariant ∙ any-hit (overlaps (new_map a.address a.size)) no_map (mem_of a.m.now).maps a.n
     l.i (omega arith) (omega arith) (sym c.overlaps.ensures ∙ c.if-overlaps.true))
 
 pub loop-i-preserved : goal.loop-i-preserved
@@ -24,16 +24,14 @@ unfolding map_at
 loop-i-preserved c =
     let a = c.args in
     let l = c.loop-i in
-    let f : length (mem_of a.m.now).maps ≡ _ = length_maps a.m.now in (
-      omega arith,
-      any_miss (overlaps (new_map a.address a.size)) no_map (mem_of a.m.now).maps a.n l.i (omega arith)
-          (omega arith) (sym c.overlaps.ensures ∙ c.if-overlaps.false) ∙ l.invariant.1,
-    )
+    let f : length (mem_of a.m.now).maps ≡ _ = length_maps a.m.now in
+    any_miss (overlaps (new_map a.address a.size)) no_map (mem_of a.m.now).maps a.n l.i (omega arith)
+    (omega arith) (sym c.overlaps.ensures ∙ c.if-overlaps.false) ∙ l.invariant
 
 pub returns : goal.returns
 returns c =
     let a = c.args in
     let l = c.loop-i in
     let f : length (mem_of a.m.now).maps ≡ _ = length_maps a.m.now in
-    sym (sym l.invariant.1 ∙ any-end (overlaps (new_map a.address a.size)) no_map (mem_of a.m.now).maps a.n
+    sym (sym l.invariant ∙ any-end (overlaps (new_map a.address a.size)) no_map (mem_of a.m.now).maps a.n
     l.i (omega arith) (omega arith))

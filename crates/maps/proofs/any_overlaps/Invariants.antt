@@ -1,6 +1,5 @@
 -- `maps::any_overlaps` meets its contract. The invariant says what remains to be done. Assumes nothing.
 use mathlib.Core.Path.{◌≡◌}
-use Prim.Native.Nat.{◌-◌, ◌≤◌}
 use lib.ListN.{take, drop}
 use Rattle.lists.specs.Search.{any}
 use Rattle.memory.specs.Layout.{mem_of}
@@ -10,8 +9,5 @@ use Rattle.maps.proofs.any_overlaps.Given as goal
 
 abbrev pub invariant-loop-i : goal.invariant-loop-i
 invariant-loop-i l =
-    (l.i ≤ l.n) × (any (overlaps (new_map l.address l.size)) (drop l.i (take l.n (mem_of l.m).maps)) ≡ any
+    (any (overlaps (new_map l.address l.size)) (drop l.i (take l.n (mem_of l.m).maps)) ≡ any
     (overlaps (new_map l.address l.size)) (take l.n (mem_of l.m).maps))
-
-abbrev pub decreases-loop-i : goal.decreases-loop-i
-decreases-loop-i l = l.n - l.i

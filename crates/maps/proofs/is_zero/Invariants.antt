@@ -1,14 +1,10 @@
 -- `maps::is_zero` meets its contract. The invariant says what remains to be done. Assumes nothing.
 use mathlib.Core.Path.{◌≡◌}
-use Prim.Native.Nat.{◌-◌, ◌%◌, ◌≤◌}
+use Prim.Native.Nat.{◌*◌}
 use lib.Dec.{eqb}
-use lib.ListN.{length, drop}
+use lib.ListN.{drop}
 use Rattle.lists.specs.Search.{every}
 use Rattle.maps.proofs.is_zero.Given as goal
 
-abbrev pub invariant-loop-i : goal.invariant-loop-i
-invariant-loop-i l =
-    (l.i ≤ l.n) × (l.n ≡ length l.x - length l.x % 32) × (l.i % 32 ≡ 0) × (every (eqb 0) (drop l.i l.x) ≡ every (eqb 0) l.x)
-
-abbrev pub decreases-loop-i : goal.decreases-loop-i
-decreases-loop-i l = l.n - l.i
+abbrev pub invariant-loop-k : goal.invariant-loop-k
+invariant-loop-k l = every (eqb 0) (drop (32 * l.k) l.x) ≡ every (eqb 0) l.x

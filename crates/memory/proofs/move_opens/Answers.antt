@@ -8,7 +8,7 @@ use Rattle.memory.proofs.move_opens.Goals as goal
 pub returns : goal.returns
 returns c =
     let a = c.args in (
-      ap mem_of c.shift.ensures ∙ mem_opens_move a.m.now (omega arith) a.from a.to a.n
+      ap mem_of c.move_rows.ensures ∙ mem_opens_move a.m.now (omega arith) a.from a.to a.n
           (omega arith) (omega arith),
       omega arith,
     )

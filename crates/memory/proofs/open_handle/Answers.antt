@@ -1,20 +1,8 @@
 -- `memory::open_handle` meets its contract. Assumes nothing.
 use native.Mathlib.Omega.{arith}
-use Prim.Native.Nat.{◌+◌, ◌*◌}
-use mathlib.Core.Path.{sym, ap, ◌∙◌}
-use Rattle.filesystem.specs.Tables.{OpenFile}
-use Rattle.memory.specs.Records.{field, open_of, open_width}
-use Rattle.memory.specs.laws.RecordLaws.{field-part}
-use Rattle.memory.specs.Layout.{opens_at}
-use Rattle.memory.specs.laws.MemLaws.{open_at_lem}
-use native.Mathlib.Nat.{add-zero}
+use mathlib.Core.Path.{sym, ◌∙◌}
+use Rattle.memory.proofs.Fields.{open-handle}
 use Rattle.memory.proofs.open_handle.Goals as goal
 
 pub returns : goal.returns
-unfolding open_of field
-returns c =
-    let a = c.args in
-    c.u64_at.ensures
-    ∙ sym (ap (λ (n : OpenFile). n.handle) (open_at_lem a.m.now a.i (omega arith))
-    ∙ field-part (opens_at + a.i * open_width) open_width 0 8 a.m.now (omega arith)
-    ∙ rw (add-zero (opens_at + a.i * open_width)))
+returns c = c.u64_at.ensures ∙ sym (open-handle c.args.m.now c.args.i (omega arith))
