@@ -1,7 +1,8 @@
 -- The lines of the program `deskrun` (SPECIFICATION 12): what one that is read means, and what is printed for an
 -- answer.
 -- Assumes nothing.
-use Rattle.std.specs.Prelude.{Option, None, Some, Result, Ok, Err, ◌≡◌, List, [], ◌∷◌, ◌++◌, ℕ, ◌+◌, ◌-◌, ◌*◌, ◌≤◌, length, take, drop}
+use Rattle.std.specs.Prelude.{Option, None, Some, Result, Ok, Err}
+use Rattle.std.specs.Prelude.{◌≡◌, List, [], ◌∷◌, ◌++◌, ℕ, ◌+◌, ◌-◌, ◌*◌, ◌≤◌, length, take, drop}
 use Rattle.lists.specs.Pick.{pick}
 use Rattle.lists.specs.Parts.{overwrite}
 use Rattle.text.specs.Ascii.{ascii}

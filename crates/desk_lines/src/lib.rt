@@ -7,8 +7,8 @@ ghost use Rattle.outcomes.specs.Values.{answer_in};
 ghost use Rattle.text.specs.Ascii.{ascii};
 ghost use Rattle.text.specs.Digits.{decimal_of};
 ghost use Rattle.text.specs.Hex.{hex_of, decode_of, decoded_in};
-ghost use Rattle.desk_lines.specs.Lines.{most_bytes, line_of, line_for, hex_line, bad_line, any_bytes, printed, printed_bad};
-ghost use Rattle.desk_lines.specs.Lines.{Reads, Prints};
+ghost use Rattle.desk_lines.specs.Lines.{most_bytes, line_of, line_for, hex_line, bad_line, any_bytes};
+ghost use Rattle.desk_lines.specs.Lines.{printed, printed_bad, Reads, Prints};
 ghost use Rattle.desk_lines.specs.Written.{Room, Writes};
 
 use outcomes::Outcome;

@@ -18,8 +18,7 @@ pub fn read_on<R: Read>(input: &mut R, buffer: &mut [u8], at: usize) -> usize
     input.read(&mut buffer[at..]).unwrap_or(0)
 }
 
-// The bytes from `from` to `end` moved to the front: how many of them are kept, at most `most`, since of a line that has
-// not ended no more is.
+// The bytes from `from` to `end`, a line that has not ended, moved to the front: how many are kept, at most `most`.
 pub fn keep(buffer: &mut [u8], from: usize, end: usize, most: usize) -> usize
     requires { (from ≤ end) × (end ≤ length buffer.old) }
     ensures buffer_after { buffer.new ≡ overwrite buffer.old 0

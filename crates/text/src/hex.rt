@@ -29,7 +29,6 @@ impl fmt::Display for DecodeError {
 impl Error for DecodeError {}
 
 // The number of a digit.
-#[tactic(auto, using(crate::specs::laws::HexCases::value_below, crate::specs::laws::HexCases::value_decimal, crate::specs::laws::HexCases::value_between, crate::specs::laws::HexCases::value_letter, crate::specs::laws::HexCases::value_above,))]
 pub fn value(c: u8) -> Option<u8>
     ensures { result ≡ value_of c }
 {

@@ -12,7 +12,7 @@ pub const ANSWER_LINE: usize = 131072;
 pub struct AnswerLine {
     bytes: [u8; ANSWER_LINE],
     length: usize,
-    ghost within: { length ≤ 131072 },
+    ghost within: { length ≤ answer_line },
 }
 
 impl AnswerLine {

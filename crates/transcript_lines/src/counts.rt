@@ -3,8 +3,8 @@ ghost use Rattle.std.specs.Prelude.{◌≤◌};
 
 use std::fmt;
 
-// How many lists there were, how many answers, and how many of these are not the stored ones. No count goes further than
-// it fits.
+// How many lists there were, how many answers, and how many of these are not the stored ones. No count goes further
+// than it fits.
 #[derive(Clone, Copy, Debug, PartialEq, Eq)]
 pub struct Counts {
     pub lists: u64,

@@ -84,7 +84,8 @@ module _ (m : List ℕ) (x : DeskLine) (t : Option Line) (c : List ℕ) (known :
     as_read : (y : DeskLine) → line_in t c ≡ y → Answers m y r m' d d' → Answers m x r m' d d'
     as_read y e h = subst (λ (z : DeskLine). Answers m z r m' d d') (sym e ∙ known) h
 
-    pub line_read : (l : Line) (b : List ℕ) → t ≡ Some l → b ≡ take l.length c → Answers m (line_for l.entry b) r m' d d'
+    pub line_read : (l : Line) (b : List ℕ) → t ≡ Some l → b ≡ take l.length c
+        → Answers m (line_for l.entry b) r m' d d'
         → Answers m x r m' d d'
     unfolding line_in
     line_read l b e f = as_read (line_for l.entry b) (ap (λ (z : Option Line). line_in z c) e

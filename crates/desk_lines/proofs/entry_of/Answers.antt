@@ -23,4 +23,5 @@ returns-then-starts-2 c =
 pub returns-else-starts-2 : goal.returns-else-starts-2
 unfolding ascii
 returns-else-starts-2 c =
-    line_bad c.args.line.now (sym c.starts.ensures ∙ c.if-starts.false) (sym c.starts-else-starts.ensures ∙ c.if-starts-2.false)
+    line_bad c.args.line.now (sym c.starts.ensures ∙ c.if-starts.false)
+    (sym c.starts-else-starts.ensures ∙ c.if-starts-2.false)

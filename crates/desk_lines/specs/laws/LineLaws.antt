@@ -1,6 +1,7 @@
 -- Laws of the desk's lines: how long they are, and what reading one comes to.
 -- Assumes nothing.
-use Rattle.std.specs.Prelude.{None, Some, Result, Ok, Err, ◌≡◌, refl, true, false, List, ◌++◌, ℕ, ◌+◌, ◌-◌, ◌*◌, ◌≤◌, length, take, drop}
+use Rattle.std.specs.Prelude.{None, Some, Result, Ok, Err}
+use Rattle.std.specs.Prelude.{◌≡◌, refl, true, false, List, ◌++◌, ℕ, ◌+◌, ◌-◌, ◌*◌, ◌≤◌, length, take, drop}
 use Rattle.std.specs.Result.{result_ok}
 use Rattle.std.proofs.Math.Path.{sym, ap}
 use Rattle.std.proofs.Common.{◌∙◌, zero-add, arith, take-append-drop, length-take-le}
@@ -17,8 +18,8 @@ use Rattle.filesystem.specs.Tables.{NODES, NAME_BYTES, ID_BYTES}
 use Rattle.rules.specs.Skeleton.{Config, answer_length, at_front}
 use Rattle.desk_lines.specs.declared.Entry.{Entry}
 use Rattle.desk_lines.specs.declared.Entry.TheVariants.{Call, Reply}
-use Rattle.desk_lines.specs.Lines.{most_bytes, DeskLine, call_line, reply_line, bad_line, decoded_as, hex_line, line_of, line_for}
-use Rattle.desk_lines.specs.Lines.{line_bytes, line_in, Reads}
+use Rattle.desk_lines.specs.Lines.{most_bytes, DeskLine, call_line, reply_line, bad_line, decoded_as, hex_line, line_of}
+use Rattle.desk_lines.specs.Lines.{line_for, line_bytes, line_in, Reads}
 
 -- the least length of the answer buffer
 pub most_answer : (c : Config) → c.width ≡ ID_BYTES → answer_length c ≡ most_bytes
@@ -38,8 +39,8 @@ front_overwritten d x n h g =
     sym (overwrite_part d 0 n 0 x (omega arith) (omega arith) ∙ overwrite_front d (overwrite (take n d) 0 x)
     ∙ ap (λ (k : ℕ). overwrite (take n d) 0 x ++ drop k d) m)
 
-pub decoded_front : (r : Result ℕ DecodeError) (s d : List ℕ) (n : ℕ) → n ≤ length d → decode_of s n ≡ r → decoded_in r s (take n d)
-    ++ drop n d ≡ decoded_in r s d
+pub decoded_front : (r : Result ℕ DecodeError) (s d : List ℕ) (n : ℕ) → n ≤ length d → decode_of s n ≡ r
+    → decoded_in r s (take n d) ++ drop n d ≡ decoded_in r s d
 unfolding decoded_in
 decoded_front (Ok k) s d n h e =
     let f = decodes s n k e in
@@ -56,8 +57,8 @@ was_ok (Ok n) k e = cc
 was_ok (Err x) k e = absurd (cc)
 
 -- What was decoded of the digits s, r, as a line: the buffer before is d, now d'.
-module _ (s d d' : List ℕ) (r : Result ℕ DecodeError) (answer : r ≡ decode_of s most_bytes) (left : d' ≡ decoded_in r s d)
-    (room : most_bytes ≤ length d) where
+module _ (s d d' : List ℕ) (r : Result ℕ DecodeError) (answer : r ≡ decode_of s most_bytes)
+    (left : d' ≡ decoded_in r s d) (room : most_bytes ≤ length d) where
   module _ (k : ℕ) (good : r ≡ Ok k) where
     good_line : (kind : List ℕ → DeskLine) → hex_line kind s ≡ kind (bytes_of s)
     unfolding hex_line decoded_as

@@ -43,12 +43,14 @@ module _ (word s : List ℕ) (two : length word ≡ 2) (begun : begins s word �
 
 -- a line means what it is spelled as
 module _ (s : List ℕ) where
-  call_as : begins s (ascii "c ") ≡ true → (r : Result ℕ DecodeError) → decode_of (drop 2 s) most_bytes ≡ r → LineIs (decoded_as call_line (drop 2 s) r) s
+  call_as : begins s (ascii "c ") ≡ true → (r : Result ℕ DecodeError) → decode_of (drop 2 s) most_bytes ≡ r
+      → LineIs (decoded_as call_line (drop 2 s) r) s
   unfolding decoded_as ascii
   call_as h (Ok k) e = spelled (ascii "c ") s refl h k e
   call_as h (Err x) e = tt
 
-  reply_as : begins s (ascii "r ") ≡ true → (r : Result ℕ DecodeError) → decode_of (drop 2 s) most_bytes ≡ r → LineIs (decoded_as reply_line (drop 2 s) r) s
+  reply_as : begins s (ascii "r ") ≡ true → (r : Result ℕ DecodeError) → decode_of (drop 2 s) most_bytes ≡ r
+      → LineIs (decoded_as reply_line (drop 2 s) r) s
   unfolding decoded_as ascii
   reply_as h (Ok k) e = spelled (ascii "r ") s refl h k e
   reply_as h (Err x) e = tt

@@ -82,7 +82,8 @@ module _ (s : List ℕ) (room : ℕ) where
   unfolding decode_of pick
   decode_odd h o = rw (le-ltb _ _ h, eq-eqb _ _ o)
 
-  pub decode-long : length s ≤ place is_bad s → (length s % 2 ≡ 1 → ⊥) → room < length s / 2 → Err TooLong ≡ decode_of s room
+  pub decode-long : length s ≤ place is_bad s → (length s % 2 ≡ 1 → ⊥) → room < length s / 2
+      → Err TooLong ≡ decode_of s room
   unfolding decode_of pick
   decode-long h e l = rw (le-ltb _ _ h, ne_eqb _ _ e, lt-ltb _ _ l)
 

@@ -15,7 +15,8 @@ module _ (f : ℕ → Bool) where
   place_is [] = refl
   place_is (x ∷ s) = go (f x) (place_is s)
     where
-      go : (b : Bool) → place f s ≡ position_or_len f s → pick b 0 (suc (place f s)) ≡ cond (not b) (1 + position_or_len f s) 0
+      go : (b : Bool) → place f s ≡ position_or_len f s
+          → pick b 0 (suc (place f s)) ≡ cond (not b) (1 + position_or_len f s) 0
       go true e = refl
       go false e = omega arith
 
@@ -44,6 +45,7 @@ begins_starts s [] = refl
 begins_starts [] (x ∷ w) = refl
 begins_starts (c ∷ s) (x ∷ w) = go (is (eqb c x)) (begins_starts s w)
   where
-    go : Is (eqb c x) → starts_with eqb s w ≡ begins s w → (eqb x c && starts_with eqb s w) ≡ pick (eqb c x) (begins s w) false
+    go : Is (eqb c x) → starts_with eqb s w ≡ begins s w
+        → (eqb x c && starts_with eqb s w) ≡ pick (eqb c x) (begins s w) false
     go (is_t e) h = rw (e, eq-eqb x c (sym (eqb-true c x e))) h
     go (is_f e) h = rw (e, ne_eqb x c (λ d. eqb-false c x e (sym d)))

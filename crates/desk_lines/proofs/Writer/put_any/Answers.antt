@@ -19,4 +19,5 @@ pub returns : goal.returns
 unfolding ascii
 returns c =
     let b = c.args.bytes.now in
-    writes_as (writes_more c.put.ensures (omega arith) c.put_hex.ensures) (any_bytes b) (any_some b (eqb-false _ _ (sym c.is_empty.ensures ∙ c.if-is_empty.false)))
+    let some = eqb-false _ _ (sym c.is_empty.ensures ∙ c.if-is_empty.false) in
+    writes_as (writes_more c.put.ensures (omega arith) c.put_hex.ensures) (any_bytes b) (any_some b some)

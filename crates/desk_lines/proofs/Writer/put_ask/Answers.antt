@@ -12,7 +12,8 @@ put_hex-requires c = room_left c.put.ensures _ _ c.requires (omega arith)
 pub put-requires-2 : goal.put-requires-2
 put-requires-2 c =
     let e = length-hex_of c.args.request.now in
-    room_left c.put_hex.ensures _ (1 + 2 * length c.args.request.now) (room_left c.put.ensures _ _ c.requires (omega arith)) (omega arith)
+    room_left c.put_hex.ensures _ (1 + 2 * length c.args.request.now)
+    (room_left c.put.ensures _ _ c.requires (omega arith)) (omega arith)
 
 pub returns : goal.returns
 unfolding ascii

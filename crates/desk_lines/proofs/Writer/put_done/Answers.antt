@@ -20,7 +20,8 @@ put-requires-2 c =
     let n = length-number c.args.number (omega arith) in
     let m = length-any b in
     room_left c.put_any.ensures _ (2 + 2 * length b)
-    (room_left c.put_number.ensures _ (22 + 2 * length b) (room_left c.put.ensures _ _ c.requires (omega arith)) (omega arith)) (omega arith)
+    (room_left c.put_number.ensures _ (22 + 2 * length b)
+    (room_left c.put.ensures _ _ c.requires (omega arith)) (omega arith)) (omega arith)
 
 pub returns : goal.returns
 unfolding ascii

@@ -2,9 +2,8 @@
 -- Assumes nothing.
 use Rattle.std.proofs.Common.{sym, ◌∙◌, arith, eqb-true}
 use Rattle.std.proofs.lemmas.Bool.{eqb-false}
-use Rattle.text.specs.laws.DecimalLaws.{read_none, read-start, read-end, read_bad, read_large, read_digit}
+use Rattle.text.specs.laws.DecimalLaws.{read_none, read-start, read-end, read_stop, read_digit}
 use Rattle.text.proofs.decimal.read.Goals as goal
-use Rattle.text.proofs.decimal.read.Goals.{then-not-is_ascii_digit-via-then-not-is_ascii_digit, then-not-is_ascii_digit-via-else-not-is_ascii_digit+then-n-gt99999999}
 
 pub returns-then-is_empty : goal.returns-then-is_empty
 returns-then-is_empty c = sym (read_none _ (eqb-true _ _ (sym c.is_empty.ensures ∙ c.if-is_empty.true)))
@@ -17,13 +16,8 @@ loop-c-init c =
 pub returns-then-not-is_ascii_digit : goal.returns-then-not-is_ascii_digit
 returns-then-not-is_ascii_digit c =
     let l = c.loop-c in
-    let s = c.args.text.now in
-    sym (l.invariant.1 ∙ elim c.then-not-is_ascii_digit.branch [
-      | then-not-is_ascii_digit-via-then-not-is_ascii_digit w ↦ read_bad l.n s l.c-index (omega arith)
-          w.if-not-is_ascii_digit.ensures.cases
-      | then-not-is_ascii_digit-via-else-not-is_ascii_digit+then-n-gt99999999 w ↦ read_large l.n s l.c-index (omega arith)
-          w.if-not-is_ascii_digit.ensures.cases.0 w.if-not-is_ascii_digit.ensures.cases.1 w.if-n-gt99999999.true
-    ])
+    sym (l.invariant.1 ∙ read_stop l.n c.args.text.now l.c-index (omega arith) _ c.is_ascii_digit.ensures.cases
+    c.then-not-is_ascii_digit.either)
 
 pub loop-c-preserved : goal.loop-c-preserved
 loop-c-preserved c =

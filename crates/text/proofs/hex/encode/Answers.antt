@@ -20,8 +20,15 @@ loop-i-preserved c =
     let low : c.digit-in-loop-i.result ≡ get_or (hex_of b) (2 * l.i + 1) 0 = c.digit-in-loop-i.ensures
     ∙ sym (hex_second b l.i (omega arith)) in (
       simp length-set l.invariant.0,
-      rw (l.invariant.1, high, low, two, overwrite_more 0 c.args.out.now 0 (hex_of b) (2 * l.i) (2 * l.i) (omega arith) (omega arith) (omega arith))
-          (overwrite_more 0 c.args.out.now 0 (hex_of b) (2 * l.i + 1) (2 * l.i + 1) (omega arith) (omega arith) (omega arith)),
+      rw (
+        l.invariant.1,
+        high,
+        low,
+        two,
+        overwrite_more 0 c.args.out.now 0 (hex_of b) (2 * l.i) (2 * l.i) (omega arith) (omega arith) (omega arith),
+      )
+          (overwrite_more 0 c.args.out.now 0 (hex_of b) (2 * l.i + 1) (2 * l.i + 1) (omega arith) (omega arith)
+          (omega arith)),
     )
 
 pub returns : goal.returns

@@ -13,7 +13,8 @@ returns-in-Some c =
     let from = c.args.from in
     let l = length-drop from s in
     let all = take_all (length s - from) (drop from s) (omega arith) in
-    let p = place_found is_newline (drop from s) c.in-Some.n (ap (position is_newline) (sym all) ∙ sym c.newline_in.ensures ∙ c.in-Some.is) in
+    let p = place_found is_newline (drop from s) c.in-Some.n
+    (ap (position is_newline) (sym all) ∙ sym c.newline_in.ensures ∙ c.in-Some.is) in
     let e = p.0 in
     let h = p.1 in
     record { found = omega arith; after = omega arith; inside = omega arith }
@@ -24,6 +25,7 @@ returns-in-None c =
     let from = c.args.from in
     let l = length-drop from s in
     let all = take_all (length s - from) (drop from s) (omega arith) in
-    let h = place_missed is_newline (drop from s) (ap (position is_newline) (sym all) ∙ sym c.newline_in.ensures ∙ c.in-None.is) in
+    let h = place_missed is_newline (drop from s)
+    (ap (position is_newline) (sym all) ∙ sym c.newline_in.ensures ∙ c.in-None.is) in
     let m = place_most is_newline (drop from s) in
     record { found = omega arith; after = omega arith; inside = omega arith }
