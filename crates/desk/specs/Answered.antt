@@ -1,11 +1,18 @@
 -- What the desk does with a line: the guard's step on the event that the line is, and what is printed for its answer.
 -- Assumes nothing.
 use Rattle.std.specs.Prelude.{◌≡◌, List, ℕ, ◌≤◌, length}
-use Rattle.rules.specs.Skeleton.{call, reply, answer_length, request_length}
+use Rattle.rules.specs.Skeleton.{Event, call, reply, answer_length, request_length}
 use Rattle.configuration.specs.Delivered.{delivered}
 use Rattle.machine.specs.Machine.{State, step, guard as digest_store}
 use Rattle.guard.specs.Promise.{Kept, held}
+use Rattle.desk_lines.specs.declared.Entry.{Entry}
+use Rattle.desk_lines.specs.declared.Entry.TheVariants.{Call, Reply}
 use Rattle.desk_lines.specs.Lines.{DeskLine, call_line, reply_line, bad_line, printed, printed_bad, Prints}
+
+-- the event that an entry's bytes are, with the lengths of both buffers
+unfoldable pub event_for : Entry → List ℕ → ℕ → ℕ → Event
+event_for Call = call
+event_for Reply = reply
 
 -- buffers that are long enough (SPECIFICATION 12.1)
 module _ (s : State (digest_store delivered)) where

@@ -1,33 +1,41 @@
 // The desk: lines read, handed in to the guard, their answers' lines written (SPECIFICATION 12).
 #![tactic(auto)]
 
-ghost use Rattle.std.specs.Prelude.{◌+◌, ◌-◌, ◌*◌, ◌≤◌, length};
-ghost use Rattle.lists.specs.Parts.{part};
-ghost use Rattle.desk_lines.specs.Lines.{most_bytes, line_of, call_line, reply_line};
-ghost use Rattle.desk.specs.Answered.{Answers};
-ghost use Rattle.desk.specs.Session.{AnswersAt, AnswersLines};
+ghost use Rattle.std.specs.Prelude.{◌+◌, ◌*◌, ◌≤◌, length};
+ghost use Rattle.guard.specs.Promise.{Promise, buffers};
+ghost use Rattle.desk_lines.specs.Lines.{most_bytes, line_of, line_for};
+ghost use Rattle.desk.specs.Answered.{Answers, event_for};
+ghost use Rattle.desk.specs.Session.{AnswersLines};
 
-// A call, from its bytes.
-fn answer_call(memory: &mut [u8], bytes: &[u8], out: &mut [u8]) -> usize
-    requires { 29 + 2 * most_bytes ≤ length out.old }
-    ensures { Answers memory.old (call_line bytes.now) result memory.new
-        out.old out.new }
+use desk_lines::Entry;
+use outcomes::Outcome;
+
+// Bytes handed in at their entry.
+fn hand_in(
+    memory: &mut [u8],
+    entry: Entry,
+    bytes: &[u8],
+    answer: &mut [u8],
+    request: &mut [u8],
+) -> Outcome
+    ensures { Promise memory.old (event_for entry bytes.now (length answer.old) (length request.old)) result
+        memory.new (buffers answer.old request.old) (buffers answer.new request.new) }
 {
-    let mut answer = [0u8; guard::ANSWER_LENGTH];
-    let mut request = [0u8; guard::REQUEST_LENGTH];
-    let o = guard::on_call(memory, bytes, &mut answer, &mut request);
-    desk_lines::write_outcome(o, &answer, &request, out)
+    match entry {
+        Entry::Call => guard::on_call(memory, bytes, answer, request),
+        Entry::Reply => guard::on_reply(memory, bytes, answer, request),
+    }
 }
 
-// A reply, from its bytes.
-fn answer_reply(memory: &mut [u8], bytes: &[u8], out: &mut [u8]) -> usize
+// A call or a reply, from its bytes.
+fn answer(memory: &mut [u8], entry: Entry, bytes: &[u8], out: &mut [u8]) -> usize
     requires { 29 + 2 * most_bytes ≤ length out.old }
-    ensures { Answers memory.old (reply_line bytes.now) result memory.new
+    ensures { Answers memory.old (line_for entry bytes.now) result memory.new
         out.old out.new }
 {
     let mut answer = [0u8; guard::ANSWER_LENGTH];
     let mut request = [0u8; guard::REQUEST_LENGTH];
-    let o = guard::on_reply(memory, bytes, &mut answer, &mut request);
+    let o = hand_in(memory, entry, bytes, &mut answer, &mut request);
     desk_lines::write_outcome(o, &answer, &request, out)
 }
 
@@ -38,37 +46,19 @@ pub fn answer_line(memory: &mut [u8], line: &[u8], out: &mut [u8]) -> usize
         out.old out.new }
 {
     let mut bytes = [0u8; desk_lines::EVENT_BYTES];
-    let l = desk_lines::read_line(line, &mut bytes);
-    match l {
-        desk_lines::Line::Call(n) => answer_call(memory, desk_lines::first(&bytes, n), out),
-        desk_lines::Line::Reply(n) => answer_reply(memory, desk_lines::first(&bytes, n), out),
-        desk_lines::Line::Bad => desk_lines::write_bad(out),
+    match desk_lines::read_line(line, &mut bytes) {
+        Some(l) => answer(memory, l.entry, desk_lines::first(&bytes, l.length), out),
+        None => desk_lines::write_bad(out),
     }
 }
 
 // ---- lines one after another
 
 // How far the lines that were answered reach in the text, and how much of out their answers fill.
-#[derive(Clone, Copy)]
+#[derive(Clone, Copy, Debug, PartialEq, Eq)]
 pub struct Answered {
     pub at: usize,
     pub filled: usize,
-}
-
-// The line from `at` to `end`, its answer written from `filled` on: where that ends.
-fn answer_part(
-    memory: &mut [u8],
-    text: &[u8],
-    at: usize,
-    end: usize,
-    out: &mut [u8],
-    filled: usize,
-) -> usize
-    requires { (at ≤ end) × (end ≤ length text.now) × (filled + (29 + 2 * most_bytes) ≤ length out.old) }
-    ensures { AnswersAt memory.old (line_of (part at (end - at) text.now)) filled result
-        memory.new out.old out.new }
-{
-    filled + answer_line(memory, &text[at..end], &mut out[filled..])
 }
 
 // The lines that end in the text, as long as out has room for any answer.
@@ -78,13 +68,14 @@ pub fn answer_lines(memory: &mut [u8], text: &[u8], out: &mut [u8]) -> Answered
 {
     let mut at = 0;
     let mut filled = 0;
-    // the lines before `at` are answered, in the first `filled` bytes of out
+    // the lines before `at` are answered, in the first `filled` bytes of out; how far a turn comes is known by a line's
+    // end and an answer's alone, so neither index counts turns
     while desk_lines::LINE_WRITTEN <= out.len() - filled {
         let end = text::line::end(text, at);
         if end == text.len() {
             return Answered { at, filled };
         }
-        filled = answer_part(memory, text, at, end, out, filled);
+        filled += answer_line(memory, &text[at..end], &mut out[filled..]);
         at = end + 1;
     }
     Answered { at, filled }

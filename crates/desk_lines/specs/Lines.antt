@@ -1,6 +1,7 @@
 -- The lines of the program `deskrun` (SPECIFICATION 12): what one that is read means, and what is printed for an
 -- answer.
 -- Assumes nothing.
+use Rattle.std.specs.Prelude.{Option, None, Some, Result, Ok, Err}
 use Rattle.std.specs.Prelude.{◌≡◌, List, [], ◌∷◌, ◌++◌, ℕ, ◌+◌, ◌-◌, ◌*◌, ◌≤◌, length, take, drop}
 use Rattle.lists.specs.Pick.{pick}
 use Rattle.lists.specs.Parts.{overwrite}
@@ -8,12 +9,12 @@ use Rattle.text.specs.Ascii.{ascii}
 use Rattle.text.specs.Digits.{decimal_of}
 use Rattle.text.specs.Hex.{hex_of, bytes_of, decode_of}
 use Rattle.text.specs.Line.{begins}
-use Rattle.text.specs.declared.hex.Decoded.{Decoded}
-use Rattle.text.specs.declared.hex.Decoded.TheVariants.{Bytes, BadDigit, Odd, TooLong}
+use Rattle.text.specs.declared.hex.DecodeError.{DecodeError}
 use Rattle.filesystem.specs.Tables.{NODES, NAME_BYTES, ID_BYTES}
 use Rattle.rules.specs.Skeleton.{Answer, done, ask, refused, stopped, at_front}
+use Rattle.desk_lines.specs.declared.Entry.{Entry}
+use Rattle.desk_lines.specs.declared.Entry.TheVariants.{Call, Reply}
 use Rattle.desk_lines.specs.declared.Line.{Line}
-use Rattle.desk_lines.specs.declared.Line.TheVariants.{Call, Reply, Bad}
 
 -- at most 9,690 bytes: as many as the longest listing has (`most_answer`)
 abbrev pub most_bytes : ℕ
@@ -25,11 +26,9 @@ pub data DeskLine : Type 0 where
 
 -- in lower-case hexadecimal (SPECIFICATION 12.2, 12.3): a bad digit, an odd number of them or too many make the line
 -- bad
-unfoldable pub decoded_as : (List ℕ → DeskLine) → List ℕ → Decoded → DeskLine
-decoded_as kind s (Bytes n) = kind (bytes_of s)
-decoded_as kind s (BadDigit i) = bad_line
-decoded_as kind s Odd = bad_line
-decoded_as kind s TooLong = bad_line
+unfoldable pub decoded_as : (List ℕ → DeskLine) → List ℕ → Result ℕ DecodeError → DeskLine
+decoded_as kind s (Ok n) = kind (bytes_of s)
+decoded_as kind s (Err e) = bad_line
 
 unfoldable pub hex_line : (List ℕ → DeskLine) → List ℕ → DeskLine
 hex_line kind s = decoded_as kind s (decode_of s most_bytes)
@@ -64,18 +63,20 @@ unfoldable pub printed_bad : List ℕ
 printed_bad = ascii "bad line\n"
 
 -- what the code answers, and the front of its buffer, are a line
-unfoldable pub line_in : Line → List ℕ → DeskLine
-line_in (Call n) d = call_line (take n d)
-line_in (Reply n) d = reply_line (take n d)
-line_in Bad d = bad_line
+unfoldable pub line_for : Entry → List ℕ → DeskLine
+line_for Call b = call_line b
+line_for Reply b = reply_line b
 
-abbrev pub length_of : Line → ℕ
-length_of (Call n) = n
-length_of (Reply n) = n
-length_of Bad = 0
+unfoldable pub line_in : Option Line → List ℕ → DeskLine
+line_in (Some l) d = line_for l.entry (take l.length d)
+line_in None d = bad_line
+
+abbrev pub length_of : Option Line → ℕ
+length_of (Some l) = l.length
+length_of None = 0
 
 -- the line x read into a buffer, before d and now d': its bytes are at the front, what lies behind is untouched
-pub record Reads (x : DeskLine) (r : Line) (d d' : List ℕ) : Type 0 where
+pub record Reads (x : DeskLine) (r : Option Line) (d d' : List ℕ) : Type 0 where
   pub line : line_in r d' ≡ x
   pub buffer : d' ≡ at_front (line_bytes x) d
   pub most : length_of r ≤ most_bytes

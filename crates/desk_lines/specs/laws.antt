@@ -1,4 +1,5 @@
 pub mod LineLaws
 pub mod Spelled
 pub mod Printing
+pub mod Writing
 pub mod Examples

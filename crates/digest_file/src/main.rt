@@ -4,7 +4,6 @@
 
 ghost use Rattle.std.specs.Prelude.{◌≡◌, ◌+◌, ◌≤◌, length, IfOk};
 
-use compression::State;
 use std::env::FillError;
 use std::fs::File;
 use std::io;
@@ -13,14 +12,6 @@ use std::rt::{Env, Files};
 
 // The system's number of a name that is too long.
 const ENAMETOOLONG: i32 = 36;
-
-// How the reading stands: more to come, all read and the last `count` bytes in the buffer, or a failed read.
-#[derive(Clone, Copy)]
-enum Filled {
-    More,
-    End(usize),
-    Failed(io::Error),
-}
 
 // One read into the buffer from `at` on: how many bytes, 0 at the end.
 fn read_at<R: Read>(input: &mut R, buffer: &mut [u8], at: usize) -> io::Result<usize>
@@ -31,22 +22,21 @@ fn read_at<R: Read>(input: &mut R, buffer: &mut [u8], at: usize) -> io::Result<u
     input.read(&mut buffer[at..])
 }
 
-// Fills the buffer, or reads to the end of the input.
-fn fill<R: Read>(input: &mut R, buffer: &mut [u8]) -> Filled
-    ensures { length buffer.new ≡ length buffer.old }
+// Fills the buffer: how many bytes, fewer than it has room for at the end of the input alone.
+fn fill<R: Read>(input: &mut R, buffer: &mut [u8]) -> io::Result<usize>
+    ensures length { length buffer.new ≡ length buffer.old }
+    ensures bound { IfOk result (λ n. n ≤ length buffer.new) }
 {
+    // a read brings any number of bytes, so n does not count
     let mut n = 0;
     while n < buffer.len() {
-        let k = match read_at(input, buffer, n) {
-            Ok(k) => k,
-            Err(error) => return Filled::Failed(error),
-        };
-        if k == 0 {
-            return Filled::End(n);
+        let more = read_at(input, buffer, n)?;
+        if more == 0 {
+            break;
         }
-        n += k;
+        n += more;
     }
-    Filled::More
+    Ok(n)
 }
 
 fn say(rt: &impl Print, text: &[u8]) {
@@ -61,18 +51,15 @@ fn print(rt: &impl Print, d: [u8; 32]) {
 }
 
 // Where an error's words end: its number stands behind them, or nothing.
-fn words_end(text: &[u8]) -> usize {
-    let mut i = 0;
-    while i < text.len() {
-        if text[i] == 0 {
+fn words_end(text: &[u8]) -> usize
+    ensures { result ≤ length text.now }
+{
+    for i in 0..text.len() {
+        if text[i] == 0 || text[i..].starts_with(b" (os error ") {
             return i;
         }
-        if text::line::starts(&text[i..], b" (os error ") {
-            return i;
-        }
-        i += 1;
     }
-    i
+    text.len()
 }
 
 // Writes a line to standard error: what failed, a colon and the error's words.
@@ -82,79 +69,25 @@ fn fail(errors: &impl Print, what: &[u8], error: io::Error) {
     let _ = write!(rest, "{error}");
     say(errors, what);
     say(errors, b": ");
-    say(errors, part(&text, words_end(&text)));
+    say(errors, &text[..words_end(&text)]);
     say(errors, b"\n");
 }
 
-// The state after one buffer more.
-#[derive(Clone, Copy)]
-struct Stream {
-    state: State,
-    total: usize,
-    open: bool,
-}
-
-fn turn<R: Read>(
-    rt: &impl Print,
-    errors: &impl Print,
-    input: &mut R,
-    name: &[u8],
-    s: Stream,
-) -> Stream {
-    let mut buffer = [0u8; 65536];
-    let filled = fill(input, &mut buffer);
-    let state = s.state;
-    match filled {
-        Filled::More => Stream {
-            state: digest::absorb(state, &buffer),
-            total: plus(s.total, 65536),
-            open: true,
-        },
-        Filled::End(n) => {
-            print(
-                rt,
-                digest::finish(state, part(&buffer, n), plus(s.total, n)),
-            );
-            Stream {
-                state,
-                total: s.total,
-                open: false,
-            }
-        }
-        Filled::Failed(error) => {
-            fail(errors, name, error);
-            Stream {
-                state,
-                total: s.total,
-                open: false,
-            }
-        }
-    }
-}
-
-fn plus(a: usize, b: usize) -> usize {
-    a.wrapping_add(b)
-}
-
-// The first n bytes of a buffer.
-fn part(buffer: &[u8], n: usize) -> &[u8] {
-    if buffer.len() < n {
-        return buffer;
-    }
-    let start = 0;
-    &buffer[start..n]
-}
-
 fn run<R: Read>(rt: &impl Print, errors: &impl Print, input: &mut R, name: &[u8]) {
-    let mut s = Stream {
-        state: digest::initial(),
-        total: 0,
-        open: true,
-    };
-    let mut turns = u64::MAX;
-    while turns > 0 && s.open {
-        s = turn(rt, errors, input, name, s);
-        turns -= 1;
+    let mut buffer = [0u8; 65536];
+    let mut state = digest::initial();
+    let mut total: usize = 0;
+    // nothing says that the input ends, so the turns have an end that no run comes to
+    for _ in 0..u64::MAX {
+        let n = match fill(input, &mut buffer) {
+            Ok(n) => n,
+            Err(error) => return fail(errors, name, error),
+        };
+        total = total.wrapping_add(n);
+        if n < buffer.len() {
+            return print(rt, digest::finish(state, &buffer[..n], total));
+        }
+        state = digest::absorb(state, &buffer);
     }
 }
 

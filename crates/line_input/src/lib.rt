@@ -18,25 +18,7 @@ pub fn read_on<R: Read>(input: &mut R, buffer: &mut [u8], at: usize) -> usize
     input.read(&mut buffer[at..]).unwrap_or(0)
 }
 
-// The first n bytes of the buffer.
-pub fn front(buffer: &[u8], n: usize) -> &[u8]
-    requires { n ≤ length buffer.now }
-    ensures { (result.now ≡ take n buffer.now) × (length result.now ≡ n) }
-{
-    &buffer[..n]
-}
-
-// How much of a line that has not ended is kept: what is over `most` is not.
-pub fn at_most(n: usize, most: usize) -> usize
-    ensures { (result ≡ min n most) × (result ≤ n) × (result ≤ most) }
-{
-    if most < n {
-        return most;
-    }
-    n
-}
-
-// The bytes from `from` to `end` moved to the front: how many of them are kept, at most `most`.
+// The bytes from `from` to `end`, a line that has not ended, moved to the front: how many are kept, at most `most`.
 pub fn keep(buffer: &mut [u8], from: usize, end: usize, most: usize) -> usize
     requires { (from ≤ end) × (end ≤ length buffer.old) }
     ensures buffer_after { buffer.new ≡ overwrite buffer.old 0
@@ -46,5 +28,5 @@ pub fn keep(buffer: &mut [u8], from: usize, end: usize, most: usize) -> usize
 {
     let left = end - from;
     buffers::shift(buffer, from, 0, left);
-    at_most(left, most)
+    left.min(most)
 }

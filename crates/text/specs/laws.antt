@@ -3,3 +3,4 @@ pub mod DigitLaws
 pub mod HexCases
 pub mod HexLaws
 pub mod LineLaws
+pub mod PlaceLaws

@@ -3,43 +3,22 @@ ghost use Rattle.std.specs.Prelude.{◌++◌, ◌≡◌, ◌+◌, ◌≤◌, len
 ghost use Rattle.text.specs.Decimal.{read_decimal};
 ghost use Rattle.text.specs.Digits.{decimal_of};
 
-// A number below a thousand millions, or bad text.
-#[derive(Clone, Copy)]
-pub enum Decimal {
-    Value(usize),
-    Bad,
-}
-
-fn digit_value(c: u8) -> usize
-    ensures { result ≡ c }
-{
-    c as usize
-}
-
-pub fn read(text: &[u8]) -> Decimal
+// The number, where the text is one below a thousand millions.
+pub fn read(text: &[u8]) -> Option<usize>
     ensures { result ≡ read_decimal text.now }
 {
-    if text.len() == 0 {
-        return Decimal::Bad;
+    if text.is_empty() {
+        return None;
     }
     let mut n = 0;
-    let mut i = 0;
-    // n is the number of the first i digits
-    while i < text.len() {
-        let c = digit_value(text[i]);
-        if c < 48 {
-            return Decimal::Bad;
+    // n is the number of the digits so far
+    for c in text {
+        if !c.is_ascii_digit() || 99999999 < n {
+            return None;
         }
-        if 57 < c {
-            return Decimal::Bad;
-        }
-        if 99999999 < n {
-            return Decimal::Bad;
-        }
-        n = 10 * n + (c - 48);
-        i += 1;
+        n = 10 * n + (*c - b'0') as usize;
     }
-    Decimal::Value(n)
+    Some(n)
 }
 
 // Writes the digits of n to the end of `out`, and answers where they begin; what stands before them is kept.
@@ -48,14 +27,9 @@ pub fn write(n: u64, out: &mut [u8]) -> usize
     ensures { (result + length (decimal_of n) ≡ length out.old)
         × (out.new ≡ take result out.old ++ decimal_of n) }
 {
-    let mut i = out.len() - 1;
-    let mut rest = n;
-    // the digits behind i are n's last, rest has the others
-    while 10 <= rest {
-        out[i] = 48 + (rest % 10) as u8;
-        i -= 1;
-        rest /= 10;
-    }
-    out[i] = 48 + (rest % 10) as u8;
-    i
+    let mut buffer = itoa::Buffer::new();
+    let digits = buffer.format(n).as_bytes();
+    let from = out.len() - digits.len();
+    out[from..].copy_from_slice(digits);
+    from
 }

@@ -1,5 +1,4 @@
-// Events handed to a guard in hexadecimal digits: what comes back is the line of the answer, in deskrun's words, at the
-// front of the caller's buffer, and its length with the line feed.
+// Events handed to a guard in hexadecimal digits: what comes back is the line of the answer, in deskrun's words.
 #![tactic(auto)]
 
 pub mod handed;
@@ -9,14 +8,14 @@ pub mod images;
 const EVENT_BYTES: usize = 65552;
 
 // The lengths of both buffers that are lent.
-#[derive(Clone, Copy)]
+#[derive(Clone, Copy, Debug, PartialEq, Eq)]
 pub struct Lengths {
     pub answer: usize,
     pub request: usize,
 }
 
 // The entry that bytes are handed to.
-#[derive(Clone, Copy)]
+#[derive(Clone, Copy, Debug, PartialEq, Eq)]
 pub enum Entry {
     Call,
     ReaderCall,

@@ -1,5 +1,4 @@
-// The lines of answers, in deskrun's words, at the front of a buffer: each function gives the line's length, with its
-// line feed.
+// The line of an answer, in deskrun's words.
 ghost use Rattle.std.specs.Prelude.{◌+◌, ◌*◌, ◌≤◌, length};
 ghost use Rattle.transcript_lines.specs.Room.{answer_line};
 
@@ -8,64 +7,67 @@ use outcomes::Outcome;
 // Room for any answer's line.
 pub const ANSWER_LINE: usize = 131072;
 
-pub fn bad(said: &mut [u8]) -> usize
-    requires { answer_line ≤ length said.old }
-    ensures { result ≤ length said.new }
-{
-    desk_lines::write_bad(said)
+// The line of the last answer, with its line feed, or nothing.
+#[derive(Drop)]
+pub struct AnswerLine {
+    bytes: [u8; ANSWER_LINE],
+    length: usize,
+    ghost within: { length ≤ answer_line },
 }
 
-pub fn outcome(o: Outcome, answer: &[u8], request: &[u8], said: &mut [u8]) -> usize
-    requires { (29 + 2 * length answer.now ≤ length said.old)
-        × (29 + 2 * length request.now ≤ length said.old) }
-    ensures { result ≤ length said.new }
-{
-    desk_lines::write_outcome(o, answer, request, said)
-}
-
-// x put at `at`, where there is room for it: where it ends.
-fn put(said: &mut [u8], at: usize, x: &[u8]) -> usize
-    requires { at ≤ length said.old }
-    ensures { result ≤ length said.new }
-{
-    if said.len() - at < x.len() {
-        return at;
+impl AnswerLine {
+    pub fn new() -> AnswerLine {
+        AnswerLine {
+            bytes: [0; ANSWER_LINE],
+            length: 0,
+        }
     }
-    buffers::put(said, at, x);
-    at + x.len()
-}
 
-// A digest behind the line that ends with the line feed at `at`: where the longer line ends.
-fn put_digest(said: &mut [u8], at: usize, digest: [u8; 32]) -> usize
-    requires { at ≤ length said.old }
-    ensures { result ≤ length said.new }
-{
-    let mut digits = [0u8; 64];
-    text::hex::encode(&digest, &mut digits);
-    let mut next = put(said, at, b" ");
-    next = put(said, next, &digits);
-    put(said, next, b"\n")
-}
-
-// The line of a save: that of its outcome, and where it is done the digest behind the image.
-pub fn saved(o: Outcome, image: &[u8], digest: [u8; 32], said: &mut [u8]) -> usize
-    requires { (29 + 2 * length image.now ≤ length said.old) × (answer_line ≤ length said.old) }
-    ensures { result ≤ length said.new }
-{
-    let n = outcome(o, image, b"?", said);
-    let Outcome::Done { number, length } = o else {
-        return n;
-    };
-    if n == 0 {
-        return n;
+    pub fn clear(&mut self) {
+        self.length = 0;
     }
-    put_digest(said, n - 1, digest)
-}
 
-// The last answer's line, without its line feed.
-pub fn last(said: &[u8], n: usize) -> &[u8] {
-    if n == 0 {
-        return desk_lines::first(said, 0);
+    pub fn set_bad(&mut self) {
+        self.length = desk_lines::write_bad(&mut self.bytes);
     }
-    desk_lines::first(said, n - 1)
+
+    pub fn set_outcome(&mut self, o: Outcome, answer: &[u8], request: &[u8])
+        requires { (29 + 2 * length answer.now ≤ answer_line) × (29 + 2 * length request.now ≤ answer_line) }
+    {
+        self.length = desk_lines::write_outcome(o, answer, request, &mut self.bytes);
+    }
+
+    // The line of a save: that of its outcome, and where it is done the digest behind the image.
+    pub fn set_saved(&mut self, o: Outcome, image: &[u8], digest: [u8; 32])
+        requires { 29 + 2 * length image.now ≤ answer_line }
+    {
+        self.set_outcome(o, image, b"?");
+        if let Outcome::Done { .. } = o {
+            self.put_digest(digest);
+        }
+    }
+
+    // A digest behind the line, before its line feed.
+    fn put_digest(&mut self, digest: [u8; 32]) {
+        let mut digits = [0u8; 64];
+        text::hex::encode(&digest, &mut digits);
+        self.length = self.length.saturating_sub(1);
+        self.put(b" ");
+        self.put(&digits);
+        self.put(b"\n");
+    }
+
+    // x behind the line, where there is room for it.
+    fn put(&mut self, x: &[u8]) {
+        if ANSWER_LINE - self.length < x.len() {
+            return;
+        }
+        buffers::put(&mut self.bytes, self.length, x);
+        self.length += x.len();
+    }
+
+    // The line without its line feed.
+    pub fn text(&self) -> &[u8] {
+        &self.bytes[..self.length.saturating_sub(1)]
+    }
 }

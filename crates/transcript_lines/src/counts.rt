@@ -1,59 +1,47 @@
-// What is counted. No count goes further than it fits.
-ghost use Rattle.std.specs.Prelude.{◌≡◌, ◌+◌, ◌≤◌, min};
+// What is counted.
+ghost use Rattle.std.specs.Prelude.{◌≤◌};
 
-// How many lists there were, how many answers, and how many of these are not the stored ones.
-#[derive(Clone, Copy)]
+use std::fmt;
+
+// How many lists there were, how many answers, and how many of these are not the stored ones. No count goes further
+// than it fits.
+#[derive(Clone, Copy, Debug, PartialEq, Eq)]
 pub struct Counts {
     pub lists: u64,
     pub answers: u64,
     pub different: u64,
+    ghost within: { different ≤ answers },
 }
 
-pub fn none() -> Counts
-    ensures { result.different ≤ result.answers }
-{
-    Counts {
-        lists: 0,
-        answers: 0,
-        different: 0,
+// by hand, since a ghost field has no derive
+impl Default for Counts {
+    fn default() -> Counts {
+        Counts {
+            lists: 0,
+            answers: 0,
+            different: 0,
+        }
     }
 }
 
-fn more(n: u64) -> u64
-    ensures { result ≡ min (n + 1) 18446744073709551615 }
-{
-    if n == u64::MAX {
-        return n;
-    }
-    n + 1
-}
-
-pub fn one_answer(c: Counts, is_same: bool) -> Counts
-    requires { c.different ≤ c.answers }
-    ensures { result.different ≤ result.answers }
-{
-    let answers = more(c.answers);
-    if is_same {
-        return Counts {
-            lists: c.lists,
-            answers,
-            different: c.different,
-        };
-    }
-    Counts {
-        lists: c.lists,
-        answers,
-        different: more(c.different),
+impl fmt::Display for Counts {
+    fn fmt<W: fmt::Write>(&self, f: &mut fmt::Formatter<W>) -> fmt::Result {
+        let lists = self.lists;
+        let answers = self.answers;
+        let different = self.different;
+        write!(f, "{lists} lists, {answers} answers, {different} different")
     }
 }
 
-pub fn one_list(c: Counts) -> Counts
-    requires { c.different ≤ c.answers }
-    ensures { result.different ≤ result.answers }
-{
-    Counts {
-        lists: more(c.lists),
-        answers: c.answers,
-        different: c.different,
+impl Counts {
+    pub fn add_list(&mut self) {
+        self.lists = self.lists.saturating_add(1);
+    }
+
+    pub fn add_answer(&mut self, is_same: bool) {
+        self.answers = self.answers.saturating_add(1);
+        if !is_same {
+            self.different = self.different.saturating_add(1);
+        }
     }
 }

@@ -12,106 +12,101 @@
 //     p WORDS             these words are printed, with the answer above
 #![tactic(auto)]
 
-ghost use Rattle.std.specs.Prelude.{◌≤◌, length};
-ghost use Rattle.transcript_lines.specs.Room.{answer_line};
-
 use transcript_events::{Entry, Lengths};
+use transcript_lines::answers::AnswerLine;
+use transcript_lines::counts::Counts;
 
 pub mod file;
 
-// Whether calls are a read-only guard's, the lengths of both buffers, and that of the last answer's line, with its line
-// feed.
-#[derive(Clone, Copy)]
-struct Settings {
+// A guard's memory, whether calls are handed to its reader, the lengths of both buffers, the line of the last answer,
+// and what was counted.
+#[derive(Drop)]
+struct Session {
+    memory: [u8; memory::SIZE],
     read_only: bool,
     lengths: Lengths,
-    said: usize,
+    answer: AnswerLine,
+    counts: Counts,
 }
 
-fn fresh(memory: &mut [u8], read_only: bool) -> Settings {
-    let lengths = transcript_events::fresh(memory);
-    Settings {
-        read_only,
-        lengths,
-        said: 0,
-    }
-}
-
-// Whether a line begins a list.
-fn begins(letter: u8) -> bool {
-    if letter == b'f' {
-        return true;
-    }
-    letter == b'o'
-}
-
-fn entry_for(letter: u8, read_only: bool) -> Entry {
-    if letter == b'r' {
-        return Entry::Reply;
-    }
-    if read_only {
-        return Entry::ReaderCall;
-    }
-    Entry::Call
-}
-
-fn lengths(text: &[u8]) -> Lengths {
-    Lengths {
-        answer: transcript_lines::number(
-            transcript_lines::former(text),
-            transcript_events::ANSWER_ROOM,
-        ),
-        request: transcript_lines::number(
-            transcript_lines::latter(text),
-            transcript_events::REQUEST_ROOM,
-        ),
-    }
-}
-
-// What a line hands in: the length of the answer's line, or of the last one's where it hands in nothing.
-fn hand_in(memory: &mut [u8], line: &[u8], said: &mut [u8], s: Settings) -> usize
-    requires { answer_line ≤ length said.old }
-{
-    let l = s.lengths;
-    let read_only = s.read_only;
-    let text = transcript_lines::behind(line);
-    let letter = transcript_lines::letter(line);
-    match letter {
-        b'c' | b'r' => transcript_events::handed::answer(
+impl Session {
+    // Before the first list: a fresh guard.
+    fn new() -> Session {
+        let mut memory = [0u8; memory::SIZE];
+        let lengths = transcript_events::fresh(&mut memory);
+        Session {
             memory,
-            text,
-            said,
-            l,
-            entry_for(letter, read_only),
-        ),
-        b's' => transcript_events::images::answer_save(memory, text, said),
-        b'l' => transcript_events::images::answer_load(memory, text, said),
-        _ => s.said,
+            read_only: false,
+            lengths,
+            answer: AnswerLine::new(),
+            counts: Counts::default(),
+        }
     }
-}
 
-// A line that is no answer: what it does to the guard and to the settings.
-fn feed(memory: &mut [u8], line: &[u8], said: &mut [u8], s: Settings) -> Settings
-    requires { answer_line ≤ length said.old }
-{
-    let letter = transcript_lines::letter(line);
-    if begins(letter) {
-        return fresh(memory, letter == b'o');
+    fn begin_list(&mut self, read_only: bool) {
+        self.lengths = transcript_events::fresh(&mut self.memory);
+        self.read_only = read_only;
+        self.answer.clear();
+        self.counts.add_list();
     }
-    let read_only = s.read_only;
-    if letter == b'b' {
-        let set = lengths(transcript_lines::behind(line));
-        return Settings {
-            read_only,
-            lengths: set,
-            said: 0,
+
+    fn set_lengths(&mut self, text: &[u8]) {
+        let (answer, request) = transcript_lines::fields(text);
+        self.lengths = Lengths {
+            answer: transcript_lines::number(answer, transcript_events::ANSWER_ROOM),
+            request: transcript_lines::number(request, transcript_events::REQUEST_ROOM),
         };
+        self.answer.clear();
     }
-    let same = s.lengths;
-    let n = hand_in(memory, line, said, s);
-    Settings {
-        read_only,
-        lengths: same,
-        said: n,
+
+    fn call_entry(&self) -> Entry {
+        if self.read_only {
+            Entry::ReaderCall
+        } else {
+            Entry::Call
+        }
+    }
+
+    fn hand_in(&mut self, digits: &[u8], entry: Entry) {
+        let lengths = self.lengths;
+        transcript_events::handed::answer(
+            &mut self.memory,
+            digits,
+            &mut self.answer,
+            lengths,
+            entry,
+        );
+    }
+
+    fn judge(&mut self, rt: &impl Print, stored: &[u8]) {
+        let is_same = transcript_lines::said::judge(rt, stored, self.answer.text());
+        self.counts.add_answer(is_same);
+    }
+
+    // One line of a file; one with no letter, or another, does nothing.
+    fn take_line(&mut self, rt: &impl Print, line: &[u8]) {
+        let Some((letter, text)) = transcript_lines::parted(line) else {
+            return;
+        };
+        match letter {
+            b'f' => self.begin_list(false),
+            b'o' => self.begin_list(true),
+            b'b' => self.set_lengths(text),
+            b'c' => self.hand_in(text, self.call_entry()),
+            b'r' => self.hand_in(text, Entry::Reply),
+            b's' => transcript_events::images::answer_save(
+                &mut self.memory,
+                text,
+                &mut self.answer,
+            ),
+            b'l' => transcript_events::images::answer_load(
+                &mut self.memory,
+                text,
+                &mut self.answer,
+            ),
+            b'=' => self.judge(rt, text),
+            b'p' => transcript_lines::said::show(rt, text, self.answer.text()),
+            _ => {}
+        }
     }
 }

@@ -6,12 +6,11 @@
 use std::fs::File;
 use std::os::unix::fs::FileExt;
 use std::rt::Files;
-use text::decimal::Decimal;
 
 mod monte;
 
 // Where the next line starts, the length of the next message, the digest computed last, and how many were right.
-#[derive(Clone, Copy)]
+#[derive(Clone, Copy, Debug, PartialEq, Eq)]
 struct Progress {
     at: usize,
     bytes: usize,
@@ -23,85 +22,55 @@ fn say(rt: &impl Print, text: &[u8]) {
     let _ = rt.write_all(text);
 }
 
-// The first n bytes of a text, or all.
-fn first(text: &[u8], n: usize) -> &[u8] {
-    if text.len() < n {
-        return text;
-    }
-    let start = 0;
-    &text[start..n]
-}
-
-// A line without its carriage return.
-fn trimmed(line: &[u8]) -> &[u8] {
-    let n = line.len();
-    if 0 < n {
-        if line[n - 1] == 13 {
-            return first(line, n - 1);
-        }
-    }
-    line
-}
-
-// What stands in a line after a word that it begins with; nothing where it does not.
-fn value<'a>(line: &'a [u8], word: &[u8]) -> &'a [u8] {
-    let n = word.len();
-    if n <= line.len() {
-        if text::line::starts(line, word) {
-            return &line[n..];
-        }
-    }
-    let end = line.len();
-    &line[end..]
+// What stands in a line after a word that it begins with, where something does.
+fn value<'a>(line: &'a [u8], word: &[u8]) -> Option<&'a [u8]> {
+    line.strip_prefix(word).filter(|text| !text.is_empty())
 }
 
 // The length in bytes that a line states, or the one before. A bad one is more than is read.
 fn stated(line: &[u8], before: usize) -> usize {
-    let bits = value(line, b"Len = ");
-    if bits.len() == 0 {
-        return before;
-    }
-    match text::decimal::read(bits) {
-        Decimal::Value(n) => n / 8,
-        Decimal::Bad => 8193,
+    match value(line, b"Len = ") {
+        Some(bits) => text::decimal::read(bits).map_or(8193, |n| n / 8),
+        None => before,
     }
 }
 
 // The digest of the first n bytes that the digits write: a message of no bytes is written as one.
 fn message_digest(digits: &[u8], n: usize) -> [u8; 32] {
     let mut message = [0u8; 8192];
-    text::hex::decode(digits, &mut message);
-    digest::sha256(first(&message, n))
+    let _ = text::hex::decode(digits, &mut message);
+    digest::sha256(&message[..n.min(8192)])
 }
 
 // The digest after a line, which may be a message, a round of the Monte Carlo test, or its seed.
 fn computed(line: &[u8], bytes: usize, before: [u8; 32]) -> [u8; 32] {
-    let message = value(line, b"Msg = ");
-    if 0 < message.len() {
+    if let Some(message) = value(line, b"Msg = ") {
         return message_digest(message, bytes);
     }
-    if text::line::starts(line, b"COUNT = ") {
+    if line.starts_with(b"COUNT = ") {
         return monte::thousand(before);
     }
     let mut d = before;
-    text::hex::decode(value(line, b"Seed = "), &mut d);
+    if let Some(seed) = value(line, b"Seed = ") {
+        let _ = text::hex::decode(seed, &mut d);
+    }
     d
 }
 
-// 1 where a line publishes the digest d. Another that is published is printed.
-fn judged(rt: &impl Print, line: &[u8], d: [u8; 32]) -> usize {
-    let published = value(line, b"MD = ");
+// Whether a line publishes the digest d. Another that is published is printed.
+fn judged(rt: &impl Print, line: &[u8], d: [u8; 32]) -> bool {
+    let Some(published) = value(line, b"MD = ") else {
+        return false;
+    };
     let mut digits = [0u8; 64];
     text::hex::encode(&d, &mut digits);
-    if buffers::same(&digits, published) {
-        return 1;
-    }
-    if 0 < published.len() {
+    let is_right = published == digits.as_slice();
+    if !is_right {
         say(rt, b"wrong: ");
         say(rt, line);
         say(rt, b"\n");
     }
-    0
+    is_right
 }
 
 // One line, which is read from where it starts: the longest of NIST's has 12,806 bytes.
@@ -110,17 +79,17 @@ fn turn(rt: &impl Print, file: &File, p: Progress) -> Progress {
     let n = file
         .read_at(&mut buffer, (p.at % 1048576) as u64)
         .unwrap_or(0);
-    let text = first(&buffer, n);
+    let text = &buffer[..n];
     let end = text::line::end(text, 0);
-    let line = trimmed(first(text, end));
+    let whole = &text[..end];
+    let line = whole.strip_suffix(b"\r").unwrap_or(whole);
     let bytes = stated(line, p.bytes);
-    let before = p.digest;
-    let digest = computed(line, bytes, before);
+    let digest = computed(line, bytes, p.digest);
     Progress {
         at: p.at.wrapping_add(end).wrapping_add(1),
         bytes,
         digest,
-        right: p.right.wrapping_add(judged(rt, line, digest)),
+        right: p.right.wrapping_add(usize::from(judged(rt, line, digest))),
     }
 }
 
@@ -135,10 +104,8 @@ fn right_in(rt: &(impl Files<File = File> + Print), path: &str) -> usize {
         digest: [0; 32],
         right: 0,
     };
-    let mut i: usize = 0;
-    while i < 1000 {
+    for _ in 0..1000 {
         p = turn(rt, &file, p);
-        i += 1;
     }
     p.right
 }

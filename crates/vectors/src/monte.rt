@@ -20,15 +20,13 @@ pub fn thousand(seed: [u8; 32]) -> [u8; 32]
     let mut a = seed;
     let mut b = seed;
     let mut c = seed;
-    let mut i: usize = 0;
-    // a, b and c are the digests i, i + 1 and i + 2
-    while i < 1000 {
+    // after i turns a, b and c are the digests i, i + 1 and i + 2
+    for _ in 0..1000usize {
         let m = joined(a, b, c);
         let d = digest::sha256(&m);
         a = b;
         b = c;
         c = d;
-        i += 1;
     }
     c
 }

@@ -1,21 +1,15 @@
 -- `desk::answer_line` meets its contract. Assumes nothing.
-use Rattle.desk.specs.laws.AnsweredLaws.{bad_answers, call_line_lem, reply_line_lem, bad_line_lem}
+use Rattle.desk.specs.laws.AnsweredLaws.{bad_answers, line_read, bad_line_lem}
 use Rattle.desk.proofs.answer_line.Goals as goal
 
-pub returns-in-Call : goal.returns-in-Call
-returns-in-Call c =
+pub returns-in-Some : goal.returns-in-Some
+returns-in-Some c =
     let a = c.args in
-    call_line_lem a.memory.now _ c.read_line-l.result _ c.read_line-l.ensures.line _ _ a.out.now _ _ _
-    c.in-Call.is c.first.ensures.0 c.answer_call.ensures
+    line_read a.memory.now _ c.read_line.result _ c.read_line.ensures.line _ _ a.out.now _ c.in-Some.l _
+    c.in-Some.is c.first.ensures.0 c.answer.ensures
 
-pub returns-in-Reply : goal.returns-in-Reply
-returns-in-Reply c =
+pub returns-in-None : goal.returns-in-None
+returns-in-None c =
     let a = c.args in
-    reply_line_lem a.memory.now _ c.read_line-l.result _ c.read_line-l.ensures.line _ _ a.out.now _ _ _
-    c.in-Reply.is c.first-in-Reply.ensures.0 c.answer_reply.ensures
-
-pub returns-in-Bad : goal.returns-in-Bad
-returns-in-Bad c =
-    let a = c.args in
-    bad_line_lem a.memory.now _ c.read_line-l.result _ c.read_line-l.ensures.line _ _ a.out.now _
-    c.in-Bad.is (bad_answers a.memory.now _ a.out.now _ c.write_bad.ensures)
+    bad_line_lem a.memory.now _ c.read_line.result _ c.read_line.ensures.line _ _ a.out.now _
+    c.in-None.is (bad_answers a.memory.now _ a.out.now _ c.write_bad.ensures)

@@ -1,6 +1,6 @@
 -- A line that was handed in and whose answer was written is what the desk does with it.
 -- Assumes nothing.
-use Rattle.std.specs.Prelude.{◌≡◌, refl, List, ℕ, length, take}
+use Rattle.std.specs.Prelude.{◌≡◌, refl, List, ℕ, length, take, Option, None, Some}
 use Rattle.std.proofs.Math.Path.{ap, subst}
 use Rattle.std.proofs.Common.{ap₂, sym, ◌∙◌}
 use Rattle.rules.specs.Requests.{store_length}
@@ -10,10 +10,12 @@ use Rattle.outcomes.specs.declared.Outcome.{Outcome}
 use Rattle.outcomes.specs.Values.{answer_in}
 use Rattle.guard.specs.Promise.{Kept, held, stepped, Steps, Promise, buffers}
 use Rattle.guard.specs.laws.KeptLaws.{kept_ready, promise_kept}
+use Rattle.desk_lines.specs.declared.Entry.{Entry}
+use Rattle.desk_lines.specs.declared.Entry.TheVariants.{Call, Reply}
 use Rattle.desk_lines.specs.declared.Line.{Line}
-use Rattle.desk_lines.specs.declared.Line.TheVariants.{Call, Reply, Bad}
-use Rattle.desk_lines.specs.Lines.{DeskLine, call_line, reply_line, bad_line, printed, printed_bad, line_in, Prints}
-use Rattle.desk.specs.Answered.{printed_for, state_for, Answers}
+use Rattle.desk_lines.specs.Lines.{DeskLine, call_line, reply_line, bad_line, printed, printed_bad, line_for, line_in}
+use Rattle.desk_lines.specs.Lines.{Prints}
+use Rattle.desk.specs.Answered.{event_for, printed_for, state_for, Answers}
 
 -- buffers of the least lengths
 answer-least : answer_length delivered ≡ 9690
@@ -57,6 +59,13 @@ module _ (m b a q a' q' : List ℕ) (o : Outcome) (r : ℕ) (m' d d' : List ℕ)
           same_length = p.own.same_length;
         }
 
+    pub entry_answers : (e : Entry) → Promise m (event_for e b (length a) (length q)) o m' (buffers a q) (buffers a' q')
+        → Prints (printed (answer_in o a' q')) r d d'
+        → Answers m (line_for e b) r m' d d'
+    unfolding event_for line_for
+    entry_answers Call = call-answers
+    entry_answers Reply = reply_answers
+
 -- a bad line changes nothing
 pub bad_answers : (m : List ℕ) (r : ℕ) (d d' : List ℕ) → Prints printed_bad r d d' → Answers m bad_line r m d d'
 unfolding printed_for state_for
@@ -70,20 +79,18 @@ bad_answers m r d d' w = record {
 }
 
 -- the line that was read
-module _ (m : List ℕ) (x : DeskLine) (t : Line) (c : List ℕ) (known : line_in t c ≡ x) (r : ℕ) (m' d d' : List ℕ) where
-  as_read : (y : DeskLine) → line_in t c ≡ y → Answers m y r m' d d' → Answers m x r m' d d'
-  as_read y e h = subst (λ (z : DeskLine). Answers m z r m' d d') (sym e ∙ known) h
+module _ (m : List ℕ) (x : DeskLine) (t : Option Line) (c : List ℕ) (known : line_in t c ≡ x) (r : ℕ) (m' d d' : List ℕ)
+  where
+    as_read : (y : DeskLine) → line_in t c ≡ y → Answers m y r m' d d' → Answers m x r m' d d'
+    as_read y e h = subst (λ (z : DeskLine). Answers m z r m' d d') (sym e ∙ known) h
 
-  pub call_line_lem : (n : ℕ) (b : List ℕ) → t ≡ Call n → b ≡ take n c → Answers m (call_line b) r m' d d'
-      → Answers m x r m' d d'
-  unfolding line_in
-  call_line_lem n b e f = as_read (call_line b) (ap (λ (z : Line). line_in z c) e ∙ ap call_line (sym f))
+    pub line_read : (l : Line) (b : List ℕ) → t ≡ Some l → b ≡ take l.length c
+        → Answers m (line_for l.entry b) r m' d d'
+        → Answers m x r m' d d'
+    unfolding line_in
+    line_read l b e f = as_read (line_for l.entry b) (ap (λ (z : Option Line). line_in z c) e
+        ∙ ap (line_for l.entry) (sym f))
 
-  pub reply_line_lem : (n : ℕ) (b : List ℕ) → t ≡ Reply n → b ≡ take n c → Answers m (reply_line b) r m' d d'
-      → Answers m x r m' d d'
-  unfolding line_in
-  reply_line_lem n b e f = as_read (reply_line b) (ap (λ (z : Line). line_in z c) e ∙ ap reply_line (sym f))
-
-  pub bad_line_lem : t ≡ Bad → Answers m bad_line r m' d d' → Answers m x r m' d d'
-  unfolding line_in
-  bad_line_lem e = as_read bad_line (ap (λ (z : Line). line_in z c) e)
+    pub bad_line_lem : t ≡ None → Answers m bad_line r m' d d' → Answers m x r m' d d'
+    unfolding line_in
+    bad_line_lem e = as_read bad_line (ap (λ (z : Option Line). line_in z c) e)

@@ -1,6 +1,5 @@
 -- `desk_lines::decode` meets its contract. Assumes nothing.
-use mathlib.Core.Path.{sym, ap, ◌∙◌}
-use lib.Seq.{length-take-le}
+use Rattle.std.proofs.Common.{sym, ap, ◌∙◌, length-take-le}
 use Rattle.text.specs.Hex.{decode_of}
 use Rattle.desk_lines.specs.Lines.{most_bytes}
 use Rattle.desk_lines.specs.laws.LineLaws.{decoded_front}

@@ -87,6 +87,9 @@ puts_more x y d e f i k r h g p =
       end = omega arith;
     }
 
+pub puts_as : (x y d d' : List ℕ) (i r : ℕ) → Puts x i r d d' → x ≡ y → Puts y i r d d'
+puts_as x y d d' i r h e = rw e at h
+
 -- no bytes are nothing; others have a space before them
 pub puts_none : (b d : List ℕ) (i : ℕ) → length b ≡ 0 → Puts (any_bytes b) i i d d
 unfolding any_bytes

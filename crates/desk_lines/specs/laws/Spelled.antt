@@ -2,7 +2,7 @@
 -- space, and bytes in
 -- lower-case hexadecimal, at most 9,690 of them. All others are bad.
 -- Assumes nothing.
-use Rattle.std.specs.Prelude.{◌≡◌, true, List, ◌++◌, ℕ, ◌+◌, ◌*◌, ◌≤◌, ◌<◌, length, drop}
+use Rattle.std.specs.Prelude.{Result, Ok, Err, ◌≡◌, true, List, ◌++◌, ℕ, ◌+◌, ◌*◌, ◌≤◌, ◌<◌, length, drop}
 use Rattle.std.proofs.Math.Path.{refl, ap}
 use Rattle.std.proofs.Common.{sym, ◌∙◌, arith, length-append}
 use Rattle.lists.specs.All as all
@@ -13,8 +13,7 @@ use Rattle.text.specs.laws.HexCases.{length-hex_of, length-bytes_of}
 use Rattle.text.specs.laws.HexLaws.{bytes_of-hex_of, hex_of-bytes_of, bytes_of-bytes, decodes, decode-hex_of}
 use Rattle.text.specs.Line.{begins}
 use Rattle.text.specs.laws.LineLaws.{begins_is}
-use Rattle.text.specs.declared.hex.Decoded.{Decoded}
-use Rattle.text.specs.declared.hex.Decoded.TheVariants.{Bytes, BadDigit, Odd, TooLong}
+use Rattle.text.specs.declared.hex.DecodeError.{DecodeError}
 use Rattle.desk_lines.specs.Lines.{most_bytes, DeskLine, call_line, reply_line, bad_line, decoded_as, hex_line, line_of}
 use Rattle.desk_lines.specs.laws.LineLaws.{line_call, line_reply}
 
@@ -32,7 +31,7 @@ module _ (word s : List ℕ) (two : length word ≡ 2) (begun : begins s word �
   behind : word ++ drop 2 s ≡ s
   behind = sym (begins_is s word begun ∙ ap (λ (n : ℕ). word ++ drop n s) two)
 
-  spelled : (k : ℕ) → decode_of (drop 2 s) most_bytes ≡ Bytes k → Spells word (bytes_of (drop 2 s)) s
+  spelled : (k : ℕ) → decode_of (drop 2 s) most_bytes ≡ Ok k → Spells word (bytes_of (drop 2 s)) s
   spelled k e =
       let d = decodes (drop 2 s) most_bytes k e in
       let n = length-bytes_of (drop 2 s) in
@@ -44,19 +43,17 @@ module _ (word s : List ℕ) (two : length word ≡ 2) (begun : begins s word �
 
 -- a line means what it is spelled as
 module _ (s : List ℕ) where
-  call_as : begins s (ascii "c ") ≡ true → (r : Decoded) → decode_of (drop 2 s) most_bytes ≡ r → LineIs (decoded_as call_line (drop 2 s) r) s
+  call_as : begins s (ascii "c ") ≡ true → (r : Result ℕ DecodeError) → decode_of (drop 2 s) most_bytes ≡ r
+      → LineIs (decoded_as call_line (drop 2 s) r) s
   unfolding decoded_as ascii
-  call_as h (Bytes k) e = spelled (ascii "c ") s refl h k e
-  call_as h (BadDigit i) e = tt
-  call_as h Odd e = tt
-  call_as h TooLong e = tt
+  call_as h (Ok k) e = spelled (ascii "c ") s refl h k e
+  call_as h (Err x) e = tt
 
-  reply_as : begins s (ascii "r ") ≡ true → (r : Decoded) → decode_of (drop 2 s) most_bytes ≡ r → LineIs (decoded_as reply_line (drop 2 s) r) s
+  reply_as : begins s (ascii "r ") ≡ true → (r : Result ℕ DecodeError) → decode_of (drop 2 s) most_bytes ≡ r
+      → LineIs (decoded_as reply_line (drop 2 s) r) s
   unfolding decoded_as ascii
-  reply_as h (Bytes k) e = spelled (ascii "r ") s refl h k e
-  reply_as h (BadDigit i) e = tt
-  reply_as h Odd e = tt
-  reply_as h TooLong e = tt
+  reply_as h (Ok k) e = spelled (ascii "r ") s refl h k e
+  reply_as h (Err x) e = tt
 
   pub line-is : LineIs (line_of s) s
   unfolding line_of hex_line

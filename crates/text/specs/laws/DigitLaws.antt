@@ -4,6 +4,8 @@ use Rattle.std.specs.Prelude.{◌≡◌, refl, List, [], ◌∷◌, ◌++◌, �
 use Rattle.std.proofs.Common.{sym, ap, ◌∙◌, append_assoc, append-nil, pow-suc, arith, length-append, length-drop, lt-ltb, le-ltb, ltb-true, ltb-false}
 use Rattle.std.proofs.Math.Seq.{drop-length}
 use Rattle.std.proofs.lemmas.List.{set_split}
+use Rattle.std.proofs.lemmas.Fmt.{decimal_by_steps}
+use Rattle.std.specs.Fmt.{decimal}
 use Rattle.lists.specs.Equal.{Is, is_t, is_f, is}
 use Rattle.text.specs.Ascii.{ascii}
 use Rattle.text.specs.Digits.{decimal_of, last_digit, last_digits}
@@ -90,6 +92,13 @@ module _ (n m i : ℕ) (l : List ℕ) (inside : i < length l) (written : decimal
 
     pub digits_end : i + length (decimal_of n) ≡ length l
     digits_end = rw (written, decimal_one m one) (omega (arith, length-drop (suc i) l))
+
+-- what std prints of a number
+pub decimal_is : (n : ℕ) → n < 2 ^ 64 → decimal_of n ≡ decimal n
+decimal_is =
+    decimal_by_steps (λ n s. decimal_of n ≡ s)
+    (λ n h. decimal_one n h ∙ ap (λ d. (48 + d) ∷ []) (omega arith))
+    (λ n s h e. decimal_more n h ∙ ap (λ t. t ++ (last_digit n ∷ [])) e)
 
 pub decimal_examples : (decimal_of 0 ≡ ascii "0") × (decimal_of 2 ≡ ascii "2") × (decimal_of 10 ≡ ascii "10") × (decimal_of 65535 ≡ ascii "65535")
     × (decimal_of 18446744073709551615 ≡ ascii "18446744073709551615")

@@ -1,52 +1,31 @@
 -- `text::decimal::read` meets its contract. What is left is read on from n.
 -- Assumes nothing.
-use native.Mathlib.Omega.{arith}
-use mathlib.Core.Path.{sym, ◌∙◌}
-use Rattle.text.specs.laws.DecimalLaws.{read-start, read-end, read_low, read-high, read_large, read_digit}
-use Rattle.text.specs.laws.DecimalLaws.{read_none}
+use Rattle.std.proofs.Common.{sym, ◌∙◌, arith, eqb-true}
+use Rattle.std.proofs.lemmas.Bool.{eqb-false}
+use Rattle.text.specs.laws.DecimalLaws.{read_none, read-start, read-end, read_stop, read_digit}
 use Rattle.text.proofs.decimal.read.Goals as goal
 
-pub returns-then-text-eq0 : goal.returns-then-text-eq0
-returns-then-text-eq0 c = sym (read_none _ c.if-text-eq0.true)
+pub returns-then-is_empty : goal.returns-then-is_empty
+returns-then-is_empty c = sym (read_none _ (eqb-true _ _ (sym c.is_empty.ensures ∙ c.if-is_empty.true)))
 
-pub loop-i-init : goal.loop-i-init
-loop-i-init c = (omega arith, omega arith, read-start _ (omega arith))
+pub loop-c-init : goal.loop-c-init
+loop-c-init c =
+    let some = eqb-false _ _ (sym c.is_empty.ensures ∙ c.if-is_empty.false) in
+    (omega arith, read-start _ (omega arith))
 
-pub returns-then-c-lt48 : goal.returns-then-c-lt48
-returns-then-c-lt48 c =
-    let l = c.loop-i in
-    let s = c.args.text.now in
-    sym (l.invariant.2 ∙ read_low l.n s l.i (omega arith) (rw c.digit_value-c.ensures at c.if-c-lt48.true))
+pub returns-then-not-is_ascii_digit : goal.returns-then-not-is_ascii_digit
+returns-then-not-is_ascii_digit c =
+    let l = c.loop-c in
+    sym (l.invariant.1 ∙ read_stop l.n c.args.text.now l.c-index (omega arith) _ c.is_ascii_digit.ensures.cases
+    c.then-not-is_ascii_digit.either)
 
-pub returns-then-c-gt57 : goal.returns-then-c-gt57
-returns-then-c-gt57 c =
-    let l = c.loop-i in
-    let s = c.args.text.now in
-    let d = c.digit_value-c in
-    sym (l.invariant.2 ∙ read-high l.n s l.i (omega arith) (rw d.ensures at c.if-c-lt48.false)
-    (rw d.ensures at c.if-c-gt57.true))
-
-pub returns-then-n-gt99999999 : goal.returns-then-n-gt99999999
-returns-then-n-gt99999999 c =
-    let l = c.loop-i in
-    let s = c.args.text.now in
-    let d = c.digit_value-c in
-    sym (l.invariant.2 ∙ read_large l.n s l.i (omega arith) (rw d.ensures at c.if-c-lt48.false)
-    (rw d.ensures at c.if-c-gt57.false) c.if-n-gt99999999.true)
-
-pub loop-i-preserved : goal.loop-i-preserved
-loop-i-preserved c =
-    let l = c.loop-i in
-    let s = c.args.text.now in
-    let d = c.digit_value-c in (
-      omega arith,
-      omega arith,
-      l.invariant.2 ∙ read_digit l.n s l.i (omega arith) (rw d.ensures at c.if-c-lt48.false)
-          (rw d.ensures at c.if-c-gt57.false) c.if-n-gt99999999.false ∙ rw d.ensures,
+pub loop-c-preserved : goal.loop-c-preserved
+loop-c-preserved c =
+    let l = c.loop-c in
+    let d = c.if-not-is_ascii_digit.ensures.cases in (
+      omega (arith, d),
+      l.invariant.1 ∙ read_digit l.n c.args.text.now l.c-index (omega arith) d.0 d.1 c.if-n-gt99999999.false,
     )
 
 pub returns : goal.returns
-returns c =
-    let l = c.loop-i in
-    let s = c.args.text.now in
-    sym (l.invariant.2 ∙ read-end l.n s l.i (omega arith))
+returns c = sym (c.loop-c.invariant.1 ∙ read-end _ _ c.loop-c.c-index (omega arith))

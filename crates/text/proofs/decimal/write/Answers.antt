@@ -1,47 +1,19 @@
--- `text::decimal::write` meets its contract. n has the digits of rest, and those that stand behind i;
--- what stands before them is as it was.
+-- `text::decimal::write` meets its contract.
 -- Assumes nothing.
-use native.Mathlib.Omega.{arith}
-use Prim.Native.Nat.{◌-◌, ◌/◌, ◌≤◌}
-use mathlib.Core.Path.{refl, ◌∙◌}
-use lib.ListN.{length-set}
-use lib.Seq.{take-set-le}
-use Rattle.text.specs.laws.DigitLaws.{length_more, decimal_some, decimal_most}
-use Rattle.text.specs.laws.DigitLaws.{digit_none, digit_more, digit_first, digits_end}
+use Rattle.std.proofs.Common.{◌≡◌, ◌-◌, [], length, drop, ap, sym, ◌∙◌, arith}
+use Rattle.std.proofs.Common.{append-nil, drop_of_length-le, length-drop}
+use Rattle.text.specs.Digits.{decimal_of}
+use Rattle.text.specs.laws.DigitLaws.{decimal_is, decimal_most}
 use Rattle.text.proofs.decimal.write.Goals as goal
-
-pub loop-rest-init : goal.loop-rest-init
-loop-rest-init c =
-    let m = decimal_most 19 c.args.n (omega arith) in
-    (omega arith, omega arith, omega arith, digit_none c.args.n c.args.out.now (omega arith), λ k h. refl)
-
--- a number of two digits or more has one more to write
-pub overflow_sub-i-in-loop-rest : goal.overflow_sub-i-in-loop-rest
-overflow_sub-i-in-loop-rest c =
-    let l = c.loop-rest in
-    let t : 10 ≤ l.rest = omega arith in
-    let h = length_more l.rest t in
-    let z = decimal_some (l.rest / 10) in
-    omega arith
-
-pub loop-rest-preserved : goal.loop-rest-preserved
-loop-rest-preserved c =
-    let l = c.loop-rest in
-    let t : 10 ≤ l.rest = omega arith in
-    let h = length_more l.rest t in
-    let z = decimal_some (l.rest / 10) in (
-      simp length-set (omega arith),
-      simp length-set (omega arith),
-      omega arith,
-      digit_more c.args.n l.rest l.i l.out l.invariant.0 l.invariant.3 t (l.i - 1)
-          (omega arith),
-      λ k p. take-set-le k l.out l.i _ (omega arith) ∙ l.invariant.4 k (omega arith),
-    )
 
 pub returns : goal.returns
 returns c =
-    let a = c.args in
-    let l = c.loop-rest in
-    let e = digits_end a.n l.rest l.i l.out l.invariant.0 l.invariant.3 (omega arith) in
-    let f = digit_first a.n l.rest l.i l.out l.invariant.0 l.invariant.3 (omega arith) in
-    (omega arith, f a.out.now (l.invariant.4 l.i (omega arith)))
+    let l = c.args.out.now in
+    let d : c.as_bytes-digits.result.now ≡ decimal_of c.args.n = c.as_bytes-digits.ensures.value
+    ∙ c.format.ensures.text ∙ sym (decimal_is c.args.n (omega arith)) in
+    let n = ap length d in
+    let m = decimal_most 19 c.args.n (omega arith) in
+    let from = length l - length c.as_bytes-digits.result.now in
+    let none : drop (length l - from) (drop from l) ≡ [] = drop_of_length-le (drop from l)
+    {i = length l - from} (rw (length-drop from l) (omega arith)) in
+    (omega arith, rw (none, append-nil c.copy_from_slice.new.self, c.copy_from_slice.ensures.after, d))

@@ -1,5 +1,6 @@
 -- `text::hex::digit` meets its contract.
 -- Assumes nothing.
+use Rattle.std.proofs.Common.{arith}
 use borrow.Author.Tests.{lt-ltb, le-ltb}
 use Rattle.lists.specs.Pick.{pick}
 use Rattle.text.specs.Hex.{digit_of}
@@ -9,6 +10,6 @@ pub returns-then-n-lt10 : goal.returns-then-n-lt10
 unfolding digit_of pick
 returns-then-n-lt10 c = rw (lt-ltb _ _ c.if-n-lt10.true)
 
-pub returns : goal.returns
+pub returns-else-n-lt10 : goal.returns-else-n-lt10
 unfolding digit_of pick
-returns c = rw (le-ltb _ _ c.if-n-lt10.false)
+returns-else-n-lt10 c = rw (le-ltb _ _ c.if-n-lt10.false) (omega arith)

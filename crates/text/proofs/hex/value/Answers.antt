@@ -1,43 +1,20 @@
--- `text::hex::value` meets its contract.
+-- `text::hex::value` meets its contract, range by range.
 -- Assumes nothing.
-use borrow.Author.Tests.{lt-ltb, le-ltb}
-use Rattle.lists.specs.Pick.{pick}
-use Rattle.text.specs.Hex.{value_of}
+use Rattle.std.proofs.Common.{arith}
+use Rattle.text.specs.laws.HexCases.{value_below, value_decimal, value_between, value_letter, value_above}
 use Rattle.text.proofs.hex.value.Goals as goal
 
-pub returns-then-c-lt48 : goal.returns-then-c-lt48
-unfolding value_of pick
-returns-then-c-lt48 c = rw (lt-ltb _ _ c.if-c-lt48.true)
+pub returns-in-48-to-57 : goal.returns-in-48-to-57
+returns-in-48-to-57 c = value_decimal c.args.c (omega arith) (omega arith)
 
-pub returns-then-c-lt58 : goal.returns-then-c-lt58
-unfolding value_of pick
-returns-then-c-lt58 c = rw (le-ltb _ _ c.if-c-lt48.false, lt-ltb _ _ c.if-c-lt58.true)
+pub returns-in-97-to-102 : goal.returns-in-97-to-102
+returns-in-97-to-102 c = value_letter c.args.c (omega arith) (omega arith)
 
-pub returns-then-c-lt97 : goal.returns-then-c-lt97
-unfolding value_of pick
-returns-then-c-lt97 c = rw (
-  le-ltb _ _ c.if-c-lt48.false,
-  le-ltb _ _ c.if-c-lt58.false,
-  lt-ltb _ _
-      c.if-c-lt97.true,
-)
+pub returns-in_default : goal.returns-in_default
+returns-in_default c = value_below c.args.c (omega arith)
 
-pub returns-then-c-lt103 : goal.returns-then-c-lt103
-unfolding value_of pick
-returns-then-c-lt103 c =
-    rw (
-      le-ltb _ _ c.if-c-lt48.false,
-      le-ltb _ _ c.if-c-lt58.false,
-      le-ltb _ _ c.if-c-lt97.false,
-      lt-ltb _ _ c.if-c-lt103.true,
-    )
+pub returns-in_default-2 : goal.returns-in_default-2
+returns-in_default-2 c = value_between c.args.c (omega arith) (omega arith)
 
-pub returns : goal.returns
-unfolding value_of pick
-returns c =
-    rw (
-      le-ltb _ _ c.if-c-lt48.false,
-      le-ltb _ _ c.if-c-lt58.false,
-      le-ltb _ _ c.if-c-lt97.false,
-      le-ltb _ _ c.if-c-lt103.false,
-    )
+pub returns-in_default-3 : goal.returns-in_default-3
+returns-in_default-3 c = value_above c.args.c (omega arith)

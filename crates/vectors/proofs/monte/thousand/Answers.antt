@@ -5,17 +5,15 @@ use Rattle.vectors.specs.Monte.{MD}
 use Rattle.vectors.specs.laws.MonteLaws.{seeds, next}
 use Rattle.vectors.proofs.monte.thousand.Goals as goal
 
-pub loop-i-init : goal.loop-i-init
-loop-i-init c = let s = seeds c.args.seed in (omega arith, s.0, s.1, s.2)
+pub loop-init : goal.loop-init
+loop-init c = seeds c.args.seed
 
-pub loop-i-preserved : goal.loop-i-preserved
-loop-i-preserved c =
-    let l = c.loop-i in
-    let s = c.args.seed in
-    let j = c.joined-m in
-    let two : l.i + 2 ≡ l.i + 1 + 1 = omega arith in (
-      omega arith,
-      l.invariant.2,
-      l.invariant.3 ∙ ap (MD s) two,
-      c.sha256-d.ensures ∙ rw (j.ensures, l.invariant.1, l.invariant.2, l.invariant.3) (next s l.i),
+pub loop-preserved : goal.loop-preserved
+loop-preserved c =
+    let l = c.loop in
+    let i = l.counter in
+    let two : i + 2 ≡ i + 1 + 1 = omega arith in (
+      l.invariant.1,
+      l.invariant.2 ∙ ap (MD c.args.seed) two,
+      c.sha256-d.ensures ∙ rw (c.joined-m.ensures, l.invariant.0, l.invariant.1, l.invariant.2) (next c.args.seed i),
     )
