@@ -156,8 +156,8 @@ impl<'a> Writer<'a> {
         match o {
             Outcome::Done { number, length } => self.put_done(number, first(answer, length)),
             Outcome::Ask(length) => self.put_ask(first(request, length)),
-            Outcome::Refused(number) => self.put_counted(b"refused ", number as u64),
-            Outcome::Stopped(number) => self.put_counted(b"stopped ", number as u64),
+            Outcome::Refused(refusal) => self.put_counted(b"refused ", refusal.number() as u64),
+            Outcome::Stopped(reason) => self.put_counted(b"stopped ", reason.number() as u64),
         }
     }
 }

@@ -15,8 +15,8 @@ returns-in-Ask c = writes_as c.put_ask.ensures _ (rw (c.in-Ask.is, c.first-in-As
 
 pub returns-in-Refused : goal.returns-in-Refused
 unfolding answer_in printed ascii
-returns-in-Refused c = writes_as c.put_counted.ensures _ (rw c.in-Refused.is)
+returns-in-Refused c = writes_as c.put_counted.ensures _ (rw (c.in-Refused.is, c.number.ensures))
 
 pub returns-in-Stopped : goal.returns-in-Stopped
 unfolding answer_in printed ascii
-returns-in-Stopped c = writes_as c.put_counted-in-Stopped.ensures _ (rw c.in-Stopped.is)
+returns-in-Stopped c = writes_as c.put_counted-in-Stopped.ensures _ (rw (c.in-Stopped.is, c.number-in-Stopped.ensures))
