@@ -14,13 +14,7 @@ use outcomes::Outcome;
 use refusals::Refusal;
 
 // A call by path, by its kind. A memory without a node holds no guard.
-fn begin_by_path(
-    m: &mut [u8],
-    kind: u8,
-    number: u8,
-    path: &[u8],
-    request: &mut [u8],
-) -> Outcome
+fn begin_by_path(m: &mut [u8], kind: u8, number: u8, path: &[u8], request: &mut [u8]) -> Outcome
     requires { NumberFits kind number × IsMemory m.old × HoldsRequest request.old }
     ensures { BeginsPath m request path.now (made_by kind number) result }
 {

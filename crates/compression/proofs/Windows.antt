@@ -1,6 +1,7 @@
 -- The message schedule: its words by the recurrence, and the code's windows of sixteen words on it.
 -- Assumes nothing.
-use Rattle.std.proofs.Common.{◌≡◌, ℕ, zero, suc, ◌+◌, ◌-◌, ◌<◌, List, [], ◌∷◌, length, get_or, sym, refl, ap, ◌∙◌, subst, add-zero, add_assoc, suc-add, zero-add, arith, lit<, length-append}
+use Rattle.std.proofs.Common.{◌≡◌, ℕ, zero, suc, ◌+◌, ◌-◌, ◌<◌, List, [], ◌∷◌, length, get_or, sym, refl, ap, ◌∙◌}
+use Rattle.std.proofs.Common.{subst, add-zero, add_assoc, suc-add, zero-add, arith, lit<, length-append}
 use lib.ListN.{get_or-append}
 use lib.Seq.{get_or_at}
 use Rattle.compression.proofs.Congruence.{window-equal}

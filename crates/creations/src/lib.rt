@@ -88,13 +88,7 @@ fn send_new(
 }
 
 // create 1 and mkdir 2, by their mode and path's bytes.
-pub fn begin_new(
-    m: &mut [u8],
-    kind: u8,
-    mode: u8,
-    path: &[u8],
-    request: &mut [u8],
-) -> Outcome
+pub fn begin_new(m: &mut [u8], kind: u8, mode: u8, path: &[u8], request: &mut [u8]) -> Outcome
     requires { (1 ≤ kind) × (kind ≤ 2) × HasRoot m.old × IsMemory m.old × HoldsRequest request.old }
     ensures { BeginsPath m request path.now (made_by kind mode) result }
 {

@@ -13,7 +13,8 @@ use Rattle.lists.specs.Pick.{pick}
 use Rattle.memory.specs.Layout.{memory_size}
 use Rattle.filesystem.specs.Tables.{DIGEST_BYTES, PAGES, page_total}
 use Rattle.filesystem.specs.Image.{current}
-use Rattle.rules.specs.Skeleton.{Event, call, reply, save, load, EventBytes, Buffers, buffers_after, at_front, image_after}
+use Rattle.rules.specs.Skeleton.{Event, call, reply, save, load, EventBytes, Buffers, buffers_after, at_front}
+use Rattle.rules.specs.Skeleton.{image_after}
 use Rattle.rules.specs.Skeleton.{answer_length, request_length, Skeleton}
 use Rattle.rules.specs.Rules.{is_idle}
 use Rattle.configuration.specs.Delivered.{delivered}

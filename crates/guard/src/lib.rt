@@ -100,12 +100,7 @@ fn take_call(m: &mut [u8], bytes: &[u8], answer: &mut [u8], request: &mut [u8]) 
 }
 
 // A reply: 5, 61, 34, then what the pending call makes of it.
-fn take_reply(
-    m: &mut [u8],
-    bytes: &[u8],
-    answer: &mut [u8],
-    request: &mut [u8],
-) -> Outcome
+fn take_reply(m: &mut [u8], bytes: &[u8], answer: &mut [u8], request: &mut [u8]) -> Outcome
     requires { IsMemory m.old }
     ensures takes { Takes reply m bytes.now answer request result }
     ensures keeps_length { KeepsLength m }
@@ -149,12 +144,7 @@ fn take_load(m: &mut [u8], image: &[u8], digest: &[u8]) -> Outcome
 
 // ---- entries: a memory that is too short holds no guard
 
-pub fn on_call(
-    memory: &mut [u8],
-    bytes: &[u8],
-    answer: &mut [u8],
-    request: &mut [u8],
-) -> Outcome
+pub fn on_call(memory: &mut [u8], bytes: &[u8], answer: &mut [u8], request: &mut [u8]) -> Outcome
     ensures { Called memory bytes.now answer request result }
 {
     if memory.len() < memory::SIZE {
@@ -163,12 +153,7 @@ pub fn on_call(
     take_call(&mut memory[..memory::SIZE], bytes, answer, request)
 }
 
-pub fn on_reply(
-    memory: &mut [u8],
-    bytes: &[u8],
-    answer: &mut [u8],
-    request: &mut [u8],
-) -> Outcome
+pub fn on_reply(memory: &mut [u8], bytes: &[u8], answer: &mut [u8], request: &mut [u8]) -> Outcome
     ensures { Replied memory bytes.now answer request result }
 {
     if memory.len() < memory::SIZE {

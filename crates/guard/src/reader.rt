@@ -15,7 +15,11 @@ fn refusal(memory: &[u8], answer: usize, request: usize, own: Refusal) -> Refusa
     if memory.len() < memory::SIZE {
         return Refusal::ShortBuffer;
     }
-    if let Some(first) = super::first_refusal(&memory[..memory::SIZE], Some(Refusal::Pending), None) {
+    if let Some(first) = super::first_refusal(
+        &memory[..memory::SIZE],
+        Some(Refusal::Pending),
+        None,
+    ) {
         return first;
     }
     if super::is_short(answer, request) {
@@ -25,12 +29,7 @@ fn refusal(memory: &[u8], answer: usize, request: usize, own: Refusal) -> Refusa
 }
 
 // A call: one that is taken goes the guard's way.
-pub fn on_call(
-    memory: &mut [u8],
-    bytes: &[u8],
-    answer: &mut [u8],
-    request: &mut [u8],
-) -> Outcome
+pub fn on_call(memory: &mut [u8], bytes: &[u8], answer: &mut [u8], request: &mut [u8]) -> Outcome
     ensures { ReaderCalled memory bytes.now answer request result }
 {
     let Some(own) = read_only_calls::refusal(bytes) else {

@@ -1,7 +1,7 @@
-// Numbers from bytes and into bytes, the least significant byte first; the smaller and the larger of two.
+// Numbers from bytes and into bytes, the least significant byte first.
 #![tactic(auto)]
 
-ghost use Rattle.std.specs.Prelude.{◌≡◌, ◌+◌, ◌-◌, ◌<◌, ◌≤◌, min, max, length};
+ghost use Rattle.std.specs.Prelude.{◌≡◌, ◌+◌, ◌<◌, ◌≤◌, length};
 ghost use Rattle.lists.specs.LittleEndian.{encode, decode};
 ghost use Rattle.lists.specs.Parts.{part};
 ghost use Rattle.lists.specs.Signed.{signed};
@@ -76,25 +76,4 @@ pub fn put_number(m: &mut [u8], at: usize, w: usize, x: u64)
         m[at + i] = (y % 256) as u8;
         y /= 256;
     }
-}
-
-// ---- two numbers
-
-pub fn smaller(a: usize, b: usize) -> usize
-    ensures { result ≡ min a b }
-{
-    a.min(b)
-}
-
-pub fn larger(a: u32, b: u32) -> u32
-    ensures { result ≡ max a b }
-{
-    a.max(b)
-}
-
-// What a has over b.
-pub fn excess(a: usize, b: usize) -> usize
-    ensures { result ≡ a - b }
-{
-    a.saturating_sub(b)
 }

@@ -1,5 +1,5 @@
--- The form of a path on its bytes: malformed (22), else too long (36), else good. What each part between slashes adds to
--- it.
+-- The form of a path on its bytes: malformed (22), else too long (36), else good. What each part between slashes adds
+-- to it.
 -- Assumes nothing.
 use Rattle.std.specs.Prelude.{Bool, ◌&&◌, ◌||◌, not, List, [], ◌∷◌, ℕ, ltb, length}
 use Rattle.std.proofs.Math.Option.{Option, some, none}
@@ -19,7 +19,7 @@ unfoldable pub length_form : Bool → Result (Unit {0}) PathFault
 length_form long = pick long (Err TooLong) (Ok tt)
 
 unfoldable pub path_form : Option Path → Result (Unit {0}) PathFault
-path_form none = (Err Malformed)
+path_form none = Err Malformed
 path_form (some p) = length_form (too_long p)
 
 unfoldable pub form_of : List ℕ → Result (Unit {0}) PathFault
@@ -27,10 +27,10 @@ form_of s = path_form (read_path s)
 
 -- of two paths of one call: malformed before long, long before good
 unfoldable pub worse : Result (Unit {0}) PathFault → Result (Unit {0}) PathFault → Result (Unit {0}) PathFault
-worse (Err Malformed) g = (Err Malformed)
-worse (Err TooLong) (Err Malformed) = (Err Malformed)
-worse (Err TooLong) (Err TooLong) = (Err TooLong)
-worse (Err TooLong) (Ok tt) = (Err TooLong)
+worse (Err Malformed) g = Err Malformed
+worse (Err TooLong) (Err Malformed) = Err Malformed
+worse (Err TooLong) (Err TooLong) = Err TooLong
+worse (Err TooLong) (Ok tt) = Err TooLong
 worse (Ok tt) g = g
 
 abbrev pub forms_of : List ℕ → List ℕ → Result (Unit {0}) PathFault

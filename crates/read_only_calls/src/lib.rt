@@ -69,7 +69,10 @@ fn form_refusal(p: ParsedCall, call: &[u8]) -> Refusal
             number,
             start,
         } => refusal_of(paths::form(&call[start..])),
-        ParsedCall::Rename { second } => refusal_of(paths::forms(&call[2..second], &call[second..])),
+        ParsedCall::Rename { second } => refusal_of(paths::forms(
+            &call[2..second],
+            &call[second..],
+        )),
         _ => Refusal::ReadOnly,
     }
 }

@@ -80,7 +80,7 @@ fn read_at(
 {
     let cursor = memory::open_cursor(m, opened) as usize;
     let size = handle_calls::size_at(m, n, node) as usize;
-    let left = numbers::smaller(count, numbers::excess(size, cursor));
+    let left = count.min(size.saturating_sub(cursor));
     if left == 0 {
         guard_state::finish(m);
         return Outcome::Done {
@@ -192,8 +192,8 @@ fn page_part(reply: &[u8], position: usize, count: usize, page: usize) -> &[u8]
     ensures { (result.now ≡ page_part reply.now position count page) × (length result.now ≤ count) }
 {
     let at = page * Guard::PAGE_BYTES;
-    let start = numbers::excess(position, at);
-    let end = numbers::smaller(position + count - at, Guard::PAGE_BYTES);
+    let start = position.saturating_sub(at);
+    let end = (position + count - at).min(Guard::PAGE_BYTES);
     &reply[start..end]
 }
 
@@ -247,12 +247,7 @@ fn take_page(
 }
 
 // A page of the read came: the guard stops, or the next page is asked for, or the read is done.
-pub fn accept_page(
-    m: &mut [u8],
-    reply: &[u8],
-    answer: &mut [u8],
-    request: &mut [u8],
-) -> Outcome
+pub fn accept_page(m: &mut [u8], reply: &[u8], answer: &mut [u8], request: &mut [u8]) -> Outcome
     requires { ((numbers_in m.old).call ≡ READING) × (DATA_BYTES ≤ length answer.old) × IsMemory m.old
         × HoldsRequest request.old }
     ensures { AcceptsBoth m reply.now answer request result }

@@ -6,7 +6,10 @@
 -- Assumes nothing.
 use Rattle.std.specs.Prelude.{ℕ, Option, None, Some, Result, Ok, Err}
 use Rattle.refusals.specs.declared.Refusal.{Refusal}
-use Rattle.refusals.specs.declared.Refusal.TheVariants.{NotFound, Stopped, BadHandle, TooManyMaps, Denied, Busy, Exists, NotDirectory, IsDirectory, Invalid, TooManyOpen, FileTooLarge, NoSpace, ReadOnly, ShortBuffer, TooLong, NotEmpty, NotPending, WrongDigest, BadImage, Pending}
+use Rattle.refusals.specs.declared.Refusal.TheVariants.{NotFound, Stopped, BadHandle, TooManyMaps, Denied, Busy, Exists}
+use Rattle.refusals.specs.declared.Refusal.TheVariants.{NotDirectory, IsDirectory, Invalid, TooManyOpen, FileTooLarge}
+use Rattle.refusals.specs.declared.Refusal.TheVariants.{NoSpace, ReadOnly, ShortBuffer, TooLong, NotEmpty, NotPending}
+use Rattle.refusals.specs.declared.Refusal.TheVariants.{WrongDigest, BadImage, Pending}
 use Rattle.refusals.specs.declared.StopReason.{StopReason}
 use Rattle.refusals.specs.declared.StopReason.TheVariants.{Length, Status, Id, Descriptor, Page, Stat, Listing, Map}
 

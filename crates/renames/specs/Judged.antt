@@ -8,12 +8,14 @@
 --   Short s         the path is not too long
 --   Fits r n s      what a move has: places below n, and a name at the end of the second path's bytes s
 -- Assumes nothing.
-use Rattle.std.specs.Prelude.{Bool, false, ◌&&◌, ◌||◌, not, List, [], ◌∷◌, ◌++◌, ◌≡◌, ℕ, zero, suc, ◌-◌, ◌<◌, ◌≤◌, eqb, length, drop}
+use Rattle.std.specs.Prelude.{Bool, false, ◌&&◌, ◌||◌, not, List, [], ◌∷◌, ◌++◌, ◌≡◌, ℕ, zero, suc, ◌-◌, ◌<◌, ◌≤◌, eqb}
+use Rattle.std.specs.Prelude.{length, drop}
 use Rattle.std.proofs.Math.Option.{some, none}
 use Rattle.lists.specs.Pick.{pick}
 use Rattle.lists.specs.Checks.{Check, decide}
 use Rattle.filesystem.specs.Tables.{NAME_BYTES, PATH_BYTES, Node, Tables, node_at, has_bit, present}
-use Rattle.filesystem.specs.Paths.{Path, read_path, too_long, child_at, walk, walk_checks, parent_checks, parent_of, last_of}
+use Rattle.filesystem.specs.Paths.{Path, read_path, too_long, child_at, walk, walk_checks, parent_checks, parent_of}
+use Rattle.filesystem.specs.Paths.{last_of}
 use Rattle.filesystem.specs.Image.{beneath, too_deep}
 use Rattle.rules.specs.Calls.{rename}
 use Rattle.rules.specs.Rules.{call_checks, same_path}

@@ -24,7 +24,8 @@ use guard_state::Guard;
 use outcomes::Outcome;
 use refusals::{Refusal, StopReason};
 
-// What a rename is to do: the node becomes what the second path has from `start` on, in the directory in place `parent`.
+// What a rename is to do: the node becomes what the second path has from `start` on, in the directory in place
+// `parent`.
 #[derive(Clone, Copy, PartialEq, Eq)]
 pub struct Move {
     pub node: usize,
@@ -156,12 +157,7 @@ fn finish_same(m: &mut [u8]) -> Outcome
 }
 
 // rename, by the bytes of both paths. A memory without a node holds no guard.
-pub fn begin_rename(
-    m: &mut [u8],
-    first: &[u8],
-    second: &[u8],
-    request: &mut [u8],
-) -> Outcome
+pub fn begin_rename(m: &mut [u8], first: &[u8], second: &[u8], request: &mut [u8]) -> Outcome
     requires { IsMemory m.old × HoldsRequest request.old }
     ensures { BeginsRename m request first.now second.now result }
 {

@@ -50,13 +50,7 @@ pub fn give_up(m: &mut [u8]) -> outcomes::Outcome
 
 // Page i of the node in place k as a reply: 1 of another length, 5 where its digest is not the kept one. No valid table
 // lacks the page.
-pub fn judge_page(
-    m: &[u8],
-    n: usize,
-    k: usize,
-    i: usize,
-    reply: &[u8],
-) -> Result<(), StopReason>
+pub fn judge_page(m: &[u8], n: usize, k: usize, i: usize, reply: &[u8]) -> Result<(), StopReason>
     requires { (n ≤ NODES) × IsMemory m.now }
     ensures value { k < n → i < pages_for (node_at (was m.now).nodes k).size → page_total (nodes_of n m.now) ≤ PAGES
         → reason_or_0 result

@@ -29,12 +29,7 @@ fn accept_change(m: &mut [u8], call: u64, reply: &[u8]) -> Outcome
 }
 
 // A write's page fetched or stored; a truncation's page fetched or stored, its file cut, to fewer bytes or to more.
-fn accept_page_change(
-    m: &mut [u8],
-    call: u64,
-    reply: &[u8],
-    request: &mut [u8],
-) -> Outcome
+fn accept_page_change(m: &mut [u8], call: u64, reply: &[u8], request: &mut [u8]) -> Outcome
     requires { (call ≡ (numbers_in m.old).call) × (FETCHING ≤ call) × (call ≤ GROWING) × IsMemory m.old
         × HoldsRequest request.old }
     ensures { AcceptsAsking m reply.now request result }
@@ -61,12 +56,7 @@ fn accept_on_maps(m: &mut [u8], call: u64, reply: &[u8]) -> Outcome
 }
 
 // The reply to the pending call; where none is pending there is nothing to take (61).
-pub fn accept_reply(
-    m: &mut [u8],
-    reply: &[u8],
-    answer: &mut [u8],
-    request: &mut [u8],
-) -> Outcome
+pub fn accept_reply(m: &mut [u8], reply: &[u8], answer: &mut [u8], request: &mut [u8]) -> Outcome
     requires { IsMemory m.old × (DATA_BYTES ≤ length answer.old) × HoldsRequest request.old }
     ensures { AcceptsPending m reply.now answer request result }
 {

@@ -167,15 +167,14 @@ fn put_written(out: &mut [u8], at: usize, page: &[u8], position: usize, bytes: &
 {
     put_page(out, at, page);
     let start = i * limits::PAGE_BYTES;
-    let from = numbers::excess(start, position);
-    let to = numbers::smaller(
-        bytes.len(),
-        numbers::excess(start + limits::PAGE_BYTES, position),
-    );
+    let from = start.saturating_sub(position);
+    let to = bytes
+        .len()
+        .min((start + limits::PAGE_BYTES).saturating_sub(position));
     if to <= from {
         return;
     }
-    let place = at + numbers::excess(position, start);
+    let place = at + position.saturating_sub(start);
     buffers::put(out, place, &bytes[from..to]);
 }
 
@@ -185,7 +184,7 @@ fn put_cut(out: &mut [u8], at: usize, page: &[u8], size: usize, i: usize)
         × (i ≤ FILE_BYTES / PAGE_BYTES) }
     ensures { Overwritten out at (fill (shrinking size) i page.now) }
 {
-    let n = numbers::smaller(page.len(), numbers::excess(size, i * limits::PAGE_BYTES));
+    let n = page.len().min(size.saturating_sub(i * limits::PAGE_BYTES));
     put_page(out, at, &page[..n]);
 }
 

@@ -2,7 +2,8 @@
 // Contracts are over the rows in use (specs/View.antt); where a row stands is the memory crate's.
 #![tactic(auto)]
 
-ghost use Rattle.std.specs.Prelude.{true, false, List, [], ◌≡◌, ℕ, ◌+◌, ◌-◌, ◌*◌, ◌≤◌, ◌<◌, eqb, length, get_or, take, replicate, IfSome};
+ghost use Rattle.std.specs.Prelude.{true, false, List, [], ◌≡◌, ℕ, ◌+◌, ◌-◌, ◌*◌, ◌≤◌, ◌<◌, eqb, length, get_or, take};
+ghost use Rattle.std.specs.Prelude.{replicate, IfSome};
 ghost use Rattle.lists.specs.Equal.{equal};
 ghost use Rattle.lists.specs.Parts.{overwrite};
 ghost use Rattle.lists.specs.Pick.{pick};
@@ -188,13 +189,7 @@ pub fn first_places(m: &[u8], n: usize) -> [u8; limits::NODES]
 }
 
 // The place of the node with this parent and this name, where no node before `start` has the parent.
-fn find_child_from(
-    m: &[u8],
-    nodes: usize,
-    parent: u64,
-    name: &[u8],
-    start: usize,
-) -> Option<usize>
+fn find_child_from(m: &[u8], nodes: usize, parent: u64, name: &[u8], start: usize) -> Option<usize>
     requires { (start ≤ nodes) × (nodes ≤ NODES) × IsMemory m.now }
     ensures { Others (was m.now).nodes parent 0 start
         → result ≡ found nodes (find_child (nodes_of nodes m.now) parent name.now) }

@@ -90,13 +90,7 @@ fn start(m: &mut [u8], request: &mut [u8]) -> Outcome
 }
 
 // A truncation to more bytes asks for its cut, and for nothing else.
-fn ask_growth(
-    m: &mut [u8],
-    opened: usize,
-    node: usize,
-    size: usize,
-    request: &mut [u8],
-) -> Outcome
+fn ask_growth(m: &mut [u8], opened: usize, node: usize, size: usize, request: &mut [u8]) -> Outcome
     requires { (opened < open_rows) × (node < NODES) × (size ≤ FILE_BYTES) × IsMemory m.old × HoldsRequest request.old }
     ensures { Asks m request (cutting node opened (growing size))
         (cut_request (open_at (was m.old).opens opened).descriptor size) result }
@@ -108,13 +102,7 @@ fn ask_growth(
 }
 
 // A truncation that passed, by the places of its open file and node.
-fn truncate_at(
-    m: &mut [u8],
-    opened: usize,
-    node: usize,
-    size: usize,
-    request: &mut [u8],
-) -> Outcome
+fn truncate_at(m: &mut [u8], opened: usize, node: usize, size: usize, request: &mut [u8]) -> Outcome
     requires { (opened < open_rows) × (size ≤ FILE_BYTES) × IsMemory m.old × HoldsRequest request.old }
     ensures { StartsAt m request (λ handle. truncate handle size) opened node result }
 {
@@ -207,7 +195,7 @@ pub fn accept_cut(m: &mut [u8], reply: &[u8]) -> Outcome
     }
     let g = Guard::load(m);
     let size = g.size as u32;
-    let cursor = numbers::smaller(memory::open_cursor(m, g.opened) as usize, g.size) as u32;
+    let cursor = (memory::open_cursor(m, g.opened) as usize).min(g.size) as u32;
     page_changes::end_change(
         m,
         g.node,

@@ -47,7 +47,7 @@ fn judge_write(m: &[u8], n: usize, o: usize, handle: u64, bytes: &[u8]) -> Resul
         return Err(Refusal::FileTooLarge);
     }
     let node = handle_calls::file_place(m, n, k, handle);
-    let size = numbers::larger(handle_calls::size_at(m, n, node), end as u32);
+    let size = handle_calls::size_at(m, n, node).max(end as u32);
     if handle_calls::is_full(m, n, node, size) {
         return Err(Refusal::NoSpace);
     }
@@ -66,7 +66,7 @@ fn is_fetched(position: usize, end: usize, size: usize, page: usize) -> bool
     if start < position {
         return true;
     }
-    end < numbers::smaller(size, start + Guard::PAGE_BYTES)
+    end < size.min(start + Guard::PAGE_BYTES)
 }
 
 // A page of the pending write goes out, made from the one that was fetched or from none.
@@ -78,8 +78,8 @@ fn store_page(m: &mut [u8], page: usize, fetched: &[u8], request: &mut [u8]) -> 
 {
     let g = Guard::load(m);
     let end = g.position + g.bytes;
-    let reached = numbers::smaller(end, page * Guard::PAGE_BYTES + Guard::PAGE_BYTES);
-    let size = numbers::larger(memory::node_size(m, g.node), reached as u32);
+    let reached = end.min(page * Guard::PAGE_BYTES + Guard::PAGE_BYTES);
+    let size = memory::node_size(m, g.node).max(reached as u32);
     let d = memory::open_descriptor(m, g.opened);
     let bytes = memory::staged(m, 0, g.bytes);
     let l = requests::write_store(request, d, page, size, fetched, g.position, bytes);
@@ -97,7 +97,7 @@ fn end_write(m: &mut [u8], end: usize, count: usize) -> Outcome
 {
     let g = Guard::load(m);
     let cursor = end as u32;
-    let size = numbers::larger(memory::node_size(m, g.node), cursor);
+    let size = memory::node_size(m, g.node).max(cursor);
     page_changes::end_change(
         m,
         g.node,
@@ -159,13 +159,7 @@ fn carry_on(m: &mut [u8], page: usize, request: &mut [u8]) -> Outcome
 }
 
 // A write that passed, by the places of its open file and node. Of no bytes it asks for nothing.
-fn write_at(
-    m: &mut [u8],
-    opened: usize,
-    node: usize,
-    bytes: &[u8],
-    request: &mut [u8],
-) -> Outcome
+fn write_at(m: &mut [u8], opened: usize, node: usize, bytes: &[u8], request: &mut [u8]) -> Outcome
     requires { (opened < open_rows) × (length bytes.now ≤ DATA_BYTES) × IsMemory m.old × HoldsRequest request.old }
     ensures { StartsAt m request (λ handle. write handle bytes.now) opened node result }
 {

@@ -105,7 +105,8 @@ module _ (path : List ℕ) (kind number : ℕ) (new : NewKind kind) where
         refuses = λ k e. let z : n ≡ k = cc in ap refuse z;
         passes = λ d at e. absurd (let z : ◌≡◌ {A = ℕ} 0 1 = cc in omega arith);
       })
-      (λ p. call_checks t (made_by kind number p)) (λ p. new_at (parent_of t.nodes 0 p) (length path - length (last_of p)))
+      (λ p. call_checks t (made_by kind number p)) (λ p. new_at (parent_of t.nodes 0 p)
+          (length path - length (last_of p)))
       (λ p. call_action t w (made_by kind number p)) path
       (λ p e h. record {
         refuses = λ n q. absurd (let z : ◌≡◌ {A = ℕ} 0 1 = cc in omega arith);
@@ -146,7 +147,8 @@ module _ (path : List ℕ) (kind number : ℕ) (new : NewKind kind) where
   long_false : (t : Tables) (p : Path) → Passed (new_checks t p) → too_long p ≡ false
   long_false t p a = head_false (all_left (reach_parent t p) _ a)
 
-  pub new-named : (t : Tables) (r : Judged Place) (d at : ℕ) → r ≡ place_for t path (made_by kind number) → r ≡ new_at d at
+  pub new-named : (t : Tables) (r : Judged Place) (d at : ℕ) → r ≡ place_for t path (made_by kind number)
+      → r ≡ new_at d at
       → 0 < length t.nodes → Named t d at
   unfolding too_long
   new-named t r d at e f h =

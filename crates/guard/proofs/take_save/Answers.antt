@@ -10,14 +10,16 @@ pub returns-in-Some : goal.returns-in-Some
 returns-in-Some c =
     let a = c.args in
     record {
-      saving = λ k. save_turned a.m.now a.image.now a.digest.now c.first_refusal.ensures _ (ap number_or_0 c.in-Some.is);
+      saving = λ k. save_turned a.m.now a.image.now a.digest.now c.first_refusal.ensures _
+          (ap number_or_0 c.in-Some.is);
       keeps_length = refl;
     }
 
 pub returns : goal.returns
 returns c =
     let a = c.args in record {
-      saving = save_taken a.m.now a.image.now a.digest.now c.first_refusal.ensures (ap number_or_0 c.in_default.is) _ _ _ _
+      saving = save_taken a.m.now a.image.now a.digest.now c.first_refusal.ensures
+          (ap number_or_0 c.in_default.is) _ _ _ _
           (λ h. c.save.ensures.saves delivered digest-delivered width_delivered h);
       keeps_length = omega arith;
     }

@@ -11,7 +11,8 @@ use Rattle.filesystem.specs.Tables.{ID_BYTES, PAGES, DIGEST_BYTES, page_total}
 use Rattle.filesystem.specs.Image.{current}
 use Rattle.memory.specs.Layout.{memory_size}
 use Rattle.rules.specs.Skeleton.{Event, call, reply, save, load, EventBytes, Answer, done, ask, refused, stopped}
-use Rattle.rules.specs.Skeleton.{answer_bytes, request_bytes, at_front, Buffers, buffers_after, answer_length, request_length}
+use Rattle.rules.specs.Skeleton.{answer_bytes, request_bytes, at_front, Buffers, buffers_after, answer_length}
+use Rattle.rules.specs.Skeleton.{request_length}
 use Rattle.rules.specs.Rules.{Move, refuse, judge}
 use Rattle.configuration.specs.Delivered.{delivered}
 use Rattle.machine.specs.Machine.{Result, apply, step, fresh, guard as digest_store}

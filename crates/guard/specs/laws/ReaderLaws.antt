@@ -14,7 +14,8 @@ use Rattle.rules.specs.Skeleton.{Event, call, EventBytes, Buffers, buffers_after
 use Rattle.rules.specs.Rules.{call_or, is_none, is_idle}
 use Rattle.configuration.specs.Delivered.{delivered}
 use Rattle.machine.specs.Machine.{guard as digest_store}
-use Rattle.read_only.specs.ReadOnly.{takes_call, takes, length_checks, form_checks, read_only_checks, refusal, read_only_step}
+use Rattle.read_only.specs.ReadOnly.{takes_call, takes, length_checks, form_checks, read_only_checks, refusal}
+use Rattle.read_only.specs.ReadOnly.{read_only_step}
 use Rattle.read_only.proofs.laws.StepLaws.{as_guard}
 use Rattle.read_only_calls.specs.Refusals.{form_number, Refuses}
 use Rattle.refusals.specs.Numbers.{number_of, number_or_0}
@@ -67,7 +68,8 @@ module _ (s : GuardState) (b : List ℕ) (a q : ℕ) where
 
 -- what a refusal is promised as
 refused_enters : (s : GuardState) (e : Event) (r : Refusal) (b : Buffers)
-    → reader_step_of s e ≡ refusal delivered (digest_store delivered) s (number_of r) → ReaderEnters s e (Refused r) s b b
+    → reader_step_of s e ≡ refusal delivered (digest_store delivered) s (number_of r)
+        → ReaderEnters s e (Refused r) s b b
 unfolding answer_in length_of bytes_in buffers_after
 refused_enters s e r b q = subst (λ (x : GuardResult). EntersAs (ReaderReady s e) x (Refused r) s b b) (sym q) (record {
   steps = λ _. record { state = refl; answer = refl; count = refl };
@@ -100,7 +102,8 @@ module _ (m b : List ℕ) (n : ℕ) (f : Refuses n b) where
     own = record { same_length = refl; behind = refl };
     enters = λ long. refused_enters (held m) _ r (buffers a q)
         (reader_refused (held m) b _ _ n (number_of r) h f (e ∙ pick-false _ _ _ (le-ltb (length m) memory_size long)));
-    short = λ less. (ap Refused (short_buffer r (e ∙ pick_true _ _ _ (lt-ltb (length m) memory_size less))), refl, refl);
+    short = λ less.
+        (ap Refused (short_buffer r (e ∙ pick_true _ _ _ (lt-ltb (length m) memory_size less))), refl, refl);
   }
 
   pub taken_promise : (a q : ℕ) → n ≡ 0 → (r : Outcome) (m' : List ℕ) (x x' : Buffers)

@@ -1,6 +1,7 @@
 -- The calls by handle check after check, and the tables of a memory read through the rows in use.
 -- Assumes nothing.
-use Rattle.std.specs.Prelude.{◌≡◌, Bool, true, false, not, ℕ, ◌/◌, ◌%◌, ◌≤◌, ◌<◌, eqb, length, take, Result, Ok, Err, IfOk, OnOk, IsErrAnd}
+use Rattle.std.specs.Prelude.{◌≡◌, Bool, true, false, not, ℕ, ◌/◌, ◌%◌, ◌≤◌, ◌<◌, eqb, length, take, Result, Ok, Err}
+use Rattle.std.specs.Prelude.{IfOk, OnOk, IsErrAnd}
 use Rattle.std.proofs.Math.Path.{refl, ap}
 use Rattle.std.proofs.Common.{sym, subst, ◌∙◌, arith, get_or-take}
 use mathlib.Core.List.{List, []}
@@ -10,7 +11,8 @@ use borrow.Author.Tests.{leb-false, le-leb, lt-leb, lt-ltb, le-ltb}
 use Rattle.lists.specs.Equal.{or_fst}
 use Rattle.lists.specs.Pick.{pick}
 use Rattle.lists.specs.Checks.{decide, check_last, check_stops}
-use Rattle.filesystem.specs.Tables.{PAGES, Node, OpenFile, Tables, no_node, node_at, open_at, absent, find_id, find_handle}
+use Rattle.filesystem.specs.Tables.{PAGES, Node, OpenFile, Tables, no_node, node_at, open_at, absent, find_id}
+use Rattle.filesystem.specs.Tables.{find_handle}
 use Rattle.filesystem.specs.Tables.{pages_for, page_total, set_size}
 use Rattle.filesystem.specs.Image.{sound_nodes}
 use Rattle.filesystem.specs.Sound.{to_sound}
@@ -55,7 +57,10 @@ module _ {m : List ℕ} {n o h : ℕ} {q : Call} where
   pub judged_open : (k j : ℕ) → k < o → ((w : ℕ) → sound_nodes w (take n (mem_of m).nodes) ≡ true
       → handled_for (tables_in n o (mem_of m)) h q ≡ at_file k j)
       → Judgement m n o h q (at_file k j)
-  judged_open k j l e = record { judged = λ w s. sym (e w s); there = λ i z f. let p : k ≡ i = ap opened_of f in omega arith }
+  judged_open k j l e = record {
+    judged = λ w s. sym (e w s);
+    there = λ i z f. let p : k ≡ i = ap opened_of f in omega arith;
+  }
 
   pub judged-at : (r : Judged Handled) → Judgement m n o h q r → (t : Tables) → tables_in n o (mem_of m) ≡ t → (w : ℕ)
       → sound_nodes w t.nodes ≡ true
@@ -69,7 +74,8 @@ module _ (r : Result Handled Refusal) (k : ℕ) (Q : Type 0) where
   pub judged_place : IfOk r (λ p. (p.opened ≡ k) × Q) → (i j : ℕ) → numbered r ≡ at_file i j → i ≡ k
   judged_place = go r
     where
-      go : (r : Result Handled Refusal) → IfOk r (λ p. (p.opened ≡ k) × Q) → (i j : ℕ) → numbered r ≡ at_file i j → i ≡ k
+      go : (r : Result Handled Refusal) → IfOk r (λ p. (p.opened ≡ k) × Q) → (i j : ℕ) → numbered r ≡ at_file i j
+          → i ≡ k
       go (Ok p) h i j e = sym (ap opened_of e) ∙ h.0
       go (Err b) h i j e = absurd (let z : ◌≡◌ {A = ℕ} 0 1 = cc in omega arith)
 
@@ -145,7 +151,8 @@ module _ (os : List OpenFile) (h right : ℕ) where
   unfolding found_with decide pick
   with_ok k e = go (lacks_right os right (find_handle os h)) refl e
     where
-      go : (l : Bool) → lacks_right os right (find_handle os h) ≡ l → ◌≡◌ {A = Judged ℕ} (Ok k) (pick l (Err 9) (Ok (find_handle os h)))
+      go : (l : Bool) → lacks_right os right (find_handle os h) ≡ l
+          → ◌≡◌ {A = Judged ℕ} (Ok k) (pick l (Err 9) (Ok (find_handle os h)))
           → (k ≡ find_handle os h) × (lacks_right os right k ≡ false)
       go true q e = absurd (let z : ◌≡◌ {A = ℕ} 0 1 = cc in omega arith)
       go false q e = let p : k ≡ find_handle os h = cc in (p, ap (lacks_right os right) p ∙ q)

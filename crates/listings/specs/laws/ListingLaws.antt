@@ -12,7 +12,8 @@ use Rattle.std.proofs.Math.Dec.{eqb}
 use Rattle.std.proofs.Math.ListN.{length, get_or, drop, length-drop}
 use borrow.Author.Tests.{eqb-true, eq-eqb, le-leb, lt-leb, leb-true, leb-false, lt-ltb, le-ltb}
 use Rattle.lists.specs.Pick.{pick, pick_true, pick-false}
-use Rattle.lists.specs.Equal.{Is, is_t, is_f, is, equal_true, equal_refl, equal_yes, and_fst, and_snd, and_both, or_both}
+use Rattle.lists.specs.Equal.{Is, is_t, is_f, is, equal_true, equal_refl, equal_yes, and_fst, and_snd, and_both}
+use Rattle.lists.specs.Equal.{or_both}
 use Rattle.lists.specs.Parts.{part}
 use Rattle.lists.specs.LittleEndian.{decode}
 use Rattle.lists.specs.NumberParts.{decode-first, decode_none}
@@ -21,7 +22,8 @@ use Rattle.lists.specs.Formats.{times}
 use Rattle.lists.specs.Search.{any, select, place, place_most, without}
 use Rattle.lists.specs.Places.{any_at, place_none}
 use Rattle.lists.specs.Rearranged.{Inserted, front as at_front, behind, is_rearranged, inserted-length, found_again}
-use Rattle.filesystem.specs.Tables.{ID_BYTES, Node, Tables, no_node, node_at, has_id, has_parent, is_child, find_id, children}
+use Rattle.filesystem.specs.Tables.{ID_BYTES, Node, Tables, no_node, node_at, has_id, has_parent, is_child, find_id}
+use Rattle.filesystem.specs.Tables.{children}
 use Rattle.filesystem.specs.Image.{sound_nodes}
 use Rattle.filesystem.specs.Sound.{Sound, to_sound, find_id-has, place_with_id}
 use Rattle.rules.specs.Requests.{asked, listing}

@@ -105,7 +105,8 @@ module _ (c : Config) (wide : c.width ≡ ID_BYTES) (s : State (digest_store c))
     unfolding reply_checks map_reasons reply_action decide
     map-taken = at_width c wide s r (asked (mapping n)) waiting refl
 
-    pub map-stops : (b : StopReason) (m q : List ℕ) → reason_number b ≡ map_reason s.skeleton.maps n r → state_of c m ≡ s
+    pub map-stops : (b : StopReason) (m q : List ℕ) → reason_number b ≡ map_reason s.skeleton.maps n r
+        → state_of c m ≡ s
         → Sends c (answered c s r) (Stopped b) m q q
     unfolding answered map_reason
     map-stops b m q e g =

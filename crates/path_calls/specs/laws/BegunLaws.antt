@@ -116,7 +116,8 @@ module _ (path : List ℕ) (make : Path → Call) (walks : WalksFirst make) wher
       short p (both e _) = path_short p e
 
   -- the same over the first n nodes of a memory
-  pub reaches : (m : List ℕ) (n o : ℕ) → 0 < n → n ≤ NODES → (w : Judged ℕ) → w ≡ node_for (tables_in n o (mem_of m)) path
+  pub reaches : (m : List ℕ) (n o : ℕ) → 0 < n → n ≤ NODES → (w : Judged ℕ)
+      → w ≡ node_for (tables_in n o (mem_of m)) path
       make → Reaches w path
   unfolding tables_in
   reaches m n o h l w e k f =

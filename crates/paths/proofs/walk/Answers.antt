@@ -22,7 +22,8 @@ use Rattle.paths.proofs.walk.Goals as goal
 module _ (m s : List ℕ) (n : ℕ) where
   holds : (p : Place) → Ok (Some p) ≡ placed (take n (mem_of m).nodes) s → 0 < n → n ≤ NODES
       → Holds (take n (mem_of m).nodes) s p.parent p.start
-  holds p e h l = let k = count-nodes m n l in placed_in_lem (take n (mem_of m).nodes) s p.parent p.start (omega arith) (sym e)
+  holds p e h l = let k = count-nodes m n l in placed_in_lem (take n (mem_of m).nodes) s p.parent p.start
+      (omega arith) (sym e)
 
   answer : (q : Judged (Option Place)) → q ≡ placed (take n (mem_of m).nodes) s
       → last_step (take n (mem_of m).nodes) s q ≡ walked (take n (mem_of m).nodes) (components_of s)
@@ -37,18 +38,21 @@ returns-in_err-place c =
 pub slice_bounds-last_step-count : goal.slice_bounds-last_step-count
 slice_bounds-last_step-count c =
     let a = c.args in
-    (holds a.m.now a.path.now a.n _ (ap Ok (sym c.in-Some.is) ∙ c.in_ok-place.ensures) (omega arith) (omega arith)).start_within
+    (holds a.m.now a.path.now a.n _ (ap Ok (sym c.in-Some.is) ∙ c.in_ok-place.ensures) (omega arith)
+        (omega arith)).start_within
 
 pub slice_bounds-last_step-start : goal.slice_bounds-last_step-start
 slice_bounds-last_step-start c =
     let a = c.args in
-    let h = (holds a.m.now a.path.now a.n _ (ap Ok (sym c.in-Some.is) ∙ c.in_ok-place.ensures) (omega arith) (omega arith)).start_within in
+    let h = (holds a.m.now a.path.now a.n _ (ap Ok (sym c.in-Some.is) ∙ c.in_ok-place.ensures) (omega arith)
+        (omega arith)).start_within in
     search rules
 
 pub last_step-requires : goal.last_step-requires
 last_step-requires c =
     let a = c.args in
-    let h = (holds a.m.now a.path.now a.n _ (ap Ok (sym c.in-Some.is) ∙ c.in_ok-place.ensures) (omega arith) (omega arith)).place-within in
+    let h = (holds a.m.now a.path.now a.n _ (ap Ok (sym c.in-Some.is) ∙ c.in_ok-place.ensures) (omega arith)
+        (omega arith)).place-within in
     let k = count-nodes a.m.now a.n (omega arith) in
     (omega arith, omega arith, omega arith)
 

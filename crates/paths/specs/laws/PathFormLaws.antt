@@ -1,7 +1,9 @@
 -- The form of a path, part by part.
 -- Assumes nothing.
-use Rattle.std.specs.Prelude.{◌≡◌, refl, Bool, true, false, ◌&&◌, ◌||◌, not, List, [], ◌∷◌, ℕ, zero, suc, ◌+◌, ◌-◌, ◌≤◌, ◌<◌, eqb, ltb, length, get_or, take, drop, Ok, Err}
-use Rattle.std.proofs.Common.{ap, sym, ◌∙◌, arith, length-drop, length-take-le, take_all, get_or-drop, eq-eqb, ne_eqb, eqb-true}
+use Rattle.std.specs.Prelude.{◌≡◌, refl, Bool, true, false, ◌&&◌, ◌||◌, not, List, [], ◌∷◌, ℕ, zero, suc, ◌+◌, ◌-◌, ◌≤◌}
+use Rattle.std.specs.Prelude.{◌<◌, eqb, ltb, length, get_or, take, drop, Ok, Err}
+use Rattle.std.proofs.Common.{ap, sym, ◌∙◌, arith, length-drop, length-take-le, take_all, get_or-drop, eq-eqb, ne_eqb}
+use Rattle.std.proofs.Common.{eqb-true}
 use Rattle.std.proofs.Math.Option.{some, none}
 use Rattle.std.proofs.lemmas.Bool.{eqb-false, not-true}
 use Rattle.lists.specs.Pick.{pick, pick_true, pick-false, pick_ind}
@@ -79,17 +81,17 @@ after_slash_lem x s = go (every component_form (split (x ∷ s)))
     go false = refl
 
 -- The form by the first bytes.
-pub form-empty : (s : List ℕ) → length s ≡ 0 → form_of s ≡ (Err Malformed)
+pub form-empty : (s : List ℕ) → length s ≡ 0 → form_of s ≡ Err Malformed
 unfolding form_of read_path path_form
 form-empty [] h = refl
 form-empty (b ∷ s) h = absurd (omega arith)
 
-pub form-no-slash : (s : List ℕ) → (get_or s 0 0 ≡ slash → ⊥) → form_of s ≡ (Err Malformed)
+pub form-no-slash : (s : List ℕ) → (get_or s 0 0 ≡ slash → ⊥) → form_of s ≡ Err Malformed
 unfolding form_of read_path path_form
 form-no-slash [] h = refl
 form-no-slash (b ∷ s) h = ap path_form (pick-false _ _ _ (ne_eqb b slash h))
 
-pub form-root : (s : List ℕ) → length s ≡ 1 → get_or s 0 0 ≡ slash → form_of s ≡ (Ok tt)
+pub form-root : (s : List ℕ) → length s ≡ 1 → get_or s 0 0 ≡ slash → form_of s ≡ Ok tt
 unfolding form_of read_path path_form after_slash length_form too_long any path_bytes pick
 form-root [] h e = absurd (omega arith)
 form-root (b ∷ []) h e = ap path_form (pick_true _ _ _ (eq-eqb b slash e))
@@ -104,7 +106,7 @@ form_parts (b ∷ x ∷ s) h e = ap path_form (pick_true _ _ _ (eq-eqb b slash e
 
 -- The form by the first part.
 module _ (long : Bool) (c : List ℕ) where
-  pub parts_bad : (cs : Path) → component_form c ≡ false → parts_form long (c ∷ cs) ≡ (Err Malformed)
+  pub parts_bad : (cs : Path) → component_form c ≡ false → parts_form long (c ∷ cs) ≡ Err Malformed
   unfolding parts_form every
   parts_bad cs e = rw e (pick-false _ _ _ refl)
 
@@ -178,7 +180,7 @@ zero_bad s k h e = go (is (every component_form (split s)))
     go (is_f t) = t
 
 pub parts_zero : (long : Bool) (s : List ℕ) (k : ℕ) → k < length s → get_or s k 0 ≡ 0
-    → parts_form long (split s) ≡ (Err Malformed)
+    → parts_form long (split s) ≡ Err Malformed
 unfolding parts_form
 parts_zero long s k h e = pick-false _ _ _ (zero_bad s k h e)
 
@@ -189,7 +191,7 @@ module _ (s : List ℕ) (at end : ℕ) (reach : end ≡ at + place is_end (drop 
     part-form = component_name _ (before-end is_end end_none s at end reach)
 
     module _ (more : end < length s) where
-      pub from_zero : get_or s end 0 ≡ 0 → parts_form long (split (drop at s)) ≡ (Err Malformed)
+      pub from_zero : get_or s end 0 ≡ 0 → parts_form long (split (drop at s)) ≡ Err Malformed
       from_zero e =
           let n : at + (end - at) ≡ end = omega arith in
           parts_zero long (drop at s) (end - at) (omega (arith, length-drop at s)) (get_or-drop at s (end - at) 0
@@ -200,7 +202,7 @@ module _ (s : List ℕ) (at end : ℕ) (reach : end ≡ at + place is_end (drop 
           (end-other (get_or s end 0) (end-passes is_end end_none s at end reach more) z)
 
       pub from_bad : (get_or s end 0 ≡ 0 → ⊥) → is_name (take (end - at) (drop at s)) ≡ false
-          → parts_form long (split (drop at s)) ≡ (Err Malformed)
+          → parts_form long (split (drop at s)) ≡ Err Malformed
       from_bad z e = ap (parts_form long) (first_part z) ∙ parts_bad long _ _ (part-form ∙ e)
 
       pub from_on : (get_or s end 0 ≡ 0 → ⊥) → is_name (take (end - at) (drop at s)) ≡ true
@@ -218,7 +220,7 @@ module _ (s : List ℕ) (at end : ℕ) (reach : end ≡ at + place is_end (drop 
           part-last is_end end_none s at end reach last
           ∙ ap (λ (q : List ℕ). q ∷ []) (sym (take_all (end - at) (drop at s) (omega (arith, length-drop at s))))
 
-      pub last_bad : is_name (take (end - at) (drop at s)) ≡ false → parts_form long (split (drop at s)) ≡ (Err Malformed)
+      pub last_bad : is_name (take (end - at) (drop at s)) ≡ false → parts_form long (split (drop at s)) ≡ Err Malformed
       last_bad e = ap (parts_form long) last-part ∙ parts_bad long _ [] (part-form ∙ e)
 
       pub last_good : is_name (take (end - at) (drop at s)) ≡ true → parts_form long (split (drop at s)) ≡ length_form

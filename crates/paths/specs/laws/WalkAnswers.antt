@@ -146,7 +146,8 @@ module _ (ns : List Node) (s : List ℕ) where
           })
 
   -- the walk itself is then one step more
-  pub placed-walked : (d at : ℕ) → placed ns s ≡ at_place d at → walked ns (components_of s) ≡ child_step ns d (drop at s)
+  pub placed-walked : (d at : ℕ) → placed ns s ≡ at_place d at
+      → walked ns (components_of s) ≡ child_step ns d (drop at s)
   unfolding last_step
   placed-walked d at e = walked-placed ns s ∙ ap (last_step ns s) e
 

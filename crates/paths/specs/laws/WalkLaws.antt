@@ -120,7 +120,8 @@ module _ (ns : List Node) (s : List ℕ) (d at end : ℕ) (reach : end ≡ at + 
         go [] x' = elim x' [ ]
 
   -- the last
-  pub step-last : length s ≤ end → 0 ≡ search_number ns d → placed_from ns (length s) d (split (drop at s)) ≡ at_place d at
+  pub step-last : length s ≤ end → 0 ≡ search_number ns d
+      → placed_from ns (length s) d (split (drop at s)) ≡ at_place d at
   step-last h e =
       let n : length s - length (drop at s) ≡ at = omega (arith, length-drop at s) in
       ap (placed_from ns (length s) d) (part-last is_slash (λ b e. e) s at end reach h)

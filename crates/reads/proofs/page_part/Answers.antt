@@ -10,10 +10,10 @@ pub returns : goal.returns
 unfolding part
 returns c =
     let a = c.args in
-    let s = c.excess-start.result in
-    let e = c.smaller-end.result in
-    let u = c.excess-start.ensures in
-    let v = c.smaller-end.ensures in (
+    let s = c.saturating_sub-start.result in
+    let e = c.min-end.result in
+    let u = c.saturating_sub-start.ensures in
+    let v = c.min-end.ensures in (
       page_part_lem a.reply.now a.position a.count a.page s e c.requires.0 (omega (arith, u))
           (omega (arith, v, c.requires.4)) (omega (arith, u, v, c.requires.4, c.requires.5)),
       omega (

@@ -16,7 +16,7 @@ returns-then-left-eq0 c =
       sends = λ q h.
           none_sends q (state_of q a.m.now) a.opened a.node a.count _ _ a.request.now
           (left-loaded a.m.now q a.n a.opened a.node a.count _ _ _ _ c.requires.0 c.requires.1
-          c.smaller-left.ensures c.excess.ensures c.size_at-size.ensures c.open_cursor-cursor.ensures)
+          c.min-left.ensures c.saturating_sub.ensures c.size_at-size.ensures c.open_cursor-cursor.ensures)
           c.if-left-eq0.true (c.finish.ensures.0 q);
       keeps_length = omega arith;
     }
@@ -39,11 +39,11 @@ pub fetch-requires : goal.fetch-requires
 fetch-requires c =
     let a = c.args in
     let l : 0 < (node_at (take a.n (mem_of a.m.now).nodes) a.node).size = omega
-    (arith, c.if-left-eq0.false, c.smaller-left.ensures, c.excess.ensures, c.size_at-size.ensures) in (
+    (arith, c.if-left-eq0.false, c.min-left.ensures, c.saturating_sub.ensures, c.size_at-size.ensures) in (
       omega (arith, sized_within a.m.now a.n a.node c.requires.2 l),
       omega arith,
-      omega (arith, c.if-left-eq0.false, c.smaller-left.ensures, c.excess.ensures, c.if-size-gt-FILE_BYTES.false),
-      omega (arith, c.smaller-left.ensures),
+      omega (arith, c.if-left-eq0.false, c.min-left.ensures, c.saturating_sub.ensures, c.if-size-gt-FILE_BYTES.false),
+      omega (arith, c.min-left.ensures),
       omega arith,
       omega arith,
     )
@@ -55,7 +55,7 @@ returns c =
           page_sends q (state_of q a.m.now) a.opened a.node a.count _ _ (open_at (mem_of a.m.now).opens
           a.opened) _ a.request.now _ _
           (left-loaded a.m.now q a.n a.opened a.node a.count _ _ _ _ c.requires.0 c.requires.1
-          c.smaller-left.ensures c.excess.ensures c.size_at-size.ensures c.open_cursor-cursor.ensures)
+          c.min-left.ensures c.saturating_sub.ensures c.size_at-size.ensures c.open_cursor-cursor.ensures)
           c.if-left-eq0.false (open_loaded a.m.now q a.opened c.requires.1) c.open_cursor-cursor.ensures
           (c.fetch.ensures.0 q) c.fetch.ensures.2 c.fetch.ensures.3 (omega arith);
       keeps_length = omega arith;

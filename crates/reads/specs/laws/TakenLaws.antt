@@ -24,7 +24,8 @@ use Rattle.tables.specs.laws.RowsInUse.{count-opens}
 use Rattle.rules.specs.Pages.{page_at, page_part}
 use Rattle.rules.specs.Requests.{Pending, reading}
 use Rattle.rules.specs.Skeleton.{Config}
-use Rattle.rules.specs.Rules.{halt, read_page, reply_checks, map_reasons, reasons, reply_action, tells_full, full_action}
+use Rattle.rules.specs.Rules.{halt, read_page, reply_checks, map_reasons, reasons, reply_action, tells_full}
+use Rattle.rules.specs.Rules.{full_action}
 use Rattle.rules.specs.Valid.{PendingFits, ReadingFits}
 use Rattle.rules.specs.Modest.{Gathers}
 use Rattle.rules.proofs.Lengths.{gather_more}
@@ -100,7 +101,8 @@ module _ (c : Config) (hashed : c.digest ≡ sha256) (s : State (digest_store c)
   page_stops b x q e g =
       let z = page_answered ∙ reason_stops (λ j. apply c (digest_store c) s (halt j)) onward (eqb (length r) PAGE_BYTES)
       (equal (sha256 r) kept) (reason_number b) e (reason_positive b) in
-      subst (λ (y : Result (digest_store c)). Sends c y (Stopped b) x q q) (sym z) (stop_sends c s (halt (reason_number b)) b x q refl g)
+      subst (λ (y : Result (digest_store c)). Sends c y (Stopped b) x q q) (sym z)
+      (stop_sends c s (halt (reason_number b)) b x q refl g)
 
   -- else the read goes on
   pub page_goes_on : (m a a' q q' : List ℕ) (v : Outcome) → 0 ≡ page_reason kept r → Leaves c onward v m a a' q q'

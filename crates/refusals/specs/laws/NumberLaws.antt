@@ -5,7 +5,10 @@ use Rattle.std.proofs.lemmas.Result.{err_from_is_err_and}
 use Rattle.std.proofs.Common.{arith, ap, ◌∙◌}
 use Rattle.refusals.specs.Numbers.{number_of, reason_number, numbered, reason_or_0}
 use Rattle.refusals.specs.declared.Refusal.{Refusal}
-use Rattle.refusals.specs.declared.Refusal.TheVariants.{NotFound, Stopped, BadHandle, TooManyMaps, Denied, Busy, Exists, NotDirectory, IsDirectory, Invalid, TooManyOpen, FileTooLarge, NoSpace, ReadOnly, ShortBuffer, TooLong, NotEmpty, NotPending, WrongDigest, BadImage, Pending}
+use Rattle.refusals.specs.declared.Refusal.TheVariants.{NotFound, Stopped, BadHandle, TooManyMaps, Denied, Busy, Exists}
+use Rattle.refusals.specs.declared.Refusal.TheVariants.{NotDirectory, IsDirectory, Invalid, TooManyOpen, FileTooLarge}
+use Rattle.refusals.specs.declared.Refusal.TheVariants.{NoSpace, ReadOnly, ShortBuffer, TooLong, NotEmpty, NotPending}
+use Rattle.refusals.specs.declared.Refusal.TheVariants.{WrongDigest, BadImage, Pending}
 use Rattle.refusals.specs.declared.StopReason.{StopReason}
 use Rattle.refusals.specs.declared.StopReason.TheVariants.{Length, Status, Id, Descriptor, Page, Stat, Listing, Map}
 
@@ -55,7 +58,8 @@ passes_at_0 (Err Listing) = refl
 passes_at_0 (Err Map) = refl
 
 -- what a `?` answers of a refusal
-pub passed_on : {A : Type 0} (r : Result A Refusal) (e : Refusal) → IsErrAnd r (λ y. y ≡ e) → numbered r ≡ Err (number_of e)
+pub passed_on : {A : Type 0} (r : Result A Refusal) (e : Refusal) → IsErrAnd r (λ y. y ≡ e)
+    → numbered r ≡ Err (number_of e)
 passed_on r e h =
     let p = err_from_is_err_and r h in
     ap numbered p.1 ∙ ap (λ y. Err (number_of y)) p.2

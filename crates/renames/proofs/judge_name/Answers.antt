@@ -7,7 +7,8 @@ use Rattle.memory.specs.Layout.{mem_of}
 use Rattle.tables.specs.laws.RowsInUse.{count-nodes}
 use Rattle.paths.specs.laws.WalkLaws.{child_front}
 use Rattle.renames.specs.Judged.{by_number}
-use Rattle.renames.specs.laws.NameLaws.{number_refuses, number_moves, node_in, parent_in, start_in, root-first, same_done, name-taken, name_free}
+use Rattle.renames.specs.laws.NameLaws.{number_refuses, number_moves, node_in, parent_in, start_in, root-first}
+use Rattle.renames.specs.laws.NameLaws.{same_done, name-taken, name_free}
 use Rattle.refusals.specs.Numbers.{number_of}
 use Rattle.refusals.specs.laws.NumberLaws.{number_positive, passed_on}
 use Rattle.tables.specs.laws.FoundLaws.{found_none, found_some}

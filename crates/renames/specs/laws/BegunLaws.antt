@@ -80,7 +80,7 @@ module _ (first second : List ℕ) (t : Tables) (w : ℕ) where
 
   record Says (r : Judged (Maybe Move)) (m : Step) : Type 0 where
     refuses : (n : ℕ) → r ≡ Err n → m ≡ refuse n
-    same : r ≡ (Ok None) → m ≡ finish t 0 []
+    same : r ≡ Ok None → m ≡ finish t 0 []
     moves : (k d at : ℕ) → r ≡ moved k d at → m ≡ sent k d at
 
   says_refused : (n : ℕ) → Says (Err n) (refuse n)
@@ -137,7 +137,7 @@ module _ (first second : List ℕ) (c : Config) (s : State (digest_store c)) (r 
   rename_refused b m q f g =
       refusal_sends c s _ b m q ((says first second t c.width).refuses (number_of b) (sym e ∙ f)) g
 
-  pub rename_same : (m q : List ℕ) (o : Outcome) → r ≡ (Ok None) → state_of c m ≡ ends c s t s.contents
+  pub rename_same : (m q : List ℕ) (o : Outcome) → r ≡ Ok None → state_of c m ≡ ends c s t s.contents
       → o ≡ done_with 0 0 → Sends c (rename_begun c s first second) o m q q
   unfolding rename_begun
   rename_same m q o f g u =

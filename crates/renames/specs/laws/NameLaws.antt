@@ -62,7 +62,7 @@ module _ (ns : List Node) (k from d at : ℕ) (name : List ℕ) where
 
   module _ (not_root : k ≡ 0 → ⊥) where
     -- where the second path leads to node k nothing more is asked
-    pub same_done : j ≡ k → name_own ns k from d at name ≡ (Ok None)
+    pub same_done : j ≡ k → name_own ns k from d at name ≡ Ok None
     unfolding name_own
     same_done e =
         let q = eq-eqb j k e in

@@ -35,7 +35,8 @@ use Rattle.path_calls.specs.Ways.{at_way}
 use Rattle.path_calls.specs.Judged.{judged}
 use Rattle.path_calls.specs.Ways.{walked_both}
 use Rattle.path_calls.specs.laws.ReachedLaws.{form_check, judged-decide, way_at, way_refused, holder-place, last-short}
-use Rattle.renames.specs.Judged.{moved, judged_both, renaming_for, own_checks, own_answer, name_own, root_name, second_own}
+use Rattle.renames.specs.Judged.{moved, judged_both, renaming_for, own_checks, own_answer, name_own, root_name}
+use Rattle.renames.specs.Judged.{second_own}
 use Rattle.renames.specs.Judged.{walks_own, Short}
 use Rattle.refusals.specs.Numbers.{Judged, number_of}
 use Rattle.renames.specs.declared.Move.{Move}

@@ -9,4 +9,5 @@ use Rattle.replies.proofs.is_full.Goals as goal
 pub returns : goal.returns
 returns c =
     let a = c.args in
-    c.is_ok.ensures.value ∙ passes_at_0 _ ∙ ap (λ (b : ℕ). eqb b 0) c.judge_status.ensures ∙ sym (full-status a.reply.now)
+    c.is_ok.ensures.value ∙ passes_at_0 _ ∙ ap (λ (b : ℕ). eqb b 0) c.judge_status.ensures
+        ∙ sym (full-status a.reply.now)

@@ -5,8 +5,8 @@ use Rattle.requests.proofs.put_cut.Goals as goal
 
 pub returns : goal.returns
 returns c =
-    let smaller = c.smaller-n in
-    let excess = c.excess in
+    let smaller = c.min-n in
+    let excess = c.saturating_sub in
     let a = c.args in
     c.put_page.ensures
     ∙ rw (shrunk a.page.now a.size a.i _ (smaller.ensures ∙ rw excess.ensures))

@@ -6,19 +6,19 @@ use Rattle.requests.proofs.put_written.Goals as goal
 
 pub returns-then-to-from : goal.returns-then-to-from
 returns-then-to-from c =
-    let excess = c.excess-from in
+    let excess = c.saturating_sub-from in
     let a = c.args in
     c.put_page.ensures
     ∙ rw (unwritten a.page.now a.position a.bytes.now a.i _ _ excess.ensures
-    (c.smaller-to.ensures ∙ rw c.excess.ensures) c.if-to-from.true)
+    (c.min-to.ensures ∙ rw c.saturating_sub.ensures) c.if-to-from.true)
 
 pub returns : goal.returns
 returns c =
-    let excess3 = c.excess-2 in
+    let excess3 = c.saturating_sub-2 in
     let if1 = c.if-to-from in
-    let smaller = c.smaller-to in
-    let excess2 = c.excess in
-    let excess = c.excess-from in
+    let smaller = c.min-to in
+    let excess2 = c.saturating_sub in
+    let excess = c.saturating_sub-from in
     let put-page = c.put_page in
     let a = c.args in
     c.put.ensures

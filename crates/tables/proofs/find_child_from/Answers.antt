@@ -17,6 +17,8 @@ returns c o =
     let l : length (mem_of a.m.now).nodes ≡ _ = length-nodes a.m.now in
     found_by no_node (is_child a.parent a.name.now) ns a.nodes a.start (omega arith)
     (λ k h. ap (λ b. b && equal (get_or ns k no_node).name a.name.now) (ne_eqb _ _ (o k (omega arith) h))) _
-    (λ k. is_child a.parent a.name.now (node_at ns k) ≡ true) (λ k. is_child a.parent a.name.now (node_at ns k) ≡ false) (λ k e. e) (λ k e. e)
-    (first_from_Range _ _ _ _ (λ k. is_child a.parent a.name.now (node_at ns k) ≡ true) (λ k. is_child a.parent a.name.now (node_at ns k) ≡ false)
+    (λ k. is_child a.parent a.name.now (node_at ns k) ≡ true)
+        (λ k. is_child a.parent a.name.now (node_at ns k) ≡ false) (λ k e. e) (λ k e. e)
+    (first_from_Range _ _ _ _ (λ k. is_child a.parent a.name.now (node_at ns k) ≡ true)
+        (λ k. is_child a.parent a.name.now (node_at ns k) ≡ false)
     c.find.ensures.ran (λ x q k. search (rules, tests)) (λ x q k. search (rules, tests)))

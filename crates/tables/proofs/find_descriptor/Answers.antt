@@ -15,6 +15,8 @@ returns c =
     let ns = (mem_of a.m.now).opens in
     let l : length (mem_of a.m.now).opens ≡ _ = length-opens a.m.now in
     found_by no_open_file (has_descriptor a.descriptor) ns a.o 0 (omega arith) (λ k h. absurd (omega arith)) _
-    (λ k. (open_at ns k).descriptor ≡ a.descriptor) (λ k. (open_at ns k).descriptor ≢ a.descriptor) (λ k. eq-eqb _ _) (λ k. ne_eqb _ _)
-    (first_from_Range _ _ _ _ (λ k. (open_at ns k).descriptor ≡ a.descriptor) (λ k. (open_at ns k).descriptor ≢ a.descriptor)
+    (λ k. (open_at ns k).descriptor ≡ a.descriptor) (λ k. (open_at ns k).descriptor ≢ a.descriptor) (λ k. eq-eqb _ _)
+        (λ k. ne_eqb _ _)
+    (first_from_Range _ _ _ _ (λ k. (open_at ns k).descriptor ≡ a.descriptor)
+        (λ k. (open_at ns k).descriptor ≢ a.descriptor)
     c.find.ensures.ran (λ x q k. search (rules, tests)) (λ x q k. search (rules, tests)))

@@ -1,6 +1,7 @@
 -- What std's words for a search and for a beginning come to here.
 -- Assumes nothing.
-use Rattle.std.specs.Prelude.{◌≡◌, refl, Bool, true, false, not, cond, List, [], ◌∷◌, ℕ, suc, ◌+◌, ◌≤◌, ◌<◌, ◌&&◌, length, eqb, nat_lt, None, Some}
+use Rattle.std.specs.Prelude.{◌≡◌, refl, Bool, true, false, not, cond, List, [], ◌∷◌, ℕ, suc, ◌+◌, ◌≤◌, ◌<◌, ◌&&◌}
+use Rattle.std.specs.Prelude.{length, eqb, nat_lt, None, Some}
 use Rattle.std.specs.List.{position, position_or_len, starts_with}
 use Rattle.std.proofs.Common.{sym, arith, ltb-true, ltb-false}
 use borrow.Author.Tests.{eq-eqb, ne_eqb, eqb-true, eqb-false}

@@ -38,6 +38,6 @@ returns c =
       λ d sha w h q. cut_done_lem d a.m.now h c.requires.0 _ c.load-g.ensures w a.reply.now _ _ q q
           (c.in_default.ensures)
           (c.end_change.ensures.sends d _ (cut_ended d a.m.now h c.requires.0 _ c.load-g.ensures _ _
-          c.open_cursor.ensures c.smaller-cursor.ensures) q),
+          c.open_cursor.ensures c.min-cursor.ensures) q),
       omega arith,
     )

@@ -29,7 +29,7 @@ returns c =
           finish_loaded d a.m.now x a.end a.count h _ e _ _ q
           (c.end_change.ensures.sends d (writing (numbers_in a.m.now).position x)
           (write-ended d a.m.now x a.end a.count h _ e _
-          (sized _ c.larger-size.ensures c.node_size.ensures))
+          (sized _ c.max-size.ensures c.node_size.ensures))
           q);
       keeps_length = omega arith;
     }

@@ -16,6 +16,6 @@ returns-then-start-position c d e = let a = c.args in sym (fetches-before a.posi
 pub returns : goal.returns
 returns c d e =
     let a = c.args in
-    ap (λ (i : ℕ). ltb a.end i) c.smaller.ensures
+    ap (λ (i : ℕ). ltb a.end i) c.min.ensures
     ∙ sym (fetches-behind a.position a.size a.page d a.end (omega (arith, c.if-size-start.false))
     (omega (arith, c.if-start-position.false)) e)

@@ -5,7 +5,8 @@ use mathlib.Core.Path.{refl, sym, ap, ◌∙◌}
 use lib.ListN.{length}
 use Rattle.memory.specs.Layout.{mem_of}
 use Rattle.tables.specs.View.{tables_in}
-use Rattle.handle_calls.specs.laws.HandledLaws.{judged_bad, with_err, with_ok, judged_refused, judged_open, has-place, has_cursor}
+use Rattle.handle_calls.specs.laws.HandledLaws.{judged_bad, with_err, with_ok, judged_refused, judged_open, has-place}
+use Rattle.handle_calls.specs.laws.HandledLaws.{has_cursor}
 use Rattle.writes.specs.laws.JudgedLaws.{write_refused, write-long, write-full, write_handled}
 use Rattle.writes.proofs.judge_write.Goals as goal
 
@@ -59,7 +60,7 @@ returns-then-is_full c =
     ∙ has_cursor a.m.now a.o 2 _ (omega arith) has) in
     judged_refused 28 (λ w s. write-full (tables_in a.n a.o (mem_of a.m.now)) a.handle _
     k a.bytes.now _ ends has
-    _ _ _ _ (file_place_lem.ensures w s) size_at_lem.ensures c.larger-size.ensures
+    _ _ _ _ (file_place_lem.ensures w s) size_at_lem.ensures c.max-size.ensures
     (c.is_full.ensures w a.o s) (omega arith) c.if-is_full.true)
 
 pub returns : goal.returns
@@ -75,5 +76,5 @@ returns c =
     judged_open _ _ (has-place a.m.now a.o 2 _ (omega arith) has)
     (λ w s. write_handled (tables_in a.n a.o (mem_of a.m.now)) a.handle _ k
     a.bytes.now _ ends has
-    _ _ _ _ (file_place_lem.ensures w s) size_at_lem.ensures c.larger-size.ensures
+    _ _ _ _ (file_place_lem.ensures w s) size_at_lem.ensures c.max-size.ensures
     (c.is_full.ensures w a.o s) (omega arith) c.if-is_full.false)

@@ -44,9 +44,9 @@ returns c =
           (c.staged-bytes.ensures.0 ∙ ap (λ (i : ℕ). take i (mem_of a.m.now).staged) size)
           (c.open_descriptor-d.ensures ∙ ap (λ (g : Guard). (open_at (mem_of a.m.now).opens g.opened).descriptor)
           e)
-          (c.larger-size.ensures
+          (c.max-size.ensures
           ∙ ap₂ max (c.node_size.ensures ∙ ap (λ (g : Guard). (node_at (mem_of a.m.now).nodes g.node).size) e)
-          (c.smaller-reached.ensures ∙ ap₂ (λ (i j : ℕ). min (i + j) (a.page * PAGE_BYTES + PAGE_BYTES)) at size))
+          (c.min-reached.ensures ∙ ap₂ (λ (i j : ℕ). min (i + j) (a.page * PAGE_BYTES + PAGE_BYTES)) at size))
           c.write_store-l.ensures.0 (omega (arith, c.requires.5)) c.send_store.ensures.value
           (c.send_store.ensures.m_after q u),
       omega arith,
