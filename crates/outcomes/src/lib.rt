@@ -2,9 +2,6 @@
 // machine an outcome and the caller's buffers are.
 #![tactic(auto)]
 
-ghost use Rattle.std.specs.Prelude.{◌≡◌};
-ghost use Rattle.outcomes.specs.Values.{value_of};
-
 use guard_state::Guard;
 use refusals::{Refusal, StopReason};
 
@@ -19,16 +16,4 @@ pub enum Outcome {
     Ask(usize),
     Refused(Refusal),
     Stopped(StopReason),
-}
-
-// The number that it is done with, the number of a refusal, the reason of a stop; 0 for a request.
-pub fn value(o: Outcome) -> u64
-    ensures { result ≡ value_of o }
-{
-    match o {
-        Outcome::Done { number, length } => number,
-        Outcome::Ask(length) => 0,
-        Outcome::Refused(refusal) => refusal.number() as u64,
-        Outcome::Stopped(reason) => reason.number() as u64,
-    }
 }

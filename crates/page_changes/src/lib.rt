@@ -26,10 +26,11 @@ ghost use Rattle.page_changes.specs.Ended.{Ended};
 ghost use Rattle.page_changes.specs.Fetched.{Fetched};
 
 use guard_state::Guard;
+use outcomes::Outcome;
 use refusals::StopReason;
 
 // The pending change asks for a page, and waits for it as `call` says (guard_state::calls).
-pub fn ask_page(m: &mut [u8], call: u64, page: usize, request: &mut [u8]) -> outcomes::Outcome
+pub fn ask_page(m: &mut [u8], call: u64, page: usize, request: &mut [u8]) -> Outcome
     requires { Changing (numbers_in m.old).call × Changing call × (page ≤ file_pages) × IsMemory m.old
         × HoldsRequest request.old }
     ensures { Moves m request (λ c s. asking c (digest_store c) s
@@ -40,7 +41,7 @@ pub fn ask_page(m: &mut [u8], call: u64, page: usize, request: &mut [u8]) -> out
     let d = memory::open_descriptor(m, g.opened);
     guard_state::wait_further(m, call, page);
     let l = requests::write_fetch(request, d, page as u32);
-    outcomes::Outcome::Ask(l)
+    Outcome::Ask(l)
 }
 
 // The page that the pending change fetched, judged. No consistent change has sent more pages than there is room for
@@ -59,7 +60,7 @@ pub fn judge_fetched(m: &[u8], reply: &[u8]) -> Result<(), StopReason>
 
 // The store that stands in the request buffer goes out: its page's digest is staged, and the change waits for the
 // status as `call` says.
-pub fn send_store(m: &mut [u8], call: u64, page: usize, request: &[u8]) -> outcomes::Outcome
+pub fn send_store(m: &mut [u8], call: u64, page: usize, request: &[u8]) -> Outcome
     requires { Changing (numbers_in m.old).call × Changing call × ((numbers_in m.old).digests < new_digests) × (page ≤ file_pages)
         × IsMemory m.old × HoldsRequest request.now }
     ensures m_after { (c : Config) → c.digest ≡ sha256
@@ -75,7 +76,7 @@ pub fn send_store(m: &mut [u8], call: u64, page: usize, request: &[u8]) -> outco
 {
     let d = digest::sha256(&request[requests::STORE_FRONT..requests::STORE_LENGTH]);
     guard_state::wait_sent(m, call, page, d);
-    outcomes::Outcome::Ask(requests::STORE_LENGTH)
+    Outcome::Ask(requests::STORE_LENGTH)
 }
 
 // The file has its size and the first `count` of its new digests, the open file its cursor, and the call is done. Where
@@ -89,7 +90,7 @@ pub fn end_change(
     from: usize,
     count: usize,
     number: u64,
-) -> outcomes::Outcome
+) -> Outcome
     requires { (opened < open_rows) × IsMemory m.old }
     ensures sends { (c : Config) (q : Change) → Ended c m.old q node opened size cursor from count number
         → (b : List ℕ) → Sends c (finish_change c (digest_store c)
@@ -99,9 +100,9 @@ pub fn end_change(
     let g = Guard::load(m);
     let n = g.nodes;
     if !tables::change_file(m, n, node, size, from, count) {
-        return outcomes::Outcome::Stopped(StopReason::Status);
+        return Outcome::Stopped(StopReason::Status);
     }
     memory::set_cursor(m, opened, cursor);
     guard_state::rest(m, n, g.opens);
-    outcomes::Outcome::Done { number, length: 0 }
+    Outcome::Done { number, length: 0 }
 }

@@ -18,6 +18,7 @@ ghost use Rattle.path_calls.specs.Begun.{BeginsAs, Reaches};
 ghost use Rattle.path_calls.specs.Judged.{node_for, way_for};
 ghost use Rattle.path_calls.specs.Ways.{way_of, walked_both};
 
+use outcomes::Outcome;
 use refusals::Refusal;
 
 // Where a path leads: the places of its node and of the directory that holds it.
@@ -74,13 +75,13 @@ fn send_on_node(
     k: usize,
     path: &[u8],
     request: &mut [u8],
-) -> outcomes::Outcome
+) -> Outcome
     requires { OnNode call × (k < NODES) × (length path.now ≤ PATH_BYTES) × IsMemory m.old × HoldsRequest request.old }
     ensures { Asks m request (asked (question_on call k number)) (path_request kind number path.now) result }
 {
     guard_state::wait_on_node(m, call, k, number);
     let l = requests::write_path(request, kind, number, path);
-    outcomes::Outcome::Ask(l)
+    Outcome::Ask(l)
 }
 
 // A call on a node as it was judged: refused, or sent.
@@ -92,12 +93,12 @@ pub fn begin_on_node(
     number: u8,
     path: &[u8],
     request: &mut [u8],
-) -> outcomes::Outcome
+) -> Outcome
     requires { OnNode call × Reaches (numbered judged) path.now × IsMemory m.old × HoldsRequest request.old }
     ensures { BeginsAs m request path.now (numbered judged) call kind number result }
 {
     match judged {
         Ok(k) => send_on_node(m, call, kind, number, k, path, request),
-        Err(refusal) => outcomes::Outcome::Refused(refusal),
+        Err(refusal) => Outcome::Refused(refusal),
     }
 }

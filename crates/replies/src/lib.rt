@@ -15,6 +15,7 @@ ghost use Rattle.refusals.specs.Numbers.{reason_or_0};
 ghost use Rattle.replies.specs.Judged.{status_of, page_reason};
 
 use guard_state::Guard;
+use outcomes::Outcome;
 use refusals::{Refusal, StopReason};
 
 // A status: 1 of another length, 2 where it is not the expected one (specs/laws/JudgedLaws.antt: of which requests).
@@ -38,14 +39,14 @@ pub fn is_full(reply: &[u8]) -> bool
 }
 
 // The disk is full, and the pending call has finished nothing: it is refused, and all else is as before it.
-pub fn give_up(m: &mut [u8]) -> outcomes::Outcome
+pub fn give_up(m: &mut [u8]) -> Outcome
     requires { IsMemory m.old }
     ensures sends { (c : Config) (q : List ℕ)
         → Sends c (gave_up c (digest_store c) (state_of c m.old)) result m.new q q }
     ensures keeps_length { KeepsLength m }
 {
     guard_state::finish(m);
-    outcomes::Outcome::Refused(Refusal::NoSpace)
+    Outcome::Refused(Refusal::NoSpace)
 }
 
 // Page i of the node in place k as a reply: 1 of another length, 5 where its digest is not the kept one. No valid table

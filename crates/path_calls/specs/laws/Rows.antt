@@ -66,14 +66,14 @@ module _ (m : List ℕ) (n o k : ℕ) (h : k < n) (l : o ≤ open_rows) (id : �
   is_open_lem q =
       ap not (lt-leb (length (take o (mem_of m).opens)) (find_handle (take o (mem_of m).opens)
       (node_at (take n (mem_of m).nodes) k).id)
-          (omega (arith, count-opens m o l, found_within o _ (ap is_some (sym there) ∙ q))))
+      (omega (arith, count-opens m o l, found_within o _ (ap is_some (sym there) ∙ q))))
 
   pub not_open : is_some r ≡ false → is_open (tables_in n o (mem_of m)) (node_at (take n (mem_of m).nodes) k) ≡ false
   unfolding tables_in
   not_open q =
       ap not (le-leb (length (take o (mem_of m).opens)) (find_handle (take o (mem_of m).opens)
       (node_at (take n (mem_of m).nodes) k).id)
-          (omega (arith, count-opens m o l, found_nowhere o _ (ap is_some (sym there) ∙ q))))
+      (omega (arith, count-opens m o l, found_nowhere o _ (ap is_some (sym there) ∙ q))))
 
 -- Answers over the first n nodes: the places in them are below n.
 module _ (m : List ℕ) (n o : ℕ) (s : List ℕ) (h : 0 < n) (l : n ≤ NODES) where

@@ -10,4 +10,4 @@ pub returns : goal.returns
 returns c =
     let a = c.args in
     c.is_ok.ensures.value ∙ passes_at_0 _ ∙ ap (λ (b : ℕ). eqb b 0) c.judge_status.ensures
-        ∙ sym (full-status a.reply.now)
+    ∙ sym (full-status a.reply.now)
