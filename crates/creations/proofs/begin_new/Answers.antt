@@ -75,7 +75,7 @@ returns-in-Err c =
       λ q sha w h.
           new_refused a.path.now a.kind a.mode k q (state_of q a.m.now) _ a.m.now a.request.now
           (ap numbered (sym c.in-Err.is) ∙ c.judge_new.ensures c.load-g.result.opens a.mode
-              ∙ place_made t a.path.now a.mode k
+          ∙ place_made t a.path.now a.mode k
           ∙ ap (λ (x : Tables). place_for x a.path.now (made_by a.kind a.mode))
           (tables-loaded a.m.now _ c.load-g.ensures q)) refl,
       refl,

@@ -52,7 +52,7 @@ returns-in-Some c =
     let s = a.path.now in
     let p = c.in-Some.place in
     let h = (holds_front a.m.now a.n s (omega arith) (omega arith) _ _ _ c.in_ok-place.ensures
-        (ap Ok c.in-Some.is)).0 in
+    (ap Ok c.in-Some.is)).0 in
     let t : take (length s - p.start) (drop p.start s) ≡ drop p.start s = take_all (length s - p.start)
     (drop p.start s) (omega (arith, length-drop p.start s)) in
     c.name_own.ensures ∙ ap (name_own (take a.n (mem_of a.m.now).nodes) p.parent p.start) t

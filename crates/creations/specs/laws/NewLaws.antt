@@ -106,7 +106,7 @@ module _ (path : List ℕ) (kind number : ℕ) (new : NewKind kind) where
         passes = λ d at e. absurd (let z : ◌≡◌ {A = ℕ} 0 1 = cc in omega arith);
       })
       (λ p. call_checks t (made_by kind number p)) (λ p. new_at (parent_of t.nodes 0 p)
-          (length path - length (last_of p)))
+      (length path - length (last_of p)))
       (λ p. call_action t w (made_by kind number p)) path
       (λ p e h. record {
         refuses = λ n q. absurd (let z : ◌≡◌ {A = ℕ} 0 1 = cc in omega arith);

@@ -2,13 +2,13 @@
 use native.Mathlib.Omega.{arith}
 use Prim.Native.Nat.{◌/◌, ◌%◌}
 use mathlib.Core.Path.{◌≡◌, sym, ap, ◌∙◌}
-use mathlib.Core.Bool.{not, true, false}
+use mathlib.Core.Bool.{not}
 use borrow.Author.Tests.{eq-eqb, ne_eqb}
 use lib.Dec.{eqb}
 use lib.ListN.{length, take}
 use Rattle.std.specs.Prelude.{Ok}
 use Rattle.memory.specs.Layout.{mem_of}
-use Rattle.filesystem.specs.Tables.{OpenFile, find_handle}
+use Rattle.filesystem.specs.Tables.{OpenFile}
 use Rattle.handle_calls.specs.Judged.{lacks_right}
 use Rattle.handle_calls.specs.laws.HandledLaws.{lacks_there, found_absent, found_lacking, found_right}
 use Rattle.tables.specs.laws.FoundLaws.{found_none, found_some}

@@ -5,7 +5,6 @@ use mathlib.Core.Path.{◌≡◌, refl, sym, ap, ◌∙◌}
 use mathlib.Core.List.{List}
 use borrow.Author.Rules.{rules}
 use lib.ListN.{length, take}
-use Rattle.std.specs.Prelude.{Some}
 use Rattle.memory.specs.Layout.{mem_of}
 use Rattle.tables.specs.Found.{found}
 use Rattle.tables.specs.laws.FoundLaws.{found_none, found_some, found_at, found_behind}

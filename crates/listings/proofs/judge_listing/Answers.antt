@@ -72,7 +72,7 @@ returns-then-seen-k-ne0 c v k o q =
     let (p, f) = there-end ID_BYTES s l.at _ c.in-Some.ensures in
     sym (listing_stops (tables_in a.n o (mem_of a.m.now)) s k a.id q (listing_twice ns a.id s l.seen
     l.at g (omega arith) f _ (found_some _ _ (c.in-Some-entry_place.ensures.place v)).0
-        (omega (arith, c.in-Some-entry_place.ensures.within)) c.if-seen-k-ne0.true v))
+    (omega (arith, c.in-Some-entry_place.ensures.within)) c.if-seen-k-ne0.true v))
 
 pub loop-at-smaller : goal.loop-at-smaller
 loop-at-smaller c =

@@ -22,7 +22,7 @@ returns-then-is_none c =
     let n = c.map_count-n.ensures in (
       λ q sha w held.
           let h = found_nowhere _ _ (ap is_some (sym c.find.ensures.place) ∙ c.is_none.ensures
-              ∙ ap not c.if-is_none.true) in
+          ∙ ap not c.if-is_none.true) in
           let e = ap (λ (l : List Map). find_map l a.address) (maps_loaded q a.m.now _ n) in
           unmap_refused q (state_of q a.m.now) a.address a.m.now a.request.now
           (omega (arith, n, e, maps_count q a.m.now)) refl,
@@ -35,7 +35,7 @@ returns c =
     let n = c.map_count-n.ensures in (
       λ q sha w held.
           let h = found_within _ _ (ap is_some (sym c.find.ensures.place) ∙ c.is_none.ensures
-              ∙ ap not c.if-is_none.false) in
+          ∙ ap not c.if-is_none.false) in
           let e = ap (λ (l : List Map). find_map l a.address) (maps_loaded q a.m.now _ n) in
           unmap_sends q (state_of q a.m.now) a.address _ _ a.request.now _ c.write_unmap.ensures.1
           (omega (arith, n, e, maps_count q a.m.now)) (c.wait_unmap.ensures.0 q) c.write_unmap.ensures.0

@@ -1,5 +1,5 @@
 -- `maps::find` meets its contract. Assumes nothing.
-use Rattle.std.proofs.Common.{rules, true, false, ◌≡◌, ◌≢◌, ℕ, length, get_or, arith}
+use Rattle.std.proofs.Common.{rules, ◌≡◌, ◌≢◌, length, arith}
 use Rattle.std.proofs.lemmas.Iterator.{first_from_Range}
 use borrow.Author.Tests.{tests, eq-eqb, ne_eqb}
 use Rattle.filesystem.specs.MemoryMaps.{no_map, map_at}
@@ -17,7 +17,7 @@ returns-clause-place c =
     let l : length (mem_of a.m.now).maps ≡ _ = length_maps a.m.now in
     found_by no_map (starts_at a.address) ns a.n 0 (omega arith) (λ k h. absurd (omega arith)) _
     (λ k. (map_at ns k).address ≡ a.address) (λ k. (map_at ns k).address ≢ a.address) (λ k. eq-eqb _ _)
-        (λ k. ne_eqb _ _)
+    (λ k. ne_eqb _ _)
     (first_from_Range _ _ _ _ (λ k. (map_at ns k).address ≡ a.address) (λ k. (map_at ns k).address ≢ a.address)
     c.find.ensures.ran (λ x q k. search (rules, tests)) (λ x q k. search (rules, tests)))
 

@@ -54,7 +54,7 @@ returns c k rights n =
     let a = c.args in
     let e : length (take a.o (mem_of a.m.now).opens) ≡ a.o = count-opens a.m.now a.o (omega arith) in
     let h = found_nowhere _ _ (ap is_some (sym c.find_descriptor.ensures) ∙ sym c.is_some.ensures
-        ∙ c.if-is_some.false) in
+    ∙ c.if-is_some.false) in
     sym (descriptor_new (tables_in n a.o (mem_of a.m.now)) a.reply.now k rights
     (to_z w32 (of_z w32 c.i32_at-d.result))
     (to_z-of_z {w = w32} (search rules) ∙ c.i32_at-d.ensures) (omega arith)

@@ -2,7 +2,6 @@
 use mathlib.Core.Path.{ap, sym, ◌∙◌}
 use Rattle.std.specs.Prelude.{Err}
 use Rattle.std.specs.Result.{result_and}
-use Rattle.paths.specs.PathForms.{form_of, worse}
 use Rattle.paths.specs.laws.FormAnswers.{worse_on, worse_first, worse_too_long}
 use Rattle.paths.specs.declared.PathFault.TheVariants.{TooLong}
 use Rattle.paths.proofs.forms.Goals as goal

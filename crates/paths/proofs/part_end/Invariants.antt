@@ -1,5 +1,5 @@
 -- `paths::part_end` meets its contract. The invariant: the search from `at` is the search from i. Assumes nothing.
-use Prim.Native.Nat.{◌+◌, ◌≤◌, ◌-◌}
+use Prim.Native.Nat.{◌+◌, ◌≤◌}
 use mathlib.Core.Path.{◌≡◌}
 use lib.ListN.{length, drop}
 use Rattle.lists.specs.Search.{place}

@@ -39,20 +39,20 @@ pub slice_bounds-last_step-count : goal.slice_bounds-last_step-count
 slice_bounds-last_step-count c =
     let a = c.args in
     (holds a.m.now a.path.now a.n _ (ap Ok (sym c.in-Some.is) ∙ c.in_ok-place.ensures) (omega arith)
-        (omega arith)).start_within
+    (omega arith)).start_within
 
 pub slice_bounds-last_step-start : goal.slice_bounds-last_step-start
 slice_bounds-last_step-start c =
     let a = c.args in
     let h = (holds a.m.now a.path.now a.n _ (ap Ok (sym c.in-Some.is) ∙ c.in_ok-place.ensures) (omega arith)
-        (omega arith)).start_within in
+    (omega arith)).start_within in
     search rules
 
 pub last_step-requires : goal.last_step-requires
 last_step-requires c =
     let a = c.args in
     let h = (holds a.m.now a.path.now a.n _ (ap Ok (sym c.in-Some.is) ∙ c.in_ok-place.ensures) (omega arith)
-        (omega arith)).place-within in
+    (omega arith)).place-within in
     let k = count-nodes a.m.now a.n (omega arith) in
     (omega arith, omega arith, omega arith)
 

@@ -16,7 +16,7 @@ use Rattle.filesystem.specs.PathLaws.{joined-split}
 use Rattle.paths.specs.Parts.{is_end}
 use Rattle.paths.specs.laws.PartsLaws.{or_comm, or_assoc, end-other, end_none, before-end, end-passes, part-slash}
 use Rattle.paths.specs.laws.PartsLaws.{part-last}
-use Rattle.paths.specs.declared.PathFault.TheVariants.{Malformed, TooLong}
+use Rattle.paths.specs.declared.PathFault.TheVariants.{Malformed}
 use Rattle.paths.specs.PathForms.{form_of, is_long, is_name, length_form, parts_form, path_form}
 
 -- A name by its first bytes.

@@ -1,6 +1,6 @@
 -- `renames::begin_rename` meets its contract. Assumes nothing.
 use native.Mathlib.Omega.{arith}
-use mathlib.Core.Path.{refl, ap, sym, ◌∙◌}
+use mathlib.Core.Path.{refl, ap, ◌∙◌}
 use Prim.Native.Nat.{ℕ}
 use lib.ListN.{drop}
 use Rattle.std.specs.Prelude.{Ok}
@@ -76,7 +76,7 @@ returns-in-Ok-None c =
       λ q sha w h. rename_same a.first.now a.second.now q (state_of q a.m.now) _
           (judged-here q a.m.now _ c.node_count-n.ensures h _ a.first.now a.second.now
           c.judge_rename.ensures.by_index) _ a.request.now _ (ap numbered c.in-Ok-None.is
-              ∙ ap Ok c.in-Ok-None.field-0-is)
+          ∙ ap Ok c.in-Ok-None.field-0-is)
           (c.finish_same.ensures.0.0 q) c.finish_same.ensures.1,
       omega arith,
     )

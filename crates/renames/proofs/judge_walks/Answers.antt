@@ -1,7 +1,7 @@
 -- `renames::judge_walks` meets its contract. Assumes nothing.
 use native.Mathlib.Omega.{arith}
 use Prim.Native.Nat.{ℕ}
-use mathlib.Core.Path.{ap, ◌≡◌, sym, ◌∙◌}
+use mathlib.Core.Path.{◌≡◌, sym, ◌∙◌}
 use lib.ListN.{length, take}
 use Rattle.memory.specs.Layout.{mem_of}
 use Rattle.tables.specs.laws.RowsInUse.{count-nodes}

@@ -40,7 +40,7 @@ use Rattle.refusals.specs.Numbers.{Judged, number_of}
 use Rattle.refusals.specs.declared.Refusal.{Refusal}
 use Rattle.renames.specs.laws.NameLaws.{node_in, parent_in, start_in}
 use Rattle.renames.specs.declared.Move.{Move}
-use Rattle.std.specs.Prelude.{Option as Maybe, Some, None, Ok, Err}
+use Rattle.std.specs.Prelude.{Option as Maybe, None, Ok, Err}
 
 -- two answers by the same checks
 module _ {A B : Type 0} (F : A → B → Type 0) (a : ℕ → A) (b : ℕ → B) (stop : (n : ℕ) → F (a n) (b n)) where

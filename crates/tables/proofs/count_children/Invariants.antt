@@ -1,6 +1,6 @@
 -- `tables::count_children` meets its contract. The loop's invariant: the count is that so far and the count in what
 -- remains. Assumes nothing.
-use Prim.Native.Nat.{◌+◌, ◌-◌, ◌≤◌}
+use Prim.Native.Nat.{◌+◌, ◌≤◌}
 use mathlib.Core.Path.{◌≡◌}
 use lib.ListN.{length, take, drop}
 use Rattle.lists.specs.Search.{select}

@@ -1,5 +1,5 @@
 -- `tables::find_descriptor` meets its contract. Assumes nothing.
-use Rattle.std.proofs.Common.{rules, true, false, ◌≡◌, ◌≢◌, ℕ, length, get_or, arith}
+use Rattle.std.proofs.Common.{rules, ◌≡◌, ◌≢◌, length, arith}
 use Rattle.std.proofs.lemmas.Iterator.{first_from_Range}
 use borrow.Author.Tests.{tests, eq-eqb, ne_eqb}
 use Rattle.filesystem.specs.Tables.{find_descriptor, has_descriptor, no_open_file, open_at}
@@ -16,7 +16,7 @@ returns c =
     let l : length (mem_of a.m.now).opens ≡ _ = length-opens a.m.now in
     found_by no_open_file (has_descriptor a.descriptor) ns a.o 0 (omega arith) (λ k h. absurd (omega arith)) _
     (λ k. (open_at ns k).descriptor ≡ a.descriptor) (λ k. (open_at ns k).descriptor ≢ a.descriptor) (λ k. eq-eqb _ _)
-        (λ k. ne_eqb _ _)
+    (λ k. ne_eqb _ _)
     (first_from_Range _ _ _ _ (λ k. (open_at ns k).descriptor ≡ a.descriptor)
-        (λ k. (open_at ns k).descriptor ≢ a.descriptor)
+    (λ k. (open_at ns k).descriptor ≢ a.descriptor)
     c.find.ensures.ran (λ x q k. search (rules, tests)) (λ x q k. search (rules, tests)))

@@ -1,5 +1,5 @@
 -- `tables::find_handle` meets its contract. Assumes nothing.
-use Rattle.std.proofs.Common.{rules, true, false, ◌≡◌, ◌≢◌, ℕ, length, get_or, arith}
+use Rattle.std.proofs.Common.{rules, ◌≡◌, ◌≢◌, length, arith}
 use Rattle.std.proofs.lemmas.Iterator.{first_from_Range}
 use borrow.Author.Tests.{tests, eq-eqb, ne_eqb}
 use Rattle.filesystem.specs.Tables.{find_handle, has_handle, no_open_file, open_at}

@@ -1,5 +1,5 @@
 -- `tables::find_id` meets its contract. Assumes nothing.
-use Rattle.std.proofs.Common.{rules, true, false, ◌≡◌, ◌≢◌, ℕ, length, get_or, arith}
+use Rattle.std.proofs.Common.{rules, ◌≡◌, ◌≢◌, length, arith}
 use Rattle.std.proofs.lemmas.Iterator.{first_from_Range}
 use borrow.Author.Tests.{tests, eq-eqb, ne_eqb}
 use Rattle.filesystem.specs.Tables.{find_id, has_id, no_node, node_at}

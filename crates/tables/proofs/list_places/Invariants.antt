@@ -1,5 +1,5 @@
 -- `tables::list_places` is safe and ends. The loop's invariant: the place is within the nodes. Assumes nothing.
-use Prim.Native.Nat.{◌-◌, ◌≤◌}
+use Prim.Native.Nat.{◌≤◌}
 use Rattle.tables.proofs.list_places.Given as goal
 
 abbrev pub invariant-loop-k : goal.invariant-loop-k

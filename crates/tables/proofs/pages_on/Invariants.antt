@@ -1,5 +1,5 @@
 -- `tables::pages_on` meets its contract. The loop's invariant: t is the total of the nodes passed. Assumes nothing.
-use Prim.Native.Nat.{◌-◌, ◌*◌, ◌≤◌}
+use Prim.Native.Nat.{◌*◌, ◌≤◌}
 use mathlib.Core.Path.{◌≡◌}
 use lib.ListN.{take}
 use Rattle.filesystem.specs.Tables.{page_total}

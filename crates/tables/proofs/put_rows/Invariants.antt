@@ -1,5 +1,5 @@
 -- `tables::put_rows` meets its contract. The loop's invariant: i of the rows are written. Assumes nothing.
-use Prim.Native.Nat.{◌-◌, ◌≤◌}
+use Prim.Native.Nat.{◌≤◌}
 use mathlib.Core.Path.{◌≡◌}
 use lib.ListN.{length, replicate}
 use Rattle.lists.specs.Parts.{overwrite}

@@ -1,13 +1,13 @@
 -- What a search found, read by its answer; and the answer of a search that goes over the rows from a place on.
 -- Assumes nothing.
-use Rattle.std.specs.Prelude.{◌≡◌, Bool, true, false, ℕ, zero, suc, ◌+◌, ◌<◌, ◌≤◌, ltb, Option, Some, None, is_some}
-use Rattle.std.specs.Prelude.{unwrap_or, List, [], ◌∷◌, length, get_or, take, MatchOption, IfSome}
+use Rattle.std.specs.Prelude.{◌≡◌, Bool, true, false, ℕ, ◌<◌, ◌≤◌, ltb, Option, Some, None, is_some}
+use Rattle.std.specs.Prelude.{unwrap_or, List, length, get_or, take, MatchOption, IfSome}
 use Rattle.std.proofs.Math.Path.{refl, ap, sym}
 use Rattle.std.proofs.Common.{◌∙◌, ltb-true, ltb-false, lt-ltb, le-ltb, length-take-le, get_or-take, true≢false, inl}
 use Rattle.std.proofs.Common.{inr}
 use Rattle.std.proofs.lemmas.Bool.{cases_lt}
 use native.Mathlib.Omega.{arith}
-use Rattle.lists.specs.Pick.{pick, pick_ind, pick_true, pick-false}
+use Rattle.lists.specs.Pick.{pick_ind, pick_true, pick-false}
 use Rattle.lists.specs.Search.{place, place-passes, place-first}
 use Rattle.tables.specs.Found.{found}
 
@@ -69,7 +69,7 @@ module _ {A : Type 0} (z : A) (f : A → Bool) (xs : List A) (n start : ℕ) (fi
       let holds : p < m → f (get_or xs p z) ≡ true = λ h. ap f (sym (get_or-take n xs p z (omega arith)))
       ∙ place-passes f (take n xs) z (rw size (omega arith)) in
       let fails : p < m → f (get_or xs p z) ≡ false = λ h. elim
-          (cases_lt p start) [ inl b ↦ before p b | inr b ↦ g p b h ] in
+      (cases_lt p start) [ inl b ↦ before p b | inr b ↦ g p b h ] in
       let not_below : p < m → ⊥ = λ h. true≢false (sym (holds h) ∙ fails h) in
       omega (arith, not_below)
 

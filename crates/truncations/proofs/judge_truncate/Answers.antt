@@ -1,8 +1,7 @@
 -- `truncations::judge_truncate` meets its contract. Assumes nothing.
 use native.Mathlib.Omega.{arith}
 use Rattle.std.proofs.lemmas.Result.{MatchResult-from_err}
-use Prim.Native.Nat.{ℕ}
-use mathlib.Core.Path.{refl, sym, ◌∙◌}
+use mathlib.Core.Path.{refl}
 use Rattle.memory.specs.Layout.{mem_of}
 use Rattle.tables.specs.View.{tables_in}
 use Rattle.handle_calls.specs.laws.HandledLaws.{judged_bad, with_err, with_ok, judged_refused, judged_open, has-place}
