@@ -1,7 +1,7 @@
 -- `moves::parent_place` meets its contract. Assumes nothing.
 use native.Mathlib.Omega.{arith}
 use Prim.Native.Nat.{ℕ, ◌<◌}
-use mathlib.Core.Path.{◌≡◌, refl, sym, subst, ap, ◌∙◌}
+use mathlib.Core.Path.{refl, sym, subst, ap, ◌∙◌}
 use lib.ListN.{take}
 use Rattle.std.specs.Prelude.{Option, Some, None, unwrap_or, IfSome}
 use Rattle.filesystem.specs.Tables.{node_at}

@@ -2,7 +2,7 @@
 -- the memory holds, these lead to places of nodes. Assumes nothing.
 use mathlib.Core.Bool.{true}
 use mathlib.Core.Path.{◌≡◌}
-use Prim.Native.Nat.{ℕ, ◌-◌, ◌<◌}
+use Prim.Native.Nat.{ℕ, ◌<◌}
 use lib.ListN.{take}
 use Rattle.filesystem.specs.Image.{sound_nodes}
 use Rattle.filesystem.specs.Tables.{node_at}

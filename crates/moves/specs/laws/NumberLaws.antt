@@ -1,11 +1,10 @@
 -- The numbers of a move, test by test.
 -- Assumes nothing.
-use Rattle.std.specs.Prelude.{◌≡◌, refl, Bool, not, ◌||◌, ℕ, ◌/◌, ◌%◌, ◌<◌, eqb, take}
+use Rattle.std.specs.Prelude.{◌≡◌, Bool, not, ◌||◌, ℕ, ◌/◌, ◌%◌, ◌<◌, eqb, take}
 use Rattle.std.proofs.Common.{ap, ◌∙◌}
 use Rattle.std.proofs.Math.Path.{sym}
 use Rattle.std.proofs.Math.Bool.{true, false}
 use mathlib.Core.List.{List, []}
-use Rattle.lists.specs.Pick.{pick}
 use Rattle.lists.specs.Checks.{check_stops, check_passes, check_last}
 use Rattle.filesystem.specs.Tables.{Node, node_at, has_bit}
 use Rattle.filesystem.specs.Image.{beneath, too_deep}
