@@ -25,7 +25,7 @@ pub fn climb(to: &[u8], far: &[u8], n: usize, k: usize) -> Option<usize>
 {
     let mut total: usize = 0;
     let mut a = k;
-    // `total` from k to a
+    // `total` from k to a; each place says which is next, so no index is counted
     while 0 < a {
         total += far[a] as usize;
         if limits::PATH_BYTES < total {
@@ -45,7 +45,7 @@ fn shorten(to: &mut [u8], far: &mut [u8], n: usize, k: usize, total: usize)
 {
     let mut a = k;
     let mut left = total;
-    // `left` from a to place 0
+    // `left` from a to place 0; each place says which is next
     while 0 < a {
         let next = to[a] as usize;
         let step = far[a] as usize;
