@@ -48,7 +48,7 @@ fn find_id(
     ensures { Found (id_at layout.id_bytes image.now starts.now) i id result }
 {
     let mut k = ids[(id % links::BUCKETS as u64) as usize] as usize;
-    // no record of the bucket before k has it
+    // no record of the bucket before k has it; each says which is next, so no index is counted
     while 0 < k {
         if image_records::record_id(image, layout, starts[k] as usize) == id {
             return Some(k);
@@ -121,7 +121,7 @@ fn is_own_name(
 {
     let at = starts[i] as usize;
     let mut k = names[b] as usize;
-    // no record of the bucket before k is a sibling with its name
+    // no record of the bucket before k is a sibling with its name; each says which is next
     while 0 < k {
         if are_siblings(image, layout, starts[k] as usize, at) {
             return false;

@@ -18,23 +18,22 @@ pub fn insert(index: &mut [u8], b: usize, i: usize)
     index[b] = i as u8;
 }
 
-// How long the way is from place k up to place 0, or some length above `PATH_BYTES` where it is longer or there is
-// none.
-pub fn climb(to: &[u8], far: &[u8], n: usize, k: usize) -> usize
+// How long the way is from place k up to place 0; none where it is longer than `PATH_BYTES`, or there is no way.
+pub fn climb(to: &[u8], far: &[u8], n: usize, k: usize) -> Option<usize>
     requires { (k < n) × Linked to.now far.now n }
     ensures { Climbs to.now far.now k result }
 {
     let mut total: usize = 0;
     let mut a = k;
-    // `total` from k to a
+    // `total` from k to a; each place says which is next, so no index is counted
     while 0 < a {
         total += far[a] as usize;
         if limits::PATH_BYTES < total {
-            return total;
+            return None;
         }
         a = to[a] as usize;
     }
-    total
+    Some(total)
 }
 
 // Each place on the way of this length from k leads straight to place 0, so that no later climb goes there again.
@@ -46,7 +45,7 @@ fn shorten(to: &mut [u8], far: &mut [u8], n: usize, k: usize, total: usize)
 {
     let mut a = k;
     let mut left = total;
-    // `left` from a to place 0
+    // `left` from a to place 0; each place says which is next
     while 0 < a {
         let next = to[a] as usize;
         let step = far[a] as usize;
@@ -64,10 +63,9 @@ pub fn all_climb(to: &mut [u8], far: &mut [u8], n: usize) -> bool
 {
     // the places before k do
     for k in 1..n {
-        let total = climb(to, far, n, k);
-        if limits::PATH_BYTES < total {
+        let Some(total) = climb(to, far, n, k) else {
             return false;
-        }
+        };
         shorten(to, far, n, k, total);
     }
     true

@@ -126,6 +126,7 @@ fn judge_listing(m: &[u8], n: usize, id: u64, reply: &[u8]) -> Result<(), StopRe
     let mut count = 0;
     let mut at = 0;
     let mut next = 0;
+    // the entries before `at` are right, `count` of them; where an entry ends, its bytes say
     while at < reply.len() {
         let Some(end) = entry_end(reply, at) else {
             return Err(StopReason::Listing);

@@ -77,7 +77,7 @@ fn judge_directory(
     to[k] = d as u8;
     far[k] = (name.len() + 1) as u8;
     // beneath itself it would lead back to itself, and never to the root
-    if limits::PATH_BYTES < links::climb(&to, &far, n, d) {
+    if links::climb(&to, &far, n, d).is_none() {
         return Err(Refusal::Invalid);
     }
     if is_barred(m, n, from, d) {

@@ -140,7 +140,7 @@ fn parts_form(path: &[u8]) -> Result<(), PathFault>
     let mut long = limits::PATH_BYTES < path.len();
     let mut at = 1;
     let mut end = part_end(path, 1);
-    // the parts before `at` are names; `long` says whether one was long
+    // the parts before `at` are names; `long` says whether one was long; where a part ends, its bytes say
     while end < path.len() {
         if path[end] == 0 {
             return Err(PathFault::Malformed);
@@ -255,7 +255,7 @@ pub fn walk_parent(m: &[u8], n: usize, path: &[u8]) -> Result<Option<Place>, Ref
     let mut at = 1;
     let mut end = slash_from(path, 1);
     let firsts = places_for(m, n, is_deep(path, end));
-    // d is where the components before `at` lead
+    // d is where the components before `at` lead; where a component ends, its bytes say
     while end < path.len() {
         check_search(m, n, d)?;
         let id = memory::node_id(m, d);

@@ -94,6 +94,7 @@ fn place_of(m: &[u8], places: &[u8; PLACES], id: u64) -> usize
     requires { IsMemory m.now }
 {
     let mut k = to_place(places[hash(id)]);
+    // the table says which place is next, so there is no range to go over
     while memory::node_id(m, k) != id {
         let next = to_place(places[limits::NODES + k]);
         if k <= next {

@@ -9,10 +9,8 @@ use Rattle.links.proofs.climb.Goals as goal
 pub returns-then-total-gt-PATH_BYTES : goal.returns-then-total-gt-PATH_BYTES
 returns-then-total-gt-PATH_BYTES c =
     let a = c.args in
-    let l = c.loop-a in (
-      λ h. absurd (omega arith),
-      onward-long a.to.now a.far.now a.k l.a l.total l.invariant.2 (omega arith),
-    )
+    let l = c.loop-a in
+    onward-long a.to.now a.far.now a.k l.a l.total l.invariant.2 (omega arith) (omega arith)
 
 pub loop-a-preserved : goal.loop-a-preserved
 loop-a-preserved c =
@@ -30,7 +28,7 @@ returns c =
     let l = c.loop-a in
     let z : 0 ≡ l.a = omega arith in
     let e : l.total + 0 ≡ l.total = omega arith in (
-      λ h. subst (Leads a.to.now a.far.now a.k) e (l.invariant.2.0 0
-          (subst (λ (k : ℕ). Leads a.to.now a.far.now k 0) z root)),
-      λ h. absurd (omega arith),
+      omega arith,
+      subst (Leads a.to.now a.far.now a.k) e
+          (l.invariant.2.0 0 (subst (λ (k : ℕ). Leads a.to.now a.far.now k 0) z root)),
     )

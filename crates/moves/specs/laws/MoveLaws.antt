@@ -2,6 +2,7 @@
 -- climbs among them say what the tests of the move do.
 -- Assumes nothing.
 use Rattle.std.specs.Prelude.{◌≡◌, refl, Bool, true, false, List, ℕ, suc, ◌+◌, ◌≤◌, ◌<◌, length, get_or, take, set}
+use Rattle.std.specs.Prelude.{Option, Some, None, is_some}
 use Rattle.std.proofs.Common.{ap, sym, ◌∙◌, subst, true≢false, arith, length-set, eqb-true}
 use Rattle.lists.specs.Equal.{Is, is_t, is_f, is}
 use Rattle.filesystem.specs.Tables.{NODES, PATH_BYTES, Node, is_directory, node_at, find_id, renamed}
@@ -115,26 +116,29 @@ module _ {to far : List ℕ} (n k d l : ℕ) (known : k < n) where
     way = to_way count (λ i h. refl) placed-moved
 
     -- the climb from d: it ends exactly where d is not beneath node k
-    module _ (r : ℕ) (c : Climbs (set to k d) (set far k l) d r) where
-      pub climb_within : PATH_BYTES < r → beneath ns k d ≡ true
-      climb_within h = go (is (beneath ns k d))
-        where
-          go : Is (beneath ns k d) → beneath ns k d ≡ true
-          go (is_t e) = e
-          go (is_f e) =
-              let (v, b) = s.ways d (directory_place ns d folder) in
-              let (u, f) = way_away ns k d name here v (not_beneath ns (rooted w ns s) here e) in
-              let z = c.1 h (bytes u) (lead u) in
-              absurd (omega arith)
+    pub climb_within : (r : Option ℕ) → Climbs (set to k d) (set far k l) d r → is_some r ≡ false
+        → beneath ns k d ≡ true
+    climb_within (Some b) c h = absurd (true≢false h)
+    climb_within None c h = go (is (beneath ns k d))
+      where
+        go : Is (beneath ns k d) → beneath ns k d ≡ true
+        go (is_t e) = e
+        go (is_f e) =
+            let (v, b) = s.ways d (directory_place ns d folder) in
+            let (u, f) = way_away ns k d name here v (not_beneath ns (rooted w ns s) here e) in
+            let z = c (bytes u) (lead u) in
+            absurd (omega arith)
 
-      pub climb_away : r ≤ PATH_BYTES → beneath ns k d ≡ false
-      climb_away h = go (is (beneath ns k d))
-        where
-          go : Is (beneath ns k d) → beneath ns k d ≡ false
-          go (is_t e) =
-              let (v, _) = way {i = d} (omega (arith, long, directory_place ns d folder)) (c.0 h) in
-              absurd (way_nowhere ns k d name here w s first folder e v)
-          go (is_f e) = e
+    pub climb_away : (r : Option ℕ) → Climbs (set to k d) (set far k l) d r → is_some r ≡ true
+        → beneath ns k d ≡ false
+    climb_away None c h = absurd (true≢false (sym h))
+    climb_away (Some b) c h = go (is (beneath ns k d))
+      where
+        go : Is (beneath ns k d) → beneath ns k d ≡ false
+        go (is_t e) =
+            let (v, _) = way {i = d} (omega (arith, long, directory_place ns d folder)) c.1 in
+            absurd (way_nowhere ns k d name here w s first folder e v)
+        go (is_f e) = e
 
     -- all climbs: each is short enough exactly where none is too deep
     module _ (away : beneath ns k d ≡ false) (r : Bool) (c : Reach (set to k d) (set far k l) n r) where
