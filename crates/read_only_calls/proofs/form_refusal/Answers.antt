@@ -1,10 +1,9 @@
 -- `read_only_calls::form_refusal` meets its contract. Assumes nothing.
 use mathlib.Core.Path.{◌≡◌, refl, ap, sym, ◌∙◌, subst}
-use native.Mathlib.Omega.{arith}
-use Prim.Native.Nat.{ℕ, ◌<◌}
+use Prim.Native.Nat.{ℕ}
 use Rattle.call_reader.specs.declared.ParsedCall.{ParsedCall}
 use Rattle.call_reader.specs.declared.ParsedCall.TheVariants.{ByPath, Close, Seek, Read, Write, Truncate}
-use Rattle.call_reader.specs.declared.ParsedCall.TheVariants.{Map, Unmap, Rename, Malformed}
+use Rattle.call_reader.specs.declared.ParsedCall.TheVariants.{Map, Unmap, Rename}
 use Rattle.call_reader.specs.Meaning.{meant, Ranges}
 use Rattle.read_only_calls.specs.Refusals.{takes_parsed, number_of_form, form_number}
 use Rattle.read_only_calls.specs.laws.RefusalLaws.{NoPath, other_refused, path_refused, rename_refused}
@@ -21,7 +20,6 @@ no_path (Truncate x n) h r = tt
 no_path (Map n) h r = tt
 no_path (Unmap a) h r = tt
 no_path (Rename second) h r = r second refl
-no_path Malformed h r = tt
 
 -- the ranges of a call that a match told
 ranged : (p z : ParsedCall) (size : ℕ) → Ranges p size → p ≡ z → Ranges z size
