@@ -1,6 +1,5 @@
 // A call, whatever its bytes are: read once, and handed to its family. Calls do not touch the answer buffer: what a
-// call is
-// done with at once has no bytes.
+// call is done with at once has no bytes.
 #![tactic(auto)]
 
 ghost use Rattle.memory.specs.Memories.{IsMemory};
@@ -9,6 +8,7 @@ ghost use Rattle.requests.specs.Room.{HoldsRequest};
 ghost use Rattle.path_calls.specs.Begun.{BeginsPath};
 ghost use Rattle.call_dispatch.specs.Called.{Calls};
 
+use call_reader::ParsedCall;
 use limits::kinds;
 use outcomes::Outcome;
 use refusals::Refusal;
@@ -22,8 +22,7 @@ fn begin_by_path(m: &mut [u8], kind: u8, number: u8, path: &[u8], request: &mut 
         return Outcome::Refused(Refusal::ShortBuffer);
     }
     match kind {
-        kinds::CREATE => creations::begin_new(m, kind, number, path, request),
-        kinds::MKDIR => creations::begin_new(m, kind, number, path, request),
+        kinds::CREATE | kinds::MKDIR => creations::begin_new(m, kind, number, path, request),
         kinds::OPEN => opens::begin_open(m, number, path, request),
         kinds::REMOVE => removals::begin_remove(m, path, request),
         kinds::RMDIR => removals::begin_rmdir(m, path, request),
@@ -37,40 +36,34 @@ pub fn begin_call(m: &mut [u8], call: &[u8], request: &mut [u8]) -> Outcome
     requires { IsMemory m.old × HoldsRequest request.old }
     ensures { Calls m request call.now result }
 {
-    let p = call_reader::read_call(call);
-    match p {
-        call_reader::ParsedCall::ByPath {
+    let Some(parsed) = call_reader::read_call(call) else {
+        return Outcome::Refused(Refusal::Invalid);
+    };
+    match parsed {
+        ParsedCall::ByPath {
             kind,
             number,
             start,
         } => begin_by_path(m, kind, number, &call[start..], request),
-        call_reader::ParsedCall::Close { handle } => opens::begin_close(m, handle, request),
-        call_reader::ParsedCall::Seek { handle, position } => opens::finish_seek(
-            m, handle, position,
-        ),
-        call_reader::ParsedCall::Read { handle, count } => reads::begin_read(
-            m,
-            handle,
-            count as usize,
-            request,
-        ),
-        call_reader::ParsedCall::Write { handle, start } => writes::begin_write(
+        ParsedCall::Close { handle } => opens::begin_close(m, handle, request),
+        ParsedCall::Seek { handle, position } => opens::finish_seek(m, handle, position),
+        ParsedCall::Read { handle, count } => reads::begin_read(m, handle, count as usize, request),
+        ParsedCall::Write { handle, start } => writes::begin_write(
             m,
             handle,
             &call[start..],
             request,
         ),
-        call_reader::ParsedCall::Truncate { handle, size } => truncations::begin_truncate(
+        ParsedCall::Truncate { handle, size } => truncations::begin_truncate(
             m, handle, size, request,
         ),
-        call_reader::ParsedCall::Map { size } => maps::begin_map(m, size, request),
-        call_reader::ParsedCall::Unmap { address } => maps::begin_unmap(m, address, request),
-        call_reader::ParsedCall::Rename { second } => renames::begin_rename(
+        ParsedCall::Map { size } => maps::begin_map(m, size, request),
+        ParsedCall::Unmap { address } => maps::begin_unmap(m, address, request),
+        ParsedCall::Rename { second } => renames::begin_rename(
             m,
             &call[2..second],
             &call[second..],
             request,
         ),
-        call_reader::ParsedCall::Malformed => Outcome::Refused(Refusal::Invalid),
     }
 }

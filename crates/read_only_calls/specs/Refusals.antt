@@ -13,7 +13,7 @@ use Rattle.rules.specs.Calls.{Call, read_call}
 use Rattle.rules.specs.Rules.{call_or, is_none}
 use Rattle.call_reader.specs.declared.ParsedCall.{ParsedCall}
 use Rattle.call_reader.specs.declared.ParsedCall.TheVariants.{ByPath, Close, Seek, Read, Write, Truncate}
-use Rattle.call_reader.specs.declared.ParsedCall.TheVariants.{Map, Unmap, Rename, Malformed}
+use Rattle.call_reader.specs.declared.ParsedCall.TheVariants.{Map, Unmap, Rename}
 use Rattle.call_reader.specs.Meaning.{made_by}
 use Rattle.paths.specs.declared.PathFault.{PathFault}
 use Rattle.paths.specs.declared.PathFault.TheVariants.{Malformed as BadForm, TooLong}
@@ -33,7 +33,6 @@ takes_parsed (Truncate h n) = false
 takes_parsed (Map n) = false
 takes_parsed (Unmap a) = false
 takes_parsed (Rename second) = false
-takes_parsed Malformed = true
 
 unfoldable pub number_of_form : Result (Unit {0}) PathFault → ℕ
 number_of_form (Err BadForm) = 22

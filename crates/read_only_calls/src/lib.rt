@@ -28,7 +28,7 @@ fn takes_by_path(kind: u8, number: u8) -> bool
     }
 }
 
-// What is malformed goes the guard's way, which refuses it.
+// Whether a call that was read goes the guard's way.
 fn takes(p: ParsedCall, size: usize) -> bool
     requires { Ranges p size }
     ensures { result ≡ takes_parsed p }
@@ -39,12 +39,8 @@ fn takes(p: ParsedCall, size: usize) -> bool
             number,
             start,
         } => takes_by_path(kind, number),
-        ParsedCall::Write { handle, start } => false,
-        ParsedCall::Truncate { handle, size } => false,
-        ParsedCall::Map { size } => false,
-        ParsedCall::Unmap { address } => false,
-        ParsedCall::Rename { second } => false,
-        _ => true,
+        ParsedCall::Close { .. } | ParsedCall::Seek { .. } | ParsedCall::Read { .. } => true,
+        _ => false,
     }
 }
 
@@ -103,15 +99,16 @@ fn is_taken(call: &[u8]) -> bool
     }
 }
 
+// What is malformed goes the guard's way, which refuses it.
 fn refusal_of_other(call: &[u8]) -> Option<Refusal>
     requires { 4 ≤ get_or call.now 0 0 → 6 < get_or call.now 0 0 }
     ensures { Refuses (number_or_0 result) call.now }
 {
-    let p = call_reader::read_other(call);
-    if takes(p, call.len()) {
+    let parsed = call_reader::read_other(call)?;
+    if takes(parsed, call.len()) {
         return None;
     }
-    Some(form_refusal(p, call))
+    Some(form_refusal(parsed, call))
 }
 
 // Why a call is refused once 5, 114 and 34 do not; none of one that goes the guard's way.

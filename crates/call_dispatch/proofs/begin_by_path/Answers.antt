@@ -1,6 +1,6 @@
 -- `call_dispatch::begin_by_path` meets its contract. Assumes nothing.
 use native.Mathlib.Omega.{arith}
-use mathlib.Core.Path.{refl}
+use mathlib.Core.Path.{◌≡◌, refl}
 use Rattle.guard_state.specs.State.{state_of}
 use Rattle.guard_state.specs.laws.LoadedLaws.{nodes-count}
 use Rattle.call_reader.specs.laws.KindLaws.{last_kind}
@@ -66,9 +66,9 @@ returns-in-12 c =
 pub returns-in_default : goal.returns-in_default
 returns-in_default c =
     let a = c.args in
-    let r = c.in_default.in_default-own.rest in
-    let e = last_kind a.kind a.number c.requires.0 r.0.0.0.0.0.0.1 r.0.0.0.0.0.1
-    r.0.0.0.0.1 r.0.0.0.1 r.0.0.1 r.0.1 r.1 in (
+    let e : a.kind ≡ 13 = last_kind a.kind a.number c.requires.0 (λ h. omega (arith, h)) (λ h. omega (arith, h))
+    (λ h. omega (arith, h)) (λ h. omega (arith, h)) (λ h. omega (arith, h)) (λ h. omega (arith, h))
+    (λ h. omega (arith, h)) in (
       λ q sha w h. stat_made q (state_of q a.m.now) a.path.now _ _ a.request.now _ a.number e
           (c.begin_stat.ensures.0 q sha w h),
       omega arith,

@@ -1,6 +1,6 @@
 -- What a call's bytes were read as is what the machine makes of them; and what a consistent state has for every call.
 -- Assumes nothing.
-use Rattle.std.specs.Prelude.{◌≡◌, ℕ, ◌-◌, ◌<◌, ◌≤◌, eqb, length, take, drop}
+use Rattle.std.specs.Prelude.{◌≡◌, ℕ, ◌-◌, ◌<◌, ◌≤◌, eqb, length, take, drop, None}
 use Rattle.std.proofs.Math.Path.{refl, ap, sym, subst}
 use Rattle.std.proofs.Common.{◌∙◌, arith, length-drop}
 use mathlib.Core.List.{List, [], ◌++◌}
@@ -15,9 +15,9 @@ use Rattle.rules.specs.Rules.{refuse, call_checks, map_checks, call_action, call
 use Rattle.machine.specs.Machine.{State, Result, guard as digest_store, apply}
 use Rattle.machine.specs.Consistent.{Consistent}
 use Rattle.call_reader.specs.declared.ParsedCall.{ParsedCall}
-use Rattle.call_reader.specs.declared.ParsedCall.TheVariants.{ByPath, Write, Rename, Malformed}
+use Rattle.call_reader.specs.declared.ParsedCall.TheVariants.{ByPath, Write, Rename}
 use Rattle.call_reader.specs.laws.RestLaws.{rest}
-use Rattle.call_reader.specs.Meaning.{made_by, meant}
+use Rattle.call_reader.specs.Meaning.{made_by, meant, meant_of}
 use Rattle.path_calls.specs.Begun.{begun}
 use Rattle.renames.specs.Judged.{judged_both}
 use Rattle.renames.specs.Begun.{rename_begun}
@@ -164,12 +164,15 @@ module _ (c : Config) (wide : c.width ≡ ID_BYTES) (s : State (digest_store c))
       ∙ sym (read_as_lem ∙ ap (λ (z : ParsedCall). called c s (meant z b)) e
       ∙ called-rename c s (take (k - 2) (drop 2 b)) (drop k b)))
 
-  pub none_as : p ≡ Malformed → (m x : List ℕ) → state_of c m ≡ s → Sends c (called_with c s b) (Refused Invalid) m x x
-  unfolding meant
-  none_as e m x g =
-      subst (λ (y : Result (digest_store c)). Sends c y (Refused Invalid) m x x)
-      (sym (read_as_lem ∙ ap (λ (z : ParsedCall). called c s (meant z b)) e ∙ called_none c s))
-      (refusal_sends c s (refuse 22) Invalid m x refl g)
+-- no call
+pub none_as : (c : Config) → c.width ≡ ID_BYTES → (s : State (digest_store c)) (b : List ℕ)
+    → meant_of None b ≡ read_call ID_BYTES b → (m x : List ℕ) → state_of c m ≡ s
+    → Sends c (called_with c s b) (Refused Invalid) m x x
+unfolding meant_of called_with
+none_as c wide s b known m x g =
+    subst (λ (y : Result (digest_store c)). Sends c y (Refused Invalid) m x x)
+    (sym (ap (λ (w : ℕ). called c s (read_call w b)) wide ∙ ap (called c s) (sym known) ∙ called_none c s))
+    (refusal_sends c s (refuse 22) Invalid m x refl g)
 
 -- there is a root
 pub some_node : (c : Config) (s : State (digest_store c)) → Consistent c s → 0 < length s.skeleton.tables.nodes

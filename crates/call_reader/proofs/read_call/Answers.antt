@@ -6,12 +6,12 @@ use Rattle.lists.specs.Pick.{pick}
 use Rattle.lists.specs.EqualLaws.{bytes_of}
 use Rattle.filesystem.specs.Tables.{ID_BYTES}
 use Rattle.rules.specs.Calls.{read_fields}
-use Rattle.call_reader.specs.Meaning.{meant}
+use Rattle.call_reader.specs.Meaning.{meant, meant_of}
 use Rattle.call_reader.specs.laws.FieldLaws.{kind_missing, kind_read, kind_none, of_kind}
 use Rattle.call_reader.proofs.read_call.Goals as goal
 
 pub returns-then-s-eq0 : goal.returns-then-s-eq0
-unfolding meant
+unfolding meant_of meant
 returns-then-s-eq0 c = (kind_missing ID_BYTES c.args.s.now c.if-s-eq0.true, tt)
 
 pub read_by_handle-requires : goal.read_by_handle-requires
@@ -60,13 +60,13 @@ returns-in-14-to-15 c =
     (c.read_on_maps.ensures.0 ∙ kind_read ID_BYTES s (omega arith), c.read_on_maps.ensures.1)
 
 pub returns-in_default : goal.returns-in_default
-unfolding meant
+unfolding meant_of meant
 returns-in_default c =
     let s = c.args.s.now in
     (kind_none ID_BYTES (get_or s 0 0) (drop 1 s) (λ h. omega arith) ∙ kind_read ID_BYTES s (omega arith), tt)
 
 pub returns-in_default-2 : goal.returns-in_default-2
-unfolding meant
+unfolding meant_of meant
 returns-in_default-2 c =
     let s = c.args.s.now in
     (kind_none ID_BYTES (get_or s 0 0) (drop 1 s) (λ h. omega arith) ∙ kind_read ID_BYTES s (omega arith), tt)

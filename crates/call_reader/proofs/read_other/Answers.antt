@@ -6,12 +6,12 @@ use Rattle.lists.specs.Pick.{pick}
 use Rattle.lists.specs.EqualLaws.{bytes_of}
 use Rattle.filesystem.specs.Tables.{ID_BYTES}
 use Rattle.rules.specs.Calls.{read_fields}
-use Rattle.call_reader.specs.Meaning.{meant}
+use Rattle.call_reader.specs.Meaning.{meant, meant_of}
 use Rattle.call_reader.specs.laws.FieldLaws.{kind_missing, kind_read, kind_none, of_kind}
 use Rattle.call_reader.proofs.read_other.Goals as goal
 
 pub returns-then-s-eq0 : goal.returns-then-s-eq0
-unfolding meant
+unfolding meant_of meant
 returns-then-s-eq0 c = (kind_missing ID_BYTES c.args.s.now c.if-s-eq0.true, tt)
 
 pub read_write-requires : goal.read_write-requires
@@ -76,13 +76,13 @@ returns-in-14-to-15 c =
 
 -- what is left has no such kind
 pub returns-in_default : goal.returns-in_default
-unfolding meant
+unfolding meant_of meant
 returns-in_default c =
     let s = c.args.s.now in
     (kind_none ID_BYTES (get_or s 0 0) (drop 1 s) (λ h. omega arith) ∙ kind_read ID_BYTES s (omega arith), tt)
 
 pub returns-in_default-3 : goal.returns-in_default-3
-unfolding meant
+unfolding meant_of meant
 returns-in_default-3 c =
     let s = c.args.s.now in
     (kind_none ID_BYTES (get_or s 0 0) (drop 1 s) (λ h. omega arith) ∙ kind_read ID_BYTES s (omega arith), tt)

@@ -4,35 +4,31 @@ use lib.Dec.{leb}
 use borrow.Author.Tests.{le-leb, lt-leb}
 use Rattle.filesystem.specs.Tables.{ID_BYTES, DATA_BYTES}
 use Rattle.rules.specs.Calls.{read}
-use Rattle.call_reader.specs.Meaning.{meant}
-use Rattle.call_reader.specs.laws.FieldLaws.{number_below, pair_wrong, pair_allowed, pair_refused}
+use Rattle.call_reader.specs.Meaning.{meant, meant_of}
+use Rattle.call_reader.specs.laws.FieldLaws.{pair_wrong, pair_allowed, pair_refused}
+use Rattle.call_reader.specs.laws.ReadLaws.{nothing_read}
 use Rattle.call_reader.proofs.read_read.Goals as goal
 
-pub returns-then-s : goal.returns-then-s
-unfolding meant
-returns-then-s c =
-    let a = c.args in
-    let p = c.requires in
-    (pair_wrong ID_BYTES a.s.now p.0 4 (λ n. leb n DATA_BYTES) read p.1 c.if-s.true, tt)
+pub returns-in_err-handle : goal.returns-in_err-handle
+returns-in_err-handle c =
+    let s = c.args.s.now in
+    nothing_read c.from_residual.result s c.from_residual.ensures
+    (pair_wrong ID_BYTES s c.requires.0 4 (λ n. leb n DATA_BYTES) read c.requires.1 c.in_err-handle.ensures)
 
 pub returns-then-count-gt-DATA_BYTES : goal.returns-then-count-gt-DATA_BYTES
-unfolding meant
+unfolding meant_of
 returns-then-count-gt-DATA_BYTES c =
-    let a = c.args in
-    let p = c.requires in (
-      pair_refused ID_BYTES a.s.now p.0 4 (λ n. leb n DATA_BYTES) read _ _
-          c.number_at-handle.ensures c.u32_at-count.ensures c.if-s.false
-          (lt-leb c.u32_at-count.result DATA_BYTES (omega arith)),
+    let h = c.in_ok-handle.ensures in (
+      pair_refused ID_BYTES c.args.s.now c.requires.0 4 (λ n. leb n DATA_BYTES) read _ _ h.1
+          c.u32_at-count.ensures h.0 (lt-leb c.u32_at-count.result DATA_BYTES (omega arith)),
       tt,
     )
 
 pub returns : goal.returns
-unfolding meant
+unfolding meant_of meant
 returns c =
-    let a = c.args in
-    let p = c.requires in (
-      pair_allowed ID_BYTES a.s.now p.0 4 (λ n. leb n DATA_BYTES) read _ _
-          c.number_at-handle.ensures c.u32_at-count.ensures c.if-s.false
-          (le-leb c.u32_at-count.result DATA_BYTES (omega arith)),
-      (number_below ID_BYTES 1 a.s.now _ p.1 (omega arith) c.number_at-handle.ensures, omega arith),
+    let h = c.in_ok-handle.ensures in (
+      pair_allowed ID_BYTES c.args.s.now c.requires.0 4 (λ n. leb n DATA_BYTES) read _ _ h.1
+          c.u32_at-count.ensures h.0 (le-leb c.u32_at-count.result DATA_BYTES (omega arith)),
+      (h.2, omega arith),
     )

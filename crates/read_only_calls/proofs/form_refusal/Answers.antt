@@ -1,17 +1,17 @@
 -- `read_only_calls::form_refusal` meets its contract. Assumes nothing.
-use mathlib.Core.Path.{◌≡◌, refl, ap, sym, ◌∙◌, subst}
-use native.Mathlib.Omega.{arith}
-use Prim.Native.Nat.{ℕ, ◌<◌}
+use mathlib.Core.Path.{◌≡◌, refl, ap, sym, ◌∙◌}
+use Prim.Native.Nat.{ℕ}
 use Rattle.call_reader.specs.declared.ParsedCall.{ParsedCall}
 use Rattle.call_reader.specs.declared.ParsedCall.TheVariants.{ByPath, Close, Seek, Read, Write, Truncate}
-use Rattle.call_reader.specs.declared.ParsedCall.TheVariants.{Map, Unmap, Rename, Malformed}
-use Rattle.call_reader.specs.Meaning.{meant, Ranges}
+use Rattle.call_reader.specs.declared.ParsedCall.TheVariants.{Map, Unmap, Rename}
+use Rattle.call_reader.specs.Meaning.{meant}
 use Rattle.read_only_calls.specs.Refusals.{takes_parsed, number_of_form, form_number}
 use Rattle.read_only_calls.specs.laws.RefusalLaws.{NoPath, other_refused, path_refused, rename_refused}
 use Rattle.read_only_calls.proofs.form_refusal.Goals as goal
 
 -- a call with no path
-no_path : (p : ParsedCall) → ((k n start : ℕ) → p ≡ ByPath k n start → ⊥) → ((second : ℕ) → p ≡ Rename second → ⊥) → NoPath p
+no_path : (p : ParsedCall) → ((k n start : ℕ) → p ≡ ByPath k n start → ⊥) → ((second : ℕ) → p ≡ Rename second → ⊥)
+    → NoPath p
 no_path (ByPath k n start) h r = h k n start refl
 no_path (Close x) h r = tt
 no_path (Seek x n) h r = tt
@@ -21,11 +21,6 @@ no_path (Truncate x n) h r = tt
 no_path (Map n) h r = tt
 no_path (Unmap a) h r = tt
 no_path (Rename second) h r = r second refl
-no_path Malformed h r = tt
-
--- the ranges of a call that a match told
-ranged : (p z : ParsedCall) (size : ℕ) → Ranges p size → p ≡ z → Ranges z size
-ranged p z size r e = subst (λ (z : ParsedCall). Ranges z size) e r
 
 pub returns-in-ByPath : goal.returns-in-ByPath
 unfolding takes_parsed

@@ -1,6 +1,6 @@
 -- What a call that was read means for a read-only guard.
 -- Assumes nothing.
-use Rattle.std.specs.Prelude.{◌≡◌, Bool, ◌&&◌, List, [], ◌∷◌, ◌++◌, eqb, leb, length, get_or, take, drop, Result, Ok}
+use Rattle.std.specs.Prelude.{◌≡◌, Bool, ◌&&◌, List, [], ◌∷◌, ◌++◌, eqb, leb, length, get_or, take, drop}
 use Rattle.std.specs.Prelude.{Err}
 use Rattle.std.proofs.Math.Path.{refl, ap, sym}
 use Rattle.std.proofs.Common.{◌∙◌, subst, true≢false, arith, eqb-true}
@@ -19,16 +19,15 @@ use Rattle.rules.specs.Calls.{rename, read, by_number_and_path, by_handle, by_ha
 use Rattle.rules.specs.Rules.{call_or, is_none}
 use Rattle.call_reader.specs.declared.ParsedCall.{ParsedCall}
 use Rattle.call_reader.specs.declared.ParsedCall.TheVariants.{ByPath, Close, Seek, Read, Write, Truncate}
-use Rattle.call_reader.specs.declared.ParsedCall.TheVariants.{Map, Unmap, Rename, Malformed}
+use Rattle.call_reader.specs.declared.ParsedCall.TheVariants.{Map, Unmap, Rename}
 use Rattle.call_reader.specs.Meaning.{made_by, meant, NumberFits}
 use Rattle.call_reader.specs.laws.FieldLaws.{kind_read}
 use Rattle.call_reader.specs.laws.KindLaws.{last_kind}
 use Rattle.call_reader.specs.laws.RestLaws.{rest}
-use Rattle.paths.specs.declared.PathFault.{PathFault}
-use Rattle.paths.specs.declared.PathFault.TheVariants.{Malformed as BadForm, TooLong}
+use Rattle.paths.specs.declared.PathFault.TheVariants.{Malformed as BadForm}
 use Rattle.paths.specs.PathForms.{length_form, path_form, form_of, worse, forms_of}
 use Rattle.read_only.specs.ReadOnly.{takes_call, length_checks}
-use Rattle.read_only_calls.specs.Refusals.{takes_by_path, takes_parsed, number_of_form, form_number, Taken}
+use Rattle.read_only_calls.specs.Refusals.{takes_by_path, takes_parsed, number_of_form, form_number, Taken, Refuses}
 
 -- what holds of each call by path holds of the one that is made
 made_ind : (F : Call → Type 0) (k n : ℕ) (p : Path) → F (create n p) → F (mkdir n p) → F (open_as n p) → F (remove p)
@@ -143,7 +142,14 @@ parsed_taken (Truncate x n) s h = absurd (false≢true h)
 parsed_taken (Map n) s h = absurd (false≢true h)
 parsed_taken (Unmap a) s h = absurd (false≢true h)
 parsed_taken (Rename second) s h = absurd (false≢true h)
-parsed_taken Malformed s h = refl
+
+-- what is no call goes the guard's way
+pub nothing_refused : (s : List ℕ) → none ≡ read_call ID_BYTES s → Refuses 0 s
+unfolding takes_call call_or
+nothing_refused s e = record {
+  taken = λ _. ap (λ o. takes_call (call_or o)) (sym e);
+  number = λ h. absurd (h refl);
+}
 
 -- any other that has no path is refused 30
 abbrev pub NoPath : ParsedCall → Type 0
@@ -156,7 +162,6 @@ NoPath (Truncate x n) = Unit {0}
 NoPath (Map n) = Unit {0}
 NoPath (Unmap a) = Unit {0}
 NoPath (Rename second) = ⊥
-NoPath Malformed = Unit {0}
 
 pub other_refused : (p : ParsedCall) (s : List ℕ) → takes_parsed p ≡ false → NoPath p → 30 ≡ form_number (meant p s)
 unfolding takes_parsed form_number meant takes_call length_checks call_or is_none decide pick
@@ -169,7 +174,6 @@ other_refused (Truncate a n) s h x = refl
 other_refused (Map n) s h x = refl
 other_refused (Unmap a) s h x = refl
 other_refused (Rename second) s h x = absurd x
-other_refused Malformed s h x = absurd (true≢false h)
 
 -- A call whose kind is taken is taken, or no call.
 bound_taken : {A : Type 0} (o : Option A) (f : A → Option Call) → ((x : A) → takes_call (call_or (f x)) ≡ true)
