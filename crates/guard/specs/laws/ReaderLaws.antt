@@ -69,7 +69,7 @@ module _ (s : GuardState) (b : List ℕ) (a q : ℕ) where
 -- what a refusal is promised as
 refused_enters : (s : GuardState) (e : Event) (r : Refusal) (b : Buffers)
     → reader_step_of s e ≡ refusal delivered (digest_store delivered) s (number_of r)
-        → ReaderEnters s e (Refused r) s b b
+    → ReaderEnters s e (Refused r) s b b
 unfolding answer_in length_of bytes_in buffers_after
 refused_enters s e r b q = subst (λ (x : GuardResult). EntersAs (ReaderReady s e) x (Refused r) s b b) (sym q) (record {
   steps = λ _. record { state = refl; answer = refl; count = refl };
