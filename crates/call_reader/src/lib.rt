@@ -102,7 +102,7 @@ fn read_seek(s: &[u8]) -> Option<ParsedCall>
     Some(ParsedCall::Seek { handle, position })
 }
 
-// truncate: a handle, then the size.
+// truncate: a handle, then the size. As seek but for what it makes of them, which is what is promised.
 fn read_truncate(s: &[u8]) -> Option<ParsedCall>
     requires { (0 < length s.now) × Bytes s.now }
     ensures { (meant_of result s.now ≡ by_handle_and_number ID_BYTES 8 (λ n. true) truncate

@@ -64,7 +64,13 @@ fn find(m: &[u8], n: usize, address: u64) -> Option<usize>
     ensures place { result ≡ found n (find_map (take n (was m.now).maps) address) }
     ensures within { IfSome result (λ k. k < n) }
 {
-    (0..n).find(|i| memory::map_address(m, *i) == address)
+    // none before i does
+    for i in 0..n {
+        if memory::map_address(m, i) == address {
+            return Some(i);
+        }
+    }
+    None
 }
 
 // ---- a reply
