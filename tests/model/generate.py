@@ -582,7 +582,7 @@ class RenamingGenerator(Generator):
             first = self.pick(b"/", self.child_path(), self.path(STAT))
         length = None
         if self.chance(0.03):
-            length = self.pick(0, 1, len(first) - 1, len(first) + 1, 255)
+            length = self.pick(0, 1, *(min(len(first) + n, 255) for n in (-1, 1)), 255)
         return calls.rename(first[:255], self.second_path(node, first), length)
 
     def second_path(self, node, first):

@@ -57,7 +57,7 @@ pub fn accept_chmod(m: &mut [u8], reply: &[u8]) -> Outcome
 }
 
 // stat: it waits for the host's own. What it shares with chmod is `judge_reach` and `begin_on_node`; one function for
-// both would ask which call, kind and number belong together.
+// both would need a premise that says which call, kind and number belong together.
 pub fn begin_stat(m: &mut [u8], path: &[u8], request: &mut [u8]) -> Outcome
     requires { HasRoot m.old × IsMemory m.old × HoldsRequest request.old }
     ensures { BeginsPath m request path.now stat result }

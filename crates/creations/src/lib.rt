@@ -103,7 +103,8 @@ pub fn begin_new(m: &mut [u8], kind: u8, mode: u8, path: &[u8], request: &mut [u
 fn judge_id(m: &[u8], n: usize, reply: &[u8]) -> Result<(), StopReason>
     requires { (n ≤ NODES) × IsMemory m.now }
     ensures { (parent kind mode : ℕ) (name : List ℕ) (o : ℕ)
-        → reason_or_0 result ≡ reason_for (tables_in n o (was m.now)) reply.now (asked (creating parent kind mode name)) }
+        → reason_or_0 result ≡ reason_for (tables_in n o (was m.now)) reply.now
+        (asked (creating parent kind mode name)) }
 {
     if reply.len() != Guard::ID_BYTES {
         return Err(StopReason::Length);

@@ -68,8 +68,8 @@ pub fn answer_lines(memory: &mut [u8], text: &[u8], out: &mut [u8]) -> Answered
 {
     let mut at = 0;
     let mut filled = 0;
-    // the lines before `at` are answered, in the first `filled` bytes of out; how far a turn comes is known by a line's
-    // end and an answer's alone, so neither index counts turns
+    // the lines before `at` are answered, in the first `filled` bytes of out; how far a turn comes is known only from
+    // where a line and its answer end, so no index is counted
     while desk_lines::LINE_WRITTEN <= out.len() - filled {
         let end = text::line::end(text, at);
         if end == text.len() {

@@ -22,6 +22,7 @@ fn answer_all(rt: &impl Print, memory: &mut [u8], text: &[u8]) -> usize
 {
     let mut out = [0u8; 65536];
     let mut rest = text;
+    // how far a turn comes is what answer_lines says, so no index is counted
     while !rest.is_empty() {
         let answered = desk::answer_lines(memory, rest, &mut out);
         if answered.at == 0 {
@@ -75,7 +76,7 @@ fn main(rt: HostRuntime) {
     guard::on_fresh(&mut memory);
     let mut text = [0u8; TEXT];
     let mut kept = 0;
-    // nothing says that the input ends, so the turns have an end that no run comes to
+    // nothing says that the input ends, so the turns are counted, up to a number that no input comes to
     for _ in 0..u64::MAX {
         let Some(n) = turn(&rt, &mut input, &mut memory, &mut text, kept) else {
             return;

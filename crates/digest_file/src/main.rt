@@ -77,7 +77,7 @@ fn run<R: Read>(rt: &impl Print, errors: &impl Print, input: &mut R, name: &[u8]
     let mut buffer = [0u8; 65536];
     let mut state = digest::initial();
     let mut total: usize = 0;
-    // nothing says that the input ends, so the turns have an end that no run comes to
+    // nothing says that the input ends, so the turns are counted, up to a number that no input comes to
     for _ in 0..u64::MAX {
         let n = match fill(input, &mut buffer) {
             Ok(n) => n,

@@ -129,8 +129,8 @@ fn take_save(m: &mut [u8], image: &mut [u8], digest: &mut [u8]) -> Outcome
     saves::save(m, image, digest)
 }
 
-// A load: 5, 114, then 16, 74, 84, or the image's tables. It shares the first numbers with a save; buffers and promise are
-// others.
+// A load: 5, 114, then 16, 74, 84, or the image's tables. Only the first numbers are shared with a save: its buffers
+// and its promise are different.
 fn take_load(m: &mut [u8], image: &[u8], digest: &[u8]) -> Outcome
     requires { IsMemory m.old }
     ensures steps { Steps (held m.old) (load current image.now digest.now) result
@@ -143,8 +143,8 @@ fn take_load(m: &mut [u8], image: &[u8], digest: &[u8]) -> Outcome
     saves::load(m, image, digest)
 }
 
-// ---- entries: a memory that is too short holds no guard. Each hands the front of it on; a closure in the place of what
-// it is handed to would have to carry each entry's own promise.
+// ---- entries: a memory that is too short holds no guard. Each hands on the front of it. One function for all, which
+// took the rest as a closure, would have to carry each entry's own promise.
 
 pub fn on_call(memory: &mut [u8], bytes: &[u8], answer: &mut [u8], request: &mut [u8]) -> Outcome
     ensures { Called memory bytes.now answer request result }

@@ -21,7 +21,7 @@ pub struct Handled {
     pub node: usize,
 }
 
-// The place of the open file with this handle, where it has this right: 9.
+// The place of the open file with this handle, if it has this right; else 9.
 pub fn find_with_right(m: &[u8], o: usize, handle: u64, right: u8) -> Result<usize, Refusal>
     requires { (0 < right) × (o ≤ open_rows) × IsMemory m.now }
     ensures { numbered result ≡ found_with (opens_of o m.now) handle right }

@@ -111,7 +111,7 @@ fn refusal_of_other(call: &[u8]) -> Option<Refusal>
     Some(form_refusal(parsed, call))
 }
 
-// Why a call is refused once 5, 114 and 34 do not; none of one that goes the guard's way.
+// Why a call is refused, where 5, 114 and 34 do not apply; none for one that goes the guard's way.
 pub fn refusal(call: &[u8]) -> Option<Refusal>
     ensures { Refuses (number_or_0 result) call.now }
 {

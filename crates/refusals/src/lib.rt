@@ -1,10 +1,10 @@
-// Why a call is refused, and why the guard stops: each with its number (SPECIFICATION 6.4, 7.3).
+// Why a call is refused, and why the guard stops: each with its number (SPECIFICATION 7.1, 5.10).
 #![tactic(auto)]
 
 ghost use Rattle.std.specs.Prelude.{◌≡◌};
 ghost use Rattle.refusals.specs.Numbers.{number_of, reason_number};
 
-// The number is that of POSIX's name for it.
+// The numbers are Linux's (SPECIFICATION 1.6).
 #[derive(Clone, Copy, PartialEq, Eq)]
 pub enum Refusal {
     NotFound = 2,

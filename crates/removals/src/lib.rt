@@ -94,7 +94,8 @@ fn judge_rmdir(m: &[u8], n: usize, path: &[u8]) -> Result<usize, Refusal>
     rmdir_own(m, n, way.node, way.parent)
 }
 
-// rmdir: the same, and so does readdir: each names what judges it and its constants, and promises another call.
+// rmdir: the same, and readdir is begun so too: each names what judges it and its constants, and promises another
+// call.
 pub fn begin_rmdir(m: &mut [u8], path: &[u8], request: &mut [u8]) -> Outcome
     requires { HasRoot m.old × IsMemory m.old × HoldsRequest request.old }
     ensures { BeginsPath m request path.now rmdir result }

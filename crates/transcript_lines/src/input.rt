@@ -6,7 +6,7 @@ use std::io::Read;
 // The most of a line that is kept: one that is longer is cut.
 const LINE: usize = 131200;
 
-// More than that.
+// The buffer's length: more than the longest line that is kept.
 const TEXT: usize = 262144;
 
 // The next line begins at `next`, and the buffer is filled up to `filled`.
@@ -40,6 +40,7 @@ impl<R: Read> Lines<R> {
 
     // The next line, none at the end of the input. What no line feed ends is no line.
     pub fn next_line(&mut self) -> Option<&[u8]> {
+        // nothing bounds the reads that a line takes, so they are counted up to a number that none comes to
         for _ in 0..u64::MAX {
             let from = self.next;
             let end = text::line::end(&self.buffer[..self.filled], from);

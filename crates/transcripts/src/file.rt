@@ -13,7 +13,7 @@ use transcript_lines::input::Lines;
 fn replay<R: Read + Drop>(rt: &impl Print, input: R) -> Counts {
     let mut session = Session::new();
     let mut lines = Lines::new(input);
-    // nothing says that the input ends, so the lines have an end that no run comes to
+    // nothing says that the input ends, so the turns are counted, up to a number that no input comes to
     for _ in 0..u64::MAX {
         let Some(line) = lines.next_line() else {
             break;
