@@ -4,6 +4,6 @@
 #![tactic(auto)]
 
 fn main(rt: HostRuntime) {
-    transcripts::file::run(&rt, "damaged");
-    transcripts::file::run(&rt, "transcripts");
+    transcripts::file::run(&rt, b"damaged");
+    transcripts::file::run(&rt, b"transcripts");
 }

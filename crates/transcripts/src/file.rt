@@ -23,19 +23,24 @@ fn replay<R: Read + Drop>(rt: &impl Print, input: R) -> Counts {
     session.counts
 }
 
-// A file's lists; one that cannot be opened has none.
-fn replay_file(rt: &(impl Files + Print), path: &str) -> Counts {
-    match File::open(rt, path) {
+// A file's lists; one that cannot be opened has none, nor have bytes that are no text.
+fn replay_file(rt: &(impl Files + Print), path: &[u8]) -> Counts {
+    let Ok(name) = std::str::from_utf8(path) else {
+        return Counts::default();
+    };
+    match File::open(rt, name) {
         Ok(file) => replay(rt, file),
         Err(_) => Counts::default(),
     }
 }
 
 // Every list of a file: what was counted, which is said too.
-pub fn run(rt: &(impl Files + Print), path: &str) -> Counts
+pub fn run(rt: &(impl Files + Print), path: &[u8]) -> Counts
     ensures { result.different ≤ result.answers }
 {
     let counts = replay_file(rt, path);
-    let _ = println!(rt; "{counts} in {path}");
+    let _ = print!(rt; "{counts} in ");
+    let _ = rt.write_all(path);
+    let _ = rt.write_all(b"\n");
     counts
 }

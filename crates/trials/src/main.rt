@@ -2,5 +2,5 @@
 #![tactic(auto)]
 
 fn main(rt: HostRuntime) {
-    transcripts::file::run(&rt, "trials");
+    transcripts::file::run(&rt, b"trials");
 }
