@@ -189,13 +189,22 @@ pub fn first_places(m: &[u8], n: usize) -> [u8; limits::NODES]
     firsts
 }
 
-// The place of the node with this parent and this name, where no node before `start` has the parent.
-fn find_child_from(m: &[u8], nodes: usize, parent: u64, name: &[u8], start: usize) -> Option<usize>
+// The place of the node with this parent and this name, or `nodes`, where no node before `start` has the parent. A
+// number, since as an option it costs two instructions more for each node that is looked at.
+fn find_child_from(m: &[u8], nodes: usize, parent: u64, name: &[u8], start: usize) -> usize
     requires { (start ≤ nodes) × (nodes ≤ NODES) × IsMemory m.now }
-    ensures { Others (was m.now).nodes parent 0 start
-        → result ≡ found nodes (find_child (nodes_of nodes m.now) parent name.now) }
+    ensures { Others (was m.now).nodes parent 0 start → result ≡ find_child (nodes_of nodes m.now) parent name.now }
 {
-    (start..nodes).find(|i| memory::is_child(m, *i, parent, name))
+    (start..nodes)
+        .find(|i| memory::is_child(m, *i, parent, name))
+        .unwrap_or(nodes)
+}
+
+// A place below n; none from n on.
+fn place_below(n: usize, place: usize) -> Option<usize>
+    ensures { result ≡ found n place }
+{
+    if place < n { Some(place) } else { None }
 }
 
 // The same, whatever stands where.
@@ -203,7 +212,8 @@ pub fn find_child(m: &[u8], nodes: usize, parent: u64, name: &[u8]) -> Option<us
     requires { (nodes ≤ NODES) × IsMemory m.now }
     ensures { result ≡ found nodes (find_child (nodes_of nodes m.now) parent name.now) }
 {
-    find_child_from(m, nodes, parent, name, first_child(m, nodes, parent))
+    let start = first_child(m, nodes, parent);
+    place_below(nodes, find_child_from(m, nodes, parent, name, start))
 }
 
 // The same by first_places, for a walk of many steps. A place 0 says nothing.
@@ -221,7 +231,8 @@ pub fn find_child_by(
     if first == 0 {
         return find_child(m, nodes, parent, name);
     }
-    find_child_from(m, nodes, parent, name, first.min(nodes))
+    let start = first.min(nodes);
+    place_below(nodes, find_child_from(m, nodes, parent, name, start))
 }
 
 // How many nodes have this parent.
