@@ -22,7 +22,7 @@ pub fn read(text: &[u8]) -> Option<usize>
 }
 
 // Writes the digits of n to the end of `out`, and answers where they begin; what stands before them is kept.
-#[tactic(auto, using(crate::proofs::Written::none_behind, crate::proofs::Written::digits_are, crate::proofs::Written::digits_fit, std::proofs::lemmas::Grind::common_steps))]
+#[tactic(auto, using(crate::proofs::Written::written))]
 pub fn write(n: u64, out: &mut [u8]) -> usize
     requires { 20 ≤ length out.old }
     ensures { (result + length (decimal_of n) ≡ length out.old)
