@@ -19,7 +19,7 @@ pub encode_8 : (x : ℕ) → to_le_bytes w64 x ≡ encode 8 x
 unfolding encode
 encode_8 x = simp div-div-eq-div-mul
 
-sum_of_four : (at : ℕ) (l : List ℕ)
+pub sum_of_four : (at : ℕ) (l : List ℕ)
     → decode (part at 4 l) ≡ get_or l at 0 + 256 * get_or l (at + 1) 0 + 65536 * get_or l (at + 2) 0
     + 16777216 * get_or l (at + 3) 0
 sum_of_four at l =
@@ -38,9 +38,6 @@ module _ (bs : List ℕ) where
   whole : (n : ℕ) → length bs ≡ n → part 0 n bs ≡ bs
   unfolding part
   whole n l = take_all n bs (omega arith)
-
-  pub decode_4 : length bs ≡ 4 → from_le_bytes w32 bs ≡ decode bs
-  decode_4 l = omega (arith, ap decode (whole 4 l), sum_of_four 0 bs)
 
   pub decode_8 : length bs ≡ 8 → from_le_bytes w64 bs ≡ decode bs
   decode_8 l = omega (arith, ap decode (whole 8 l), decode-split 4 4 0 bs, sum_of_four 0 bs, sum_of_four 4 bs)

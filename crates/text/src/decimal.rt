@@ -22,6 +22,7 @@ pub fn read(text: &[u8]) -> Option<usize>
 }
 
 // Writes the digits of n to the end of `out`, and answers where they begin; what stands before them is kept.
+#[tactic(auto, using(crate::proofs::Written::written))]
 pub fn write(n: u64, out: &mut [u8]) -> usize
     requires { 20 ≤ length out.old }
     ensures { (result + length (decimal_of n) ≡ length out.old)
