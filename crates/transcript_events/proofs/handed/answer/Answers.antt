@@ -13,4 +13,5 @@ returns-in-Ok c =
 pub returns-in-Err : goal.returns-in-Err
 returns-in-Err c =
     let d = c.decode.ensures in
-    digits_refused _ _ _ _ _ (length-replicate {A = ℕ} 65552 0) d.answer d.left _ _ _ _ _ _ c.in-Err.is c.set_bad.ensures
+    digits_refused _ _ _ _ _ (length-replicate {A = ℕ} 65552 0) d.answer d.left _ _ _ _ _ _ c.in-Err.is
+    c.set_bad.ensures
