@@ -1,6 +1,8 @@
 // Events handed to a guard in hexadecimal digits: what comes back is the line of the answer, in deskrun's words.
 #![tactic(auto)]
 
+ghost use Rattle.transcript_events.specs.Handed.{MadeFresh};
+
 pub mod handed;
 pub mod images;
 
@@ -28,7 +30,9 @@ pub const ANSWER_ROOM: usize = 2 * guard::ANSWER_LENGTH;
 pub const REQUEST_ROOM: usize = 2 * guard::REQUEST_LENGTH;
 
 // A fresh guard, and the least lengths.
-pub fn fresh(memory: &mut [u8]) -> Lengths {
+pub fn fresh(memory: &mut [u8]) -> Lengths
+    ensures { MadeFresh memory.old result memory.new }
+{
     guard::on_fresh(memory);
     Lengths {
         answer: guard::ANSWER_LENGTH,

@@ -1,1 +1,5 @@
+pub mod Counted
+pub mod Fields
 pub mod Room
+pub mod Said
+pub mod laws

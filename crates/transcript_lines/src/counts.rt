@@ -1,5 +1,6 @@
 // What is counted.
-ghost use Rattle.std.specs.Prelude.{◌≤◌};
+ghost use Rattle.std.specs.Prelude.{◌≡◌, ◌≤◌};
+ghost use Rattle.transcript_lines.specs.Counted.{one_more, one_more_unless};
 
 use std::fmt;
 
@@ -34,11 +35,17 @@ impl fmt::Display for Counts {
 }
 
 impl Counts {
-    pub fn add_list(&mut self) {
+    pub fn add_list(&mut self)
+        ensures { (self.new.lists ≡ one_more self.old.lists) × (self.new.answers ≡ self.old.answers)
+            × (self.new.different ≡ self.old.different) }
+    {
         self.lists = self.lists.saturating_add(1);
     }
 
-    pub fn add_answer(&mut self, is_same: bool) {
+    pub fn add_answer(&mut self, is_same: bool)
+        ensures { (self.new.lists ≡ self.old.lists) × (self.new.answers ≡ one_more self.old.answers)
+            × (self.new.different ≡ one_more_unless is_same self.old.different) }
+    {
         self.answers = self.answers.saturating_add(1);
         if !is_same {
             self.different = self.different.saturating_add(1);

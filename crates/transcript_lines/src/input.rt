@@ -1,5 +1,7 @@
 // The lines of an input of any length, one after the other, through one buffer.
-ghost use Rattle.std.specs.Prelude.{◌≤◌};
+ghost use Rattle.std.specs.Prelude.{◌≡◌, true, not, ◌≤◌, length, IfSome};
+ghost use Rattle.lists.specs.Search.{every};
+ghost use Rattle.text.specs.Line.{is_newline};
 
 use std::io::Read;
 
@@ -20,7 +22,9 @@ pub struct Lines<R> {
 }
 
 impl<R: Read> Lines<R> {
-    pub fn new(input: R) -> Lines<R> {
+    pub fn new(input: R) -> Lines<R>
+        ensures { (result.next ≡ 0) × (result.filled ≡ 0) }
+    {
         Lines {
             input,
             buffer: [0; TEXT],
@@ -39,7 +43,10 @@ impl<R: Read> Lines<R> {
     }
 
     // The next line, none at the end of the input. What no line feed ends is no line.
-    pub fn next_line(&mut self) -> Option<&[u8]> {
+    pub fn next_line(&mut self) -> Option<&[u8]>
+        ensures { IfSome result (λ line. (every (λ b. not (is_newline b)) line.now ≡ true)
+            × (length line.now ≤ 262144)) }
+    {
         // nothing bounds the reads that a line takes, so they are counted up to a number that none comes to
         for _ in 0..u64::MAX {
             let from = self.next;

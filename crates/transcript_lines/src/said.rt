@@ -1,4 +1,6 @@
 // What is printed: differences, and answers that are shown.
+ghost use Rattle.std.specs.Prelude.{◌≡◌, ◌↔◌, IsTrue};
+
 fn say(rt: &impl Print, text: &[u8]) {
     let _ = rt.write_all(text);
 }
@@ -12,7 +14,9 @@ fn say_difference(rt: &impl Print, stored: &[u8], answer: &[u8]) {
 }
 
 // An answer that is stored, and the one that came: whether they are the same.
-pub fn judge(rt: &impl Print, stored: &[u8], answer: &[u8]) -> bool {
+pub fn judge(rt: &impl Print, stored: &[u8], answer: &[u8]) -> bool
+    ensures { IsTrue result ↔ (stored.now ≡ answer.now) }
+{
     let is_same = stored == answer;
     if !is_same {
         say_difference(rt, stored, answer);
