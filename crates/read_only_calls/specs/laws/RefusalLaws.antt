@@ -1,7 +1,7 @@
 -- What a call that was read means for a read-only guard.
 -- Assumes nothing.
 use Rattle.std.specs.Prelude.{◌≡◌, Bool, ◌&&◌, List, [], ◌∷◌, ◌++◌, eqb, leb, length, get_or, take, drop}
-use Rattle.std.specs.Prelude.{Err}
+use Rattle.std.specs.Prelude.{Result, Ok, Err}
 use Rattle.std.proofs.Math.Path.{refl, ap, sym}
 use Rattle.std.proofs.Common.{◌∙◌, subst, true≢false, arith, eqb-true}
 use Rattle.std.proofs.Math.Bool.{true, false, not}
@@ -24,7 +24,8 @@ use Rattle.call_reader.specs.Meaning.{made_by, meant, NumberFits}
 use Rattle.call_reader.specs.laws.FieldLaws.{kind_read}
 use Rattle.call_reader.specs.laws.KindLaws.{last_kind}
 use Rattle.call_reader.specs.laws.RestLaws.{rest}
-use Rattle.paths.specs.declared.PathFault.TheVariants.{Malformed as BadForm}
+use Rattle.paths.specs.declared.PathFault.{PathFault}
+use Rattle.paths.specs.declared.PathFault.TheVariants.{Malformed as BadForm, TooLong}
 use Rattle.paths.specs.PathForms.{length_form, path_form, form_of, worse, forms_of}
 use Rattle.read_only.specs.ReadOnly.{takes_call, length_checks}
 use Rattle.read_only_calls.specs.Refusals.{takes_by_path, takes_parsed, number_of_form, form_number, Taken, Refuses}
@@ -174,6 +175,13 @@ other_refused (Truncate a n) s h x = refl
 other_refused (Map n) s h x = refl
 other_refused (Unmap a) s h x = refl
 other_refused (Rename second) s h x = absurd x
+
+-- no number is 0
+pub form_positive : (form : Result (Unit {0}) PathFault) → 0 < number_of_form form
+unfolding number_of_form
+form_positive (Err BadForm) = omega arith
+form_positive (Err TooLong) = omega arith
+form_positive (Ok tt) = omega arith
 
 -- A call whose kind is taken is taken, or no call.
 bound_taken : {A : Type 0} (o : Option A) (f : A → Option Call) → ((x : A) → takes_call (call_or (f x)) ≡ true)
