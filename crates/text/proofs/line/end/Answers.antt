@@ -1,32 +1,31 @@
--- `text::line::end` meets its contract. The invariant: the search from `from` is the search from i. Assumes nothing.
-use native.Mathlib.Omega.{arith}
-use borrow.Author.Tests.{eq-eqb, ne_eqb}
+-- `text::line::end` meets its contract.
+-- Assumes nothing.
+use Rattle.std.proofs.Common.{◌-◌, length, drop, sym, ap, ◌∙◌, arith, take_all, length-drop}
+use Rattle.std.specs.List.{position}
+use Rattle.lists.specs.Search.{place_most}
 use Rattle.text.specs.Line.{is_newline}
-use Rattle.lists.specs.Scans.{scan-here, scan_on, scan-end}
+use Rattle.text.specs.laws.PlaceLaws.{place_found, place_missed}
 use Rattle.text.proofs.line.end.Goals as goal
 
-pub returns-then-text-i-eq10 : goal.returns-then-text-i-eq10
-returns-then-text-i-eq10 c =
+pub returns-in-Some : goal.returns-in-Some
+returns-in-Some c =
     let s = c.args.text.now in
-    let l = c.loop-i in
-    record {
-      found = scan-here is_newline 0 _ s l.i l.invariant.2 (omega arith) (eq-eqb _ _ c.if-text-i-eq10.true);
-      after = omega arith;
-      inside = omega arith;
-    }
+    let from = c.args.from in
+    let l = length-drop from s in
+    let all = take_all (length s - from) (drop from s) (omega arith) in
+    let p = place_found is_newline (drop from s) c.in-Some.n
+    (ap (position is_newline) (sym all) ∙ sym c.newline_in.ensures ∙ c.in-Some.is) in
+    let e = p.0 in
+    let h = p.1 in
+    record { found = omega arith; after = omega arith; inside = omega arith }
 
-pub loop-i-preserved : goal.loop-i-preserved
-loop-i-preserved c =
+pub returns-in-None : goal.returns-in-None
+returns-in-None c =
     let s = c.args.text.now in
-    let l = c.loop-i in
-    (omega arith, omega arith, scan_on is_newline 0 _ s l.i l.invariant.2 (omega arith) (ne_eqb _ _ c.if-text-i-eq10.false))
-
-pub returns : goal.returns
-returns c =
-    let s = c.args.text.now in
-    let l = c.loop-i in
-    record {
-      found = omega (arith, scan-end is_newline 0 _ s l.i l.invariant.2 (omega arith));
-      after = omega arith;
-      inside = omega arith;
-    }
+    let from = c.args.from in
+    let l = length-drop from s in
+    let all = take_all (length s - from) (drop from s) (omega arith) in
+    let h = place_missed is_newline (drop from s)
+    (ap (position is_newline) (sym all) ∙ sym c.newline_in.ensures ∙ c.in-None.is) in
+    let m = place_most is_newline (drop from s) in
+    record { found = omega arith; after = omega arith; inside = omega arith }
